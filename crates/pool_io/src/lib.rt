@@ -1,0 +1,2 @@
+//! The outside.
+#![tactic(auto)]

@@ -1,0 +1,2 @@
+//! Stratum V2 frames. It never looks into a payload.
+#![tactic(auto)]
