@@ -1,5 +1,5 @@
 -- Frames (Stratum V2, "Framing").
-use Rattle.std.specs.Prelude.{ℕ, List, ◌++◌, length}
+use Rattle.std.specs.Prelude.{◌≡◌, ℕ, ◌<◌, ◌^◌, List, ◌++◌, length}
 use Rattle.sv2_types.specs.Spelling.{spelled_u8, spelled_u16, spelled_u24}
 
 -- the six header bytes: extension type, message type, length of the payload
@@ -9,3 +9,15 @@ header_of ext kind len = spelled_u16 ext ++ spelled_u8 kind ++ spelled_u24 len
 -- the whole frame: its header, then its payload
 abbrev pub frame_of : ℕ → ℕ → List ℕ → List ℕ
 frame_of ext kind payload = header_of ext kind (length payload) ++ payload
+
+-- a frame can have these fields
+pub record FrameFits (ext kind : ℕ) (payload : List ℕ) : Type 0 where
+  pub ext_fits : ext < 2 ^ 16
+  pub kind_fits : kind < 2 ^ 8
+  pub length_fits : length payload < 2 ^ 24
+
+-- bytes that begin with two frames begin with one and the same
+abbrev pub NoFrameBeginsAnother : Type 0
+NoFrameBeginsAnother =
+    (e k e' k' : ℕ) (p p' x y : List ℕ) → FrameFits e k p → FrameFits e' k' p'
+    → frame_of e k p ++ x ≡ frame_of e' k' p' ++ y → (e ≡ e') × (k ≡ k') × (p ≡ p') × (x ≡ y)
