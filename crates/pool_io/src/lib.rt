@@ -1,2 +1,19 @@
-//! The outside.
+//! The outside as traits (sources, sinks, hosts), and forms of them in memory. Nothing here touches a real
+//! file, stream or socket.
 #![tactic(auto)]
+
+mod host;
+mod memory;
+mod shelf;
+mod sink;
+mod source;
+mod turn;
+
+pub use host::{Host, HostError};
+pub use memory::host::{MemHost, Script};
+pub use memory::sink::{MemSink, SureSink};
+pub use memory::source::{MemSource, SureSource};
+pub use shelf::Shelf;
+pub use sink::{Sink, SinkFailed};
+pub use source::{Source, Took};
+pub use turn::{Piece, Turn};

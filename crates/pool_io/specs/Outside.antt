@@ -1,0 +1,47 @@
+-- What one call does to what a source or a sink tells.
+use Rattle.std.specs.Prelude.{ℕ, ◌≡◌, ◌<◌, ◌≤◌, List, [], ◌∷◌, ◌++◌, length, take, drop, Option, Some, IfSome}
+use Rattle.pool_io.specs.declared.turn.Turn.{Turn}
+use Rattle.pool_io.specs.declared.turn.Turn.TheVariants as turn
+use Rattle.pool_io.specs.declared.source.Took.{Took}
+use Rattle.pool_io.specs.declared.source.Took.TheVariants.{Bytes, End, Idle, Failed}
+
+-- a count of bytes that was taken is from 1 to the room
+abbrev pub IsWithin : Took → ℕ → Type 0
+IsWithin (Bytes n) room = (0 < n) × (n ≤ room)
+IsWithin _ room = Unit {0}
+
+-- the rest of a piece, if there is any, and then the later turns
+abbrev pub rest_of : List ℕ → List Turn → List Turn
+rest_of [] turns = turns
+rest_of (byte ∷ bytes) turns = turn.Piece (byte ∷ bytes) ∷ turns
+
+-- nothing comes any more
+abbrev pub IsEnded : List Turn → Type 0
+IsEnded [] = Unit {0}
+IsEnded (turn.End ∷ turns) = Unit {0}
+IsEnded (turn.Piece bytes ∷ turns) = ⊥
+IsEnded (turn.Idle ∷ turns) = ⊥
+
+-- the first n bytes of the piece that comes next were taken into the buffer
+pub record TakesBytes (old new : List Turn) (n : ℕ) (buffer : List ℕ) : Type 0 where
+  pub piece : List ℕ
+  pub later : List Turn
+  pub next : old ≡ turn.Piece piece ∷ later
+  pub enough : n ≤ length piece
+  pub taken : take n buffer ≡ take n piece
+  pub rest : new ≡ rest_of (drop n piece) later
+
+-- one answer of a source takes the old turns to the new ones; after End comes End, and a failure takes nothing
+abbrev pub TakesFrom : List Turn → List Turn → Took → List ℕ → Type 0
+TakesFrom old new (Bytes n) buffer = TakesBytes old new n buffer
+TakesFrom old new Idle buffer = old ≡ turn.Idle ∷ new
+TakesFrom old new End buffer = IsEnded old × (new ≡ old)
+TakesFrom old new Failed buffer = new ≡ old
+
+-- the same of what a source tells, where it tells
+abbrev pub Takes : Option (List Turn) → Option (List Turn) → Took → List ℕ → Type 0
+Takes old new took buffer = IfSome old (λ turns. (left : List Turn) × (new ≡ Some left) × TakesFrom turns left took buffer)
+
+-- a sink that tells what it holds holds these bytes more
+abbrev pub Adds : Option (List ℕ) → Option (List ℕ) → List ℕ → Type 0
+Adds old new bytes = IfSome old (λ held. new ≡ Some (held ++ bytes))

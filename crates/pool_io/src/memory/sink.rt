@@ -1,0 +1,100 @@
+// Sinks in memory.
+ghost use Rattle.std.specs.Prelude.{◌≡◌};
+
+use crate::{Sink, SinkFailed};
+use std::marker::Model;
+
+/// Holds what was put. It never fails but for want of memory.
+#[derive(Drop)]
+pub struct SureSink {
+    bytes: Vec<u8>,
+}
+
+impl Model for SureSink {
+    ghost use Rattle.std.specs.Prelude.{ℕ, List};
+
+    ghost Value = { List ℕ };
+
+    ghost view = { λ s. s.bytes.items };
+}
+
+impl SureSink {
+    /// A sink that holds these bytes already.
+    pub fn of(bytes: Vec<u8>) -> SureSink
+        ensures { result ≡ bytes.items }
+    {
+        SureSink { bytes }
+    }
+
+    pub fn bytes(&self) -> &[u8]
+        ensures { result.now ≡ self.now }
+    {
+        &self.bytes
+    }
+}
+
+impl Sink for SureSink {
+    ghost use Rattle.std.specs.Prelude.{Some};
+
+    ghost faults = { λ _. 0 };
+
+    ghost held = { λ s. Some s };
+
+    fn put(&mut self, piece: &[u8]) -> Result<usize, SinkFailed> {
+        match self.bytes.extend_from_slice(piece) {
+            Ok(()) => Ok(piece.len()),
+            Err(_) => Err(SinkFailed::Memory),
+        }
+    }
+}
+
+/// Holds what was put, and fails at the calls whose numbers are listed, the first call being number 0.
+#[derive(Drop)]
+pub struct MemSink {
+    sink: SureSink,
+    calls: u64,
+    failing: Vec<u64>,
+    faults: u64,
+}
+
+impl MemSink {
+    ghost use Rattle.pool_io.specs.Memory.{sink_bytes, sink_faults};
+
+    /// A sink that holds these bytes already.
+    pub fn new(bytes: Vec<u8>, failing: Vec<u64>) -> MemSink
+        ensures bytes { sink_bytes result ≡ bytes.items }
+        ensures fresh { sink_faults result ≡ 0 }
+    {
+        MemSink {
+            sink: SureSink::of(bytes),
+            calls: 0,
+            failing,
+            faults: 0,
+        }
+    }
+
+    pub fn bytes(&self) -> &[u8]
+        ensures { result.now ≡ sink_bytes self.now }
+    {
+        self.sink.bytes()
+    }
+}
+
+impl Sink for MemSink {
+    ghost use Rattle.std.specs.Prelude.{Some};
+    ghost use Rattle.pool_io.specs.Memory.{sink_bytes, sink_faults};
+
+    ghost faults = { sink_faults };
+
+    ghost held = { λ s. Some (sink_bytes s) };
+
+    fn put(&mut self, piece: &[u8]) -> Result<usize, SinkFailed> {
+        let call = self.calls;
+        self.calls = call.saturating_add(1);
+        if self.failing.contains(&call) {
+            self.faults = self.faults.saturating_add(1);
+            return Err(SinkFailed::Failed);
+        }
+        self.sink.put(piece)
+    }
+}

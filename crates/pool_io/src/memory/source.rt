@@ -1,0 +1,112 @@
+// Sources over turns in memory.
+ghost use Rattle.std.specs.Prelude.{◌≡◌};
+
+use crate::{Source, Took, Turn};
+use std::marker::Model;
+
+/// Brings its turns, and then End. It never fails.
+#[derive(Drop)]
+pub struct SureSource {
+    turns: Vec<Turn>,
+    next: usize,
+    taken: usize,
+}
+
+impl Model for SureSource {
+    ghost use Rattle.std.specs.Prelude.{List, drop, vec_len, ◌≤◌};
+    ghost use Rattle.pool_io.specs.declared.turn.Turn.{Turn};
+    ghost use Rattle.pool_io.specs.Taking.{turns_from, HasMore};
+
+    ghost Value = { List Turn };
+
+    ghost view = { λ s. turns_from s.taken (drop s.next s.turns.items) };
+
+    ghost invariant = { λ s. HasMore s.taken (drop s.next s.turns.items) × (s.next ≤ vec_len s.turns) };
+}
+
+impl SureSource {
+    pub fn of(turns: Vec<Turn>) -> SureSource
+        ensures { result ≡ turns.items }
+    {
+        SureSource {
+            turns,
+            next: 0,
+            taken: 0,
+        }
+    }
+}
+
+impl Source for SureSource {
+    ghost use Rattle.std.specs.Prelude.{Some};
+
+    ghost faults = { λ _. 0 };
+
+    ghost left = { λ s. Some s };
+
+    fn take(&mut self, buffer: &mut [u8]) -> Took {
+        let Some(turn) = self.turns.get(self.next) else {
+            return Took::End;
+        };
+        let rest = match turn {
+            Turn::End => return Took::End,
+            Turn::Idle => {
+                self.next += 1;
+                return Took::Idle;
+            }
+            Turn::Piece(piece) => &piece.bytes()[self.taken..],
+        };
+        let count = rest.len().min(buffer.len());
+        buffer[..count].copy_from_slice(&rest[..count]);
+        if count == rest.len() {
+            self.next += 1;
+            self.taken = 0;
+        } else {
+            self.taken += count;
+        }
+        Took::Bytes(count)
+    }
+}
+
+/// Brings its turns, and fails at the calls whose numbers are listed, the first call being number 0.
+#[derive(Drop)]
+pub struct MemSource {
+    source: SureSource,
+    calls: u64,
+    failing: Vec<u64>,
+    faults: u64,
+}
+
+impl MemSource {
+    ghost use Rattle.pool_io.specs.Memory.{source_turns, source_faults};
+
+    pub fn new(turns: Vec<Turn>, failing: Vec<u64>) -> MemSource
+        ensures turns { source_turns result ≡ turns.items }
+        ensures fresh { source_faults result ≡ 0 }
+    {
+        MemSource {
+            source: SureSource::of(turns),
+            calls: 0,
+            failing,
+            faults: 0,
+        }
+    }
+}
+
+impl Source for MemSource {
+    ghost use Rattle.std.specs.Prelude.{Some};
+    ghost use Rattle.pool_io.specs.Memory.{source_turns, source_faults};
+
+    ghost faults = { source_faults };
+
+    ghost left = { λ s. Some (source_turns s) };
+
+    fn take(&mut self, buffer: &mut [u8]) -> Took {
+        let call = self.calls;
+        self.calls = call.saturating_add(1);
+        if self.failing.contains(&call) {
+            self.faults = self.faults.saturating_add(1);
+            return Took::Failed;
+        }
+        self.source.take(buffer)
+    }
+}

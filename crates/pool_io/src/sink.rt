@@ -1,0 +1,33 @@
+// Where bytes go.
+ghost use Rattle.std.specs.Prelude.{◌≡◌, ◌<◌, ◌≤◌, ℕ, List, Option, length, take, IfOk, OnErr};
+ghost use Rattle.pool_base.specs.Counts.{Rose};
+ghost use Rattle.pool_io.specs.Outside.{Adds};
+
+use thiserror::Error;
+
+/// Why a sink took nothing.
+#[derive(Clone, Copy, Debug, PartialEq, Eq, Error)]
+pub enum SinkFailed {
+    #[error("the sink failed")]
+    Failed,
+    #[error("no memory for the sink")]
+    Memory,
+}
+
+pub trait Sink {
+    /// How often the sink has failed. A counter stays at 2^64 - 1 once it is there.
+    ghost faults: { Self → ℕ };
+
+    /// The bytes that the sink has taken, where it tells them.
+    ghost held: { Self → Option (List ℕ) };
+
+    /// Puts the first bytes of the piece, as many as it answers.
+    fn put(&mut self, piece: &[u8]) -> Result<usize, SinkFailed>
+        requires { 0 < length piece.now }
+        ensures some { IfOk result (λ n. 0 < n) }
+        ensures bound { IfOk result (λ n. n ≤ length piece.now) }
+        ensures taken { IfOk result (λ n. Adds (held self.old) (held self.new) (take n piece.now)) }
+        ensures refused { OnErr result (held self.new ≡ held self.old) }
+        ensures later { faults self.old ≤ faults self.new }
+        ensures cause { result ≡ Err SinkFailed.Failed → Rose (faults self.old) (faults self.new) };
+}

@@ -1,0 +1,34 @@
+// Where bytes come from.
+ghost use Rattle.std.specs.Prelude.{◌≡◌, ◌<◌, ◌≤◌, ℕ, List, Option, length};
+ghost use Rattle.pool_base.specs.Counts.{Rose};
+ghost use Rattle.pool_io.specs.declared.turn.Turn.{Turn};
+ghost use Rattle.pool_io.specs.Outside.{IsWithin, Takes};
+
+/// What a source answered.
+#[derive(Clone, Copy, Debug, PartialEq, Eq)]
+pub enum Took {
+    /// So many bytes stand at the front of the buffer.
+    Bytes(usize),
+    /// No byte will come any more.
+    End,
+    /// No byte has come for now.
+    Idle,
+    /// The source failed; nothing was taken.
+    Failed,
+}
+
+pub trait Source {
+    /// How often the source has failed. A counter stays at 2^64 - 1 once it is there.
+    ghost faults: { Self → ℕ };
+
+    /// The turns still to come, where the source tells them.
+    ghost left: { Self → Option (List Turn) };
+
+    /// Takes the next bytes into the buffer. A piece that is longer than the buffer comes in parts.
+    fn take(&mut self, buffer: &mut [u8]) -> Took
+        requires { 0 < length buffer.old }
+        ensures bound { IsWithin result (length buffer.new) }
+        ensures turns { Takes (left self.old) (left self.new) result buffer.new }
+        ensures later { faults self.old ≤ faults self.new }
+        ensures cause { result ≡ Took.Failed → Rose (faults self.old) (faults self.new) };
+}
