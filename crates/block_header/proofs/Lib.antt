@@ -1,2 +1,4 @@
 pub mod Leading
+pub mod Numbers
 pub mod Places
+pub mod Targets

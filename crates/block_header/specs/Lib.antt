@@ -1,2 +1,4 @@
 pub mod Hash
 pub mod Layout
+pub mod Root
+pub mod Target

@@ -1,6 +1,6 @@
 //! The double hash, and the tests on it.
 
-ghost use Rattle.std.specs.Prelude.{◌≡◌, ◌↔◌, IsTrue};
+ghost use Rattle.std.specs.Prelude.{◌≡◌, ◌≤◌, ◌↔◌, IsTrue};
 ghost use Rattle.block_header.specs.Hash as spec;
 ghost use Rattle.block_header.specs.Hash.{Meets};
 
@@ -19,17 +19,18 @@ pub fn meets_class(hash: &[u8; 32], class: u8) -> bool
     ensures meets { IsTrue result ↔ Meets hash.now class }
     ensures value { result ≡ spec.meets hash.now class }
 {
-    zero_bits(hash) >= u32::from(class)
+    zero_bits(hash) >= u16::from(class)
 }
 
 // How many zero bits the displayed hash begins with.
-fn zero_bits(hash: &[u8; 32]) -> u32
-    ensures { result ≡ spec.zero_bits hash.now }
+pub(crate) fn zero_bits(hash: &[u8; 32]) -> u16
+    ensures value { result ≡ spec.zero_bits hash.now }
+    ensures within { result ≤ 256 }
 {
     let mut bits = 0;
     for byte in hash.iter().rev() {
         if *byte != 0 {
-            return bits + byte.leading_zeros();
+            return bits + byte.leading_zeros() as u16;
         }
         bits += 8;
     }
