@@ -1,2 +1,4 @@
 pub mod Cursor
+pub mod Fields
+pub mod Reading
 pub mod Spelling

@@ -1,14 +1,21 @@
 //! A reader over borrowed bytes. It takes no memory, and a refusal leaves it where it was.
 
-ghost use Rattle.std.specs.Prelude.{◌≡◌, ◌+◌, ◌<◌, ◌≤◌, ◌^◌, ◌↔◌, length, IfOk, IfErr, OnErr, IsOk, IsErr, IsErrOf};
-ghost use Rattle.sv2_types.specs.Cursor.{Moves};
-ghost use Rattle.sv2_types.specs.Spelling.{spelled_u8, spelled_u16, spelled_u24, spelled_u32};
+ghost use Rattle.std.specs.Prelude.{◌≡◌, ◌+◌, ◌<◌, ◌≤◌, ◌^◌, ◌↔◌, length, take, IfOk, IfErr, OnErr, IsOk, IsErr, IsErrOf};
+ghost use Rattle.std.specs.Option.{option_map};
+ghost use Rattle.std.specs.Result.{result_err};
+ghost use Rattle.sv2_types.specs.Cursor.{Moves, rest_of};
+ghost use Rattle.sv2_types.specs.Fields.{U8, U16, U24, U32, U64, UINT256, BOOL, F32, STR0_255, B0_255, B0_32, B0_64K, B0_16M, OPTION_U32, SEQ0_255_U256, SEQ0_64K_U256, SEQ0_64K_U16, SEQ0_64K_B0_16M, Number, Truth, Bytes, Perhaps, Numbers, Parts, Admits, SpellsTruth};
+ghost use Rattle.sv2_types.specs.Reading.{missing, defect, said, parts_size, Finds, MovesOverTruth, numbers_of, parts_at};
+ghost use Rattle.sv2_types.specs.Spelling.{spelled_u8, spelled_u16, spelled_u24, spelled_u32, spelled_u64, spelled_str255, spelled_b255, spelled_b64k, spelled_b16m, spelled_option_u32, spelled_seq_u256, spelled_seq64k_u256, spelled_seq_u16, spelled_seq_bytes};
 
 use crate::error::ReadError;
-use crate::little_endian::{u16_of, u24_of, u32_of};
+use crate::hash::U256;
+use crate::little_endian::{said_u8, said_u16, said_u24, u16_of, u24_of, u32_of, u64_of};
+use crate::sequences::{Seq32, SeqBytes, SeqU16, hashes_of, size_of_parts};
 use std::marker::Model;
+use std::str;
 
-/// Reads the fields of a message from its bytes, in order.
+/// Reads the fields of a message from its bytes, in order. What it gives borrows those bytes.
 #[derive(Debug, Drop)]
 pub struct Reader<'a> {
     bytes: &'a [u8],
@@ -48,12 +55,20 @@ impl<'a> Reader<'a> {
         self.bytes.len() - self.at
     }
 
+    /// The bytes that are still to be read.
+    fn rest(&self) -> &'a [u8]
+        ensures { result.now ≡ rest_of self.now }
+    {
+        &self.bytes[self.at..]
+    }
+
     /// The next `count` bytes.
     fn take(&mut self, count: usize) -> Result<&'a [u8], ReadError>
         ensures taken { IfOk result (λ part. Moves part.now self.old self.new) }
         ensures count { IfOk result (λ part. length part.now ≡ count) }
         ensures short { IsErrOf result ReadError.Short ↔ (length self.old.bytes < self.old.at + count) }
         ensures only_short { IfErr result (λ e. e ≡ ReadError.Short) }
+        ensures refused { result_err result ≡ missing count (rest_of self.old) }
         ensures err { OnErr result (self.new ≡ self.old) }
     {
         let rest = &self.bytes[self.at..];
@@ -67,6 +82,8 @@ impl<'a> Reader<'a> {
 
     pub fn u8(&mut self) -> Result<u8, ReadError>
         ensures spelled { IfOk result (λ v. Moves (spelled_u8 v) self.old self.new) }
+        ensures only { Finds U8 (λ v. Number v) (rest_of self.old) result }
+        ensures refused { result_err result ≡ defect U8 (rest_of self.old) }
         ensures short { IsErrOf result ReadError.Short ↔ (length self.old.bytes < self.old.at + 1) }
         ensures only_short { IfErr result (λ e. e ≡ ReadError.Short) }
         ensures err { OnErr result (self.new ≡ self.old) }
@@ -78,6 +95,8 @@ impl<'a> Reader<'a> {
 
     pub fn u16(&mut self) -> Result<u16, ReadError>
         ensures spelled { IfOk result (λ v. Moves (spelled_u16 v) self.old self.new) }
+        ensures only { Finds U16 (λ v. Number v) (rest_of self.old) result }
+        ensures refused { result_err result ≡ defect U16 (rest_of self.old) }
         ensures short { IsErrOf result ReadError.Short ↔ (length self.old.bytes < self.old.at + 2) }
         ensures only_short { IfErr result (λ e. e ≡ ReadError.Short) }
         ensures err { OnErr result (self.new ≡ self.old) }
@@ -90,6 +109,8 @@ impl<'a> Reader<'a> {
     pub fn u24(&mut self) -> Result<u32, ReadError>
         ensures spelled { IfOk result (λ v. Moves (spelled_u24 v) self.old self.new) }
         ensures below { IfOk result (λ v. v < 2 ^ 24) }
+        ensures only { Finds U24 (λ v. Number v) (rest_of self.old) result }
+        ensures refused { result_err result ≡ defect U24 (rest_of self.old) }
         ensures short { IsErrOf result ReadError.Short ↔ (length self.old.bytes < self.old.at + 3) }
         ensures only_short { IfErr result (λ e. e ≡ ReadError.Short) }
         ensures err { OnErr result (self.new ≡ self.old) }
@@ -101,6 +122,8 @@ impl<'a> Reader<'a> {
 
     pub fn u32(&mut self) -> Result<u32, ReadError>
         ensures spelled { IfOk result (λ v. Moves (spelled_u32 v) self.old self.new) }
+        ensures only { Finds U32 (λ v. Number v) (rest_of self.old) result }
+        ensures refused { result_err result ≡ defect U32 (rest_of self.old) }
         ensures short { IsErrOf result ReadError.Short ↔ (length self.old.bytes < self.old.at + 4) }
         ensures only_short { IfErr result (λ e. e ≡ ReadError.Short) }
         ensures err { OnErr result (self.new ≡ self.old) }
@@ -109,4 +132,201 @@ impl<'a> Reader<'a> {
         let part = self.take(4)?;
         Ok(u32_of(part))
     }
+
+    pub fn u64(&mut self) -> Result<u64, ReadError>
+        ensures spelled { IfOk result (λ v. Moves (spelled_u64 v) self.old self.new) }
+        ensures only { Finds U64 (λ v. Number v) (rest_of self.old) result }
+        ensures refused { result_err result ≡ defect U64 (rest_of self.old) }
+        ensures short { IsErrOf result ReadError.Short ↔ (length self.old.bytes < self.old.at + 8) }
+        ensures only_short { IfErr result (λ e. e ≡ ReadError.Short) }
+        ensures err { OnErr result (self.new ≡ self.old) }
+        ensures long { self.old.at + 8 ≤ length self.old.bytes → IsOk result }
+    {
+        let part = self.take(8)?;
+        Ok(u64_of(part))
+    }
+
+    pub fn u256(&mut self) -> Result<U256, ReadError>
+        ensures spelled { IfOk result (λ v. Moves (v) self.old self.new) }
+        ensures fits { IfOk result (λ v. Admits UINT256 (Bytes v)) }
+        ensures only { Finds UINT256 (λ v. Bytes v) (rest_of self.old) result }
+        ensures refused { result_err result ≡ defect UINT256 (rest_of self.old) }
+        ensures err { OnErr result (self.new ≡ self.old) }
+    {
+        let part = self.take(32)?;
+        Ok(U256::of(array_of(part)))
+    }
+
+    /// The lowest bit of one byte; the other seven are ignored.
+    pub fn boolean(&mut self) -> Result<bool, ReadError>
+        ensures spelled { IfOk result (λ v. MovesOverTruth v self.old self.new) }
+        ensures only { Finds BOOL (λ v. Truth v) (rest_of self.old) result }
+        ensures refused { result_err result ≡ defect BOOL (rest_of self.old) }
+        ensures err { OnErr result (self.new ≡ self.old) }
+    {
+        let part = self.take(1)?;
+        Ok(part[0] % 2 == 1)
+    }
+
+    /// Four bytes that are carried and never read as a number.
+    pub fn f32_bytes(&mut self) -> Result<[u8; 4], ReadError>
+        ensures spelled { IfOk result (λ v. Moves (v) self.old self.new) }
+        ensures fits { IfOk result (λ v. Admits F32 (Bytes v)) }
+        ensures only { Finds F32 (λ v. Bytes v) (rest_of self.old) result }
+        ensures refused { result_err result ≡ defect F32 (rest_of self.old) }
+        ensures err { OnErr result (self.new ≡ self.old) }
+    {
+        let part = self.take(4)?;
+        Ok(array_of(part))
+    }
+
+    pub fn str255(&mut self) -> Result<&'a str, ReadError>
+        ensures spelled { IfOk result (λ v. Moves (spelled_str255 v.now) self.old self.new) }
+        ensures fits { IfOk result (λ v. Admits STR0_255 (Bytes v.now)) }
+        ensures only { Finds STR0_255 (λ v. Bytes v.now) (rest_of self.old) result }
+        ensures refused { result_err result ≡ defect STR0_255 (rest_of self.old) }
+        ensures err { OnErr result (self.new ≡ self.old) }
+    {
+        let start = self.at;
+        let len = said_u8(self.rest());
+        let part = self.take(1 + len)?;
+        match str::from_utf8(&part[1..]) {
+            Ok(text) => Ok(text),
+            Err(_) => {
+                self.at = start;
+                Err(ReadError::NotUtf8)
+            }
+        }
+    }
+
+    pub fn b255(&mut self) -> Result<&'a [u8], ReadError>
+        ensures spelled { IfOk result (λ v. Moves (spelled_b255 v.now) self.old self.new) }
+        ensures fits { IfOk result (λ v. Admits B0_255 (Bytes v.now)) }
+        ensures only { Finds B0_255 (λ v. Bytes v.now) (rest_of self.old) result }
+        ensures refused { result_err result ≡ defect B0_255 (rest_of self.old) }
+        ensures err { OnErr result (self.new ≡ self.old) }
+    {
+        let len = said_u8(self.rest());
+        let part = self.take(1 + len)?;
+        Ok(&part[1..])
+    }
+
+    pub fn b32(&mut self) -> Result<&'a [u8], ReadError>
+        ensures spelled { IfOk result (λ v. Moves (spelled_b255 v.now) self.old self.new) }
+        ensures fits { IfOk result (λ v. Admits B0_32 (Bytes v.now)) }
+        ensures only { Finds B0_32 (λ v. Bytes v.now) (rest_of self.old) result }
+        ensures refused { result_err result ≡ defect B0_32 (rest_of self.old) }
+        ensures err { OnErr result (self.new ≡ self.old) }
+    {
+        let len = said_u8(self.rest());
+        if len > 32 {
+            return Err(ReadError::LengthTooGreat);
+        }
+        let part = self.take(1 + len)?;
+        Ok(&part[1..])
+    }
+
+    pub fn b64k(&mut self) -> Result<&'a [u8], ReadError>
+        ensures spelled { IfOk result (λ v. Moves (spelled_b64k v.now) self.old self.new) }
+        ensures fits { IfOk result (λ v. Admits B0_64K (Bytes v.now)) }
+        ensures only { Finds B0_64K (λ v. Bytes v.now) (rest_of self.old) result }
+        ensures refused { result_err result ≡ defect B0_64K (rest_of self.old) }
+        ensures err { OnErr result (self.new ≡ self.old) }
+    {
+        let len = said_u16(self.rest());
+        let part = self.take(2 + len)?;
+        Ok(&part[2..])
+    }
+
+    pub fn b16m(&mut self) -> Result<&'a [u8], ReadError>
+        ensures spelled { IfOk result (λ v. Moves (spelled_b16m v.now) self.old self.new) }
+        ensures fits { IfOk result (λ v. Admits B0_16M (Bytes v.now)) }
+        ensures only { Finds B0_16M (λ v. Bytes v.now) (rest_of self.old) result }
+        ensures refused { result_err result ≡ defect B0_16M (rest_of self.old) }
+        ensures err { OnErr result (self.new ≡ self.old) }
+    {
+        let len = said_u24(self.rest());
+        let part = self.take(3 + len)?;
+        Ok(&part[3..])
+    }
+
+    pub fn option_u32(&mut self) -> Result<Option<u32>, ReadError>
+        ensures spelled { IfOk result (λ v. Moves (spelled_option_u32 v) self.old self.new) }
+        ensures fits { IfOk result (λ v. Admits OPTION_U32 (Perhaps v)) }
+        ensures only { Finds OPTION_U32 (λ v. Perhaps v) (rest_of self.old) result }
+        ensures refused { result_err result ≡ defect OPTION_U32 (rest_of self.old) }
+        ensures err { OnErr result (self.new ≡ self.old) }
+    {
+        match said_u8(self.rest()) {
+            0 => {
+                self.take(1)?;
+                Ok(None)
+            }
+            1 => {
+                let part = self.take(5)?;
+                Ok(Some(u32_of(&part[1..])))
+            }
+            _ => Err(ReadError::CountTooGreat),
+        }
+    }
+
+    pub fn seq_u256(&mut self) -> Result<Seq32<'a>, ReadError>
+        ensures spelled { IfOk result (λ v. Moves (spelled_seq_u256 v.items.now) self.old self.new) }
+        ensures fits { IfOk result (λ v. Admits SEQ0_255_U256 (Parts v.items.now)) }
+        ensures only { Finds SEQ0_255_U256 (λ v. Parts v.items.now) (rest_of self.old) result }
+        ensures refused { result_err result ≡ defect SEQ0_255_U256 (rest_of self.old) }
+        ensures err { OnErr result (self.new ≡ self.old) }
+    {
+        let count = said_u8(self.rest());
+        let part = self.take(1 + 32 * count)?;
+        Ok(Seq32::of(hashes_of(&part[1..])))
+    }
+
+    pub fn seq64k_u256(&mut self) -> Result<Seq32<'a>, ReadError>
+        ensures spelled { IfOk result (λ v. Moves (spelled_seq64k_u256 v.items.now) self.old self.new) }
+        ensures fits { IfOk result (λ v. Admits SEQ0_64K_U256 (Parts v.items.now)) }
+        ensures only { Finds SEQ0_64K_U256 (λ v. Parts v.items.now) (rest_of self.old) result }
+        ensures refused { result_err result ≡ defect SEQ0_64K_U256 (rest_of self.old) }
+        ensures err { OnErr result (self.new ≡ self.old) }
+    {
+        let count = said_u16(self.rest());
+        let part = self.take(2 + 32 * count)?;
+        Ok(Seq32::of(hashes_of(&part[2..])))
+    }
+
+    pub fn seq_u16(&mut self) -> Result<SeqU16<'a>, ReadError>
+        ensures spelled { IfOk result (λ v. Moves (spelled_seq_u16 (numbers_of v.spelled.now)) self.old self.new) }
+        ensures fits { IfOk result (λ v. Admits SEQ0_64K_U16 (Numbers (numbers_of v.spelled.now))) }
+        ensures only { Finds SEQ0_64K_U16 (λ v. Numbers (numbers_of v.spelled.now)) (rest_of self.old) result }
+        ensures refused { result_err result ≡ defect SEQ0_64K_U16 (rest_of self.old) }
+        ensures err { OnErr result (self.new ≡ self.old) }
+    {
+        let count = said_u16(self.rest());
+        let part = self.take(2 + 2 * count)?;
+        Ok(SeqU16::of(&part[2..]))
+    }
+
+    pub fn seq_bytes(&mut self) -> Result<SeqBytes<'a>, ReadError>
+        ensures spelled { IfOk result (λ v. Moves (spelled_seq_bytes (parts_at v.count v.spelled.now)) self.old self.new) }
+        ensures fits { IfOk result (λ v. Admits SEQ0_64K_B0_16M (Parts (parts_at v.count v.spelled.now))) }
+        ensures only { Finds SEQ0_64K_B0_16M (λ v. Parts (parts_at v.count v.spelled.now)) (rest_of self.old) result }
+        ensures refused { result_err result ≡ defect SEQ0_64K_B0_16M (rest_of self.old) }
+        ensures err { OnErr result (self.new ≡ self.old) }
+    {
+        let rest = self.rest();
+        if rest.len() < 2 {
+            return Err(ReadError::Short);
+        }
+        let count = said_u16(rest);
+        let size = size_of_parts(&rest[2..], count)?;
+        let part = self.take(2 + size)?;
+        Ok(SeqBytes::of(&part[2..], count as u16))
+    }
+}
+
+fn array_of<const N: usize>(bytes: &[u8]) -> [u8; N]
+    requires { length bytes.now ≡ N }
+    ensures { result ≡ bytes.now }
+{
+    *bytes.as_array::<N>().unwrap()
 }

@@ -1,0 +1,14 @@
+use Rattle.std.proofs.Common.{ℕ, List, rules, refl}
+use Rattle.sv2_types.specs.Fields.{B0_64K, Bytes}
+use Rattle.sv2_types.specs.Spelling.{spelled_u16, spelled_b64k}
+use Rattle.sv2_types.proofs.Moved.{content_of, moved_content, only_value}
+use Rattle.sv2_types.proofs.reading.Reader.b64k.Goals as goal
+
+pub returns-clause-spelled : goal.returns-clause-spelled
+returns-clause-spelled c =
+    moved_content 2 _ spelled_u16 _ _ _ _ c.in_ok-part.ensures.taken c.in_ok-part.ensures.count c.rest.ensures c.said_u16-len.ensures.spelled
+
+pub returns-clause-only : goal.returns-clause-only
+returns-clause-only c =
+    let v : List ℕ = content_of 2 c.in_ok-part.part.now in
+    only_value B0_64K (Bytes v) (spelled_b64k v) _ _ (record { admits = search rules; form = refl }) (returns-clause-spelled c)

@@ -1,0 +1,8 @@
+use Rattle.std.proofs.Common.{rules, refl}
+use Rattle.sv2_types.specs.Fields.{UINT256, Bytes}
+use Rattle.sv2_types.proofs.Moved.{only_value}
+use Rattle.sv2_types.proofs.reading.Reader.u256.Goals as goal
+
+pub returns-clause-only : goal.returns-clause-only
+returns-clause-only c =
+    rw (c.of.ensures.value, c.array_of.ensures) (only_value UINT256 (Bytes _) _ _ _ (record { admits = search rules; form = refl }) c.in_ok-part.ensures.taken)
