@@ -1,5 +1,5 @@
 -- A source's turns one byte at a time, and the limits of a reading.
-use Rattle.std.specs.Prelude.{ℕ, zero, suc, ◌+◌, ◌≡◌, ◌≤◌, ◌⊎◌, List, [], ◌∷◌, ◌++◌, length, map, Option, Some, None}
+use Rattle.std.specs.Prelude.{ℕ, zero, suc, ◌+◌, ◌≡◌, ◌≤◌, ◌⊎◌, List, [], ◌∷◌, ◌++◌, length, map, Option, Some, None, IfSome}
 use Rattle.pool_io.specs.declared.turn.Turn.{Turn}
 use Rattle.pool_io.specs.declared.turn.Turn.TheVariants.{Piece, Idle, End}
 
@@ -54,3 +54,7 @@ IsFreeBefore bounds steps = (front : List Step) (step : Step) (rest : List Step)
 -- neither these steps nor a shorter front of them reach a limit
 abbrev pub IsFree : Bounds → List Step → Type 0
 IsFree bounds steps = IsFreeBefore bounds steps × (IsAtLimit bounds steps → ⊥)
+
+-- between these turns to come and those, where the source tells them, it brought these steps
+abbrev pub Brought : Option (List Turn) → Option (List Turn) → List Step → Type 0
+Brought before now steps = IfSome before (λ turns. (left : List Turn) × (now ≡ Some left) × (steps_of turns ≡ steps ++ steps_of left))

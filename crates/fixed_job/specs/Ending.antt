@@ -1,0 +1,44 @@
+-- What each end of the command says of the input and of what was put.
+use Rattle.std.specs.Prelude.{ℕ, ◌≡◌, ◌⊎◌, List, ◌++◌, Option, Some}
+use Rattle.pool_base.specs.Lists.{Begins}
+use Rattle.pool_io.specs.declared.turn.Turn.{Turn}
+use Rattle.pool_io.specs.Outside.{Adds}
+use Rattle.pool_io.specs.Steps.{Step, steps_of, bytes_in, IsIdleOut, IsBytesOut}
+use Rattle.fixed_job.specs.declared.submission.Submission.{Submission}
+use Rattle.fixed_job.specs.declared.judge.Job.{Job}
+use Rattle.fixed_job.specs.declared.command.FixedEnd.{FixedEnd}
+use Rattle.fixed_job.specs.declared.command.FixedEnd.TheVariants.{Done, OtherFrame, IdleOut, BytesOut, ReadFault, WriteFault, Memory}
+use Rattle.fixed_job.specs.Answers.{answers_to}
+use Rattle.fixed_job.specs.Submitting.{Spell}
+use Rattle.fixed_job.specs.Reading.{bounds, GoesOn, IsWhole, Stops, ReachesLimit}
+
+-- a front of the steps brings these submissions and goes on
+abbrev pub HasBrought : List Step → List Submission → Type 0
+HasBrought steps shares = (front : List Step) × (rest : List Step) × (steps ≡ front ++ rest) × GoesOn front shares
+
+-- the bytes of a front of the steps are the frames of these submissions, and then others
+abbrev pub HasSpelled : List Step → List Submission → Type 0
+HasSpelled steps shares = (front : List Step) × (rest : List Step) × (held : List ℕ) × (steps ≡ front ++ rest) × Spell (bytes_in front) shares held
+
+-- the steps end so after some submissions, and what was given compares so with the answers to them
+abbrev pub Answers : (List Step → List Submission → Type 0) → (List ℕ → List ℕ → Type 0) → ℕ → Job → List Step → List ℕ → Type 0
+Answers Ends Compare class job steps given = (shares : List Submission) × Ends steps shares × Compare given (answers_to class job shares)
+
+abbrev pub Equal : List ℕ → List ℕ → Type 0
+Equal given answers = given ≡ answers
+
+-- what an end says of all steps that the source had, and of the bytes that were put
+abbrev pub EndsBy : ℕ → Job → List Step → List ℕ → FixedEnd → Type 0
+EndsBy class job steps given Done = Answers IsWhole Equal class job steps given
+EndsBy class job steps given OtherFrame = Answers Stops Equal class job steps given
+EndsBy class job steps given IdleOut = Answers (ReachesLimit (IsIdleOut bounds)) Equal class job steps given
+EndsBy class job steps given BytesOut = Answers (ReachesLimit (IsBytesOut bounds)) Equal class job steps given
+EndsBy class job steps given ReadFault = Answers HasBrought Equal class job steps given
+EndsBy class job steps given WriteFault = Answers HasSpelled Begins class job steps given
+EndsBy class job steps given Memory = Answers HasSpelled Begins class job steps given
+
+-- between these turns to come and these held bytes, before and after: the bytes put, and what the end says of them
+pub record Ran (class : ℕ) (job : Job) (turns : Option (List Turn)) (before after : Option (List ℕ)) (end : FixedEnd) : Type 0 where
+  pub given : List ℕ
+  pub put : Adds before after given
+  pub ends : (told : List Turn) → turns ≡ Some told → EndsBy class job (steps_of told) given end

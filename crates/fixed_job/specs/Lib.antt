@@ -1,0 +1,6 @@
+pub mod Answers
+pub mod Ending
+pub mod Reading
+pub mod Rolling
+pub mod Standing
+pub mod Submitting

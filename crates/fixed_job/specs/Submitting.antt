@@ -1,0 +1,54 @@
+-- The frames that bring shares: SubmitSharesStandard (Stratum V2, "Mining Protocol").
+use Rattle.std.specs.Prelude.{ℕ, ◌^◌, ◌≡◌, ◌≢◌, ◌<◌, ◌≤◌, ◌⊎◌, List, [], ◌∷◌, ◌++◌, length, take}
+use Rattle.sv2_types.specs.Spelling.{spelled_u32}
+use Rattle.sv2_frames.specs.Framing.{header_of, frame_of}
+use Rattle.fixed_job.specs.declared.submission.Submission.{Submission}
+
+-- the channel bit of the extension type is set or not, and no other bit is
+abbrev pub IsPlainOrChannel : ℕ → Type 0
+IsPlainOrChannel ext = (ext ≡ 0) ⊎ (ext ≡ 0x8000)
+
+-- the fields of a submission in their order
+abbrev pub payload_of : Submission → List ℕ
+payload_of s = spelled_u32 s.channel ++ spelled_u32 s.sequence ++ spelled_u32 s.job
+    ++ spelled_u32 s.nonce ++ spelled_u32 s.ntime ++ spelled_u32 s.version
+
+-- the six bytes begin a submission's frame
+abbrev pub IsHeader : List ℕ → Type 0
+IsHeader bytes = (ext : ℕ) × IsPlainOrChannel ext × (bytes ≡ header_of ext 0x1a 24)
+
+-- each field has four bytes
+pub record Fits (s : Submission) : Type 0 where
+  pub channel : s.channel < 2 ^ 32
+  pub sequence : s.sequence < 2 ^ 32
+  pub job : s.job < 2 ^ 32
+  pub nonce : s.nonce < 2 ^ 32
+  pub ntime : s.ntime < 2 ^ 32
+  pub version : s.version < 2 ^ 32
+
+-- the bytes are the whole frame of a submission
+pub record IsFrame (bytes : List ℕ) (s : Submission) : Type 0 where
+  pub ext : ℕ
+  pub bit : IsPlainOrChannel ext
+  pub fits : Fits s
+  pub spelled : bytes ≡ frame_of ext 0x1a (payload_of s)
+
+-- the bytes are the frames of these submissions, one after the other, and then the rest
+abbrev pub Spell : List ℕ → List Submission → List ℕ → Type 0
+Spell bytes [] rest = bytes ≡ rest
+Spell bytes (s ∷ later) rest = (frame : List ℕ) × (after : List ℕ) × IsFrame frame s × (bytes ≡ frame ++ after) × Spell after later rest
+
+-- less than a whole frame, and no bytes of another header
+pub record IsPartial (bytes : List ℕ) : Type 0 where
+  pub short : length bytes < 30
+  pub header : 6 ≤ length bytes → IsHeader (take 6 bytes)
+
+-- the first six bytes are another header
+pub record IsOther (bytes : List ℕ) : Type 0 where
+  pub long : 6 ≤ length bytes
+  pub header : IsHeader (take 6 bytes) → ⊥
+
+-- there are bytes, and they begin with no frame of a submission
+pub record IsNoFrame (bytes : List ℕ) : Type 0 where
+  pub some : bytes ≢ []
+  pub other : (frame more : List ℕ) (s : Submission) → IsFrame frame s → bytes ≡ frame ++ more → ⊥

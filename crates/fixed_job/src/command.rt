@@ -1,0 +1,192 @@
+// The whole command, turn by turn.
+ghost use Rattle.std.specs.Prelude.{◌≡◌, ◌≤◌, ◌<◌, ◌+◌, ◌^◌, ℕ, List, Option, length, map, IfNone, ◌++◌, [], ◌∷◌};
+ghost use Rattle.pool_base.specs.Counts.{Rose};
+
+use crate::judge::Job;
+use crate::put_all::put_all;
+use crate::stream::{Stop, Stream};
+use pool_io::{Sink, SinkFailed, Source, Took};
+use std::alloc::Global;
+
+/// The most Idle answers in a row: an hour of a source that waits a tenth of a second.
+pub const IDLE_TURNS: u64 = 36_000;
+
+/// The most bytes that are taken.
+pub const MOST_BYTES: u64 = 1 << 40;
+
+/// The most bytes that are taken at once.
+const PIECE_LEN: usize = 4096;
+
+/// How the command ended.
+#[derive(Clone, Copy, Debug, PartialEq, Eq)]
+pub enum FixedEnd {
+    /// The input was read to its end, and every frame was a submission.
+    Done,
+    /// A frame was no submission, or the input ended inside a frame.
+    OtherFrame,
+    /// No byte came for too long.
+    IdleOut,
+    /// Too many bytes came.
+    BytesOut,
+    ReadFault,
+    WriteFault,
+    Memory,
+}
+
+#[derive(Drop)]
+pub struct Command {
+    pub stream: Stream,
+    /// The bytes that were taken.
+    pub taken: u64,
+    /// The Idle answers in a row.
+    pub idles: u64,
+}
+
+impl Command {
+    ghost use Rattle.std.specs.Prelude.{None, Some};
+    ghost use Rattle.pool_io.specs.declared.turn.Turn.{Turn};
+    ghost use Rattle.pool_io.specs.Steps.{Step, Brought};
+    ghost use Rattle.fixed_job.specs.Ending.{EndsBy, Ran};
+    ghost use Rattle.fixed_job.specs.Standing.{Made, GoesTo, TurnsTo, IsBetween, IsBelow, remaining};
+
+    fn new(alloc: Global, class: u8, job: &Job) -> Command
+        requires { class ≤ 60 }
+        ensures class { result.stream.judge.class ≡ class }
+        ensures job { result.stream.judge.job ≡ job.now }
+        ensures made { (before : Option (List ℕ)) → Made before before [] result }
+        ensures below { IsBelow result }
+    {
+        Command {
+            stream: Stream::new(alloc, class, job),
+            taken: 0,
+            idles: 0,
+        }
+    }
+
+    /// Takes the bytes that came, and puts the answers to the frames that they complete.
+    fn bytes<T: Sink>(&mut self, piece: &[u8], sink: &mut T) -> Option<FixedEnd>
+        requires some { 0 < length piece.now }
+        requires room { self.old.taken + length piece.now ≤ 2 ^ 40 }
+        ensures goes { (before : Option (List ℕ)) (steps : List Step) → Made before (T.held sink.old) steps self.old
+            → GoesTo before (T.held sink.new) (steps ++ map Some piece.now) self.new result }
+        ensures below { IfNone result (IsBelow self.new) }
+        ensures taken { IfNone result (self.old.taken < self.new.taken) }
+        ensures idles { IfNone result (self.new.idles ≡ 0) }
+        ensures no_read_fault { result ≡ Some FixedEnd.ReadFault → ⊥ }
+        ensures later { T.faults sink.old ≤ T.faults sink.new }
+        ensures cause { result ≡ Some FixedEnd.WriteFault → Rose (T.faults sink.old) (T.faults sink.new) }
+        ensures class { self.new.stream.judge.class ≡ self.old.stream.judge.class }
+        ensures job { self.new.stream.judge.job ≡ self.old.stream.judge.job }
+    {
+        let stopped = match self.stream.piece(piece) {
+            Ok(()) => false,
+            Err(Stop::OtherFrame) => true,
+            Err(Stop::Memory) => return Some(FixedEnd::Memory),
+        };
+        match put_all(sink, &self.stream.answers) {
+            Ok(()) => self.stream.answers.clear(),
+            Err(SinkFailed::Failed) => return Some(FixedEnd::WriteFault),
+            Err(SinkFailed::Memory) => return Some(FixedEnd::Memory),
+        }
+        if stopped {
+            return Some(FixedEnd::OtherFrame);
+        }
+        self.taken += piece.len() as u64;
+        self.idles = 0;
+        if self.taken == MOST_BYTES {
+            Some(FixedEnd::BytesOut)
+        } else {
+            None
+        }
+    }
+
+    /// Counts one Idle answer more.
+    fn idle(&mut self) -> Option<FixedEnd>
+        requires { IsBelow self.old }
+        ensures goes { (before now : Option (List ℕ)) (steps : List Step) → Made before now steps self.old
+            → GoesTo before now (steps ++ None ∷ []) self.new result }
+        ensures below { IfNone result (IsBelow self.new) }
+        ensures idles { self.new.idles ≡ self.old.idles + 1 }
+        ensures same { self.new ≡ record self.old { idles = self.new.idles } }
+        ensures no_fault { (result ≡ Some FixedEnd.WriteFault → ⊥) × (result ≡ Some FixedEnd.ReadFault → ⊥) }
+    {
+        self.idles += 1;
+        if self.idles == IDLE_TURNS {
+            Some(FixedEnd::IdleOut)
+        } else {
+            None
+        }
+    }
+
+    /// Whether the end of the input stands behind a whole frame.
+    fn end(&self) -> FixedEnd
+        ensures ends { (before now : Option (List ℕ)) (steps : List Step) (made : Made before now steps self.now)
+            → EndsBy self.now.stream.judge.class self.now.stream.judge.job steps made.given result }
+        ensures no_fault { (result ≡ FixedEnd.WriteFault → ⊥) × (result ≡ FixedEnd.ReadFault → ⊥) }
+    {
+        if self.stream.held.is_empty() {
+            FixedEnd::Done
+        } else {
+            FixedEnd::OtherFrame
+        }
+    }
+
+    /// Takes one turn of the source.
+    fn turn<S: Source, T: Sink>(
+        &mut self,
+        source: &mut S,
+        sink: &mut T,
+        buffer: &mut [u8],
+    ) -> Option<FixedEnd>
+        requires below { IsBelow self.old }
+        requires room { 0 < length buffer.old }
+        ensures goes { (turns : Option (List Turn)) (before : Option (List ℕ)) → IsBetween turns before (S.left source.old) (T.held sink.old) self.old
+            → TurnsTo turns before (S.left source.new) (T.held sink.new) self.new result }
+        ensures below { IfNone result (IsBelow self.new) }
+        ensures nearer { IfNone result (remaining self.new < remaining self.old) }
+        ensures read_later { S.faults source.old ≤ S.faults source.new }
+        ensures write_later { T.faults sink.old ≤ T.faults sink.new }
+        ensures read_cause { result ≡ Some FixedEnd.ReadFault → Rose (S.faults source.old) (S.faults source.new) }
+        ensures write_cause { result ≡ Some FixedEnd.WriteFault → Rose (T.faults sink.old) (T.faults sink.new) }
+        ensures class { self.new.stream.judge.class ≡ self.old.stream.judge.class }
+        ensures job { self.new.stream.judge.job ≡ self.old.stream.judge.job }
+    {
+        let room = buffer.len().min((MOST_BYTES - self.taken) as usize);
+        match source.take(&mut buffer[..room]) {
+            Took::Bytes(count) => self.bytes(&buffer[..count], sink),
+            Took::Idle => self.idle(),
+            Took::End => Some(self.end()),
+            Took::Failed => Some(FixedEnd::ReadFault),
+        }
+    }
+}
+
+ghost use Rattle.fixed_job.specs.Ending.{Ran};
+
+/// Judges the shares that the source brings, and puts the answers. The class is 0 to 60.
+pub fn judge_shares<S: Source, T: Sink>(
+    alloc: Global,
+    class: u8,
+    job: &Job,
+    source: &mut S,
+    sink: &mut T,
+) -> FixedEnd
+    requires { class ≤ 60 }
+
+    // What each end says of the input and of what was put.
+    ensures ran { Ran class job.now (S.left source.old) (T.held sink.old) (T.held sink.new) result }
+
+    // A fault is told only where a count rose.
+    ensures read_fault { result ≡ FixedEnd.ReadFault → Rose (S.faults source.old) (S.faults source.new) }
+    ensures write_fault { result ≡ FixedEnd.WriteFault → Rose (T.faults sink.old) (T.faults sink.new) }
+    ensures read_later { S.faults source.old ≤ S.faults source.new }
+    ensures write_later { T.faults sink.old ≤ T.faults sink.new }
+{
+    let mut command = Command::new(alloc, class, job);
+    let mut buffer = [0; PIECE_LEN];
+    loop {
+        if let Some(end) = command.turn(source, sink, &mut buffer) {
+            return end;
+        }
+    }
+}

@@ -1,0 +1,125 @@
+// Which share of the job is credited, and which is refused.
+ghost use Rattle.std.specs.Prelude.{◌≡◌, ◌≤◌, ℕ, List, [], ◌∷◌, ◌++◌, length, IfOk, OnOk};
+ghost use Rattle.std.specs.List.{list_any};
+ghost use Rattle.fixed_job.specs.Rolling.{is_same};
+
+use crate::submission::{Rolled, Submission};
+use block_header::{Header, dsha, meets_class};
+use std::alloc::{AllocError, Global};
+
+/// What a header has of the job: the hashes as they stand in the header.
+#[derive(Clone, Copy, Debug, PartialEq, Eq)]
+pub struct Job {
+    pub prev_hash: [u8; 32],
+    pub root: [u8; 32],
+    pub nbits: u32,
+}
+
+/// Why a share isn't credited, by the first condition that fails.
+#[derive(Clone, Copy, Debug, PartialEq, Eq)]
+pub enum Refusal {
+    InvalidChannelId,
+    InvalidJobId,
+    DifficultyTooLow,
+    DuplicateShare,
+}
+
+impl Refusal {
+    ghost use Rattle.fixed_job.specs.Answers.{code_of};
+
+    /// The error code of SubmitShares.Error.
+    pub fn code(self) -> &'static str
+        ensures code { result.now ≡ code_of self }
+        ensures short { length result.now ≤ 255 }
+    {
+        match self {
+            Refusal::InvalidChannelId => "invalid-channel-id",
+            Refusal::InvalidJobId => "invalid-job-id",
+            Refusal::DifficultyTooLow => "difficulty-too-low",
+            Refusal::DuplicateShare => "duplicate-share",
+        }
+    }
+}
+
+/// The job, its class, and what was credited so far. It doesn't grow with refused shares.
+#[derive(Drop)]
+pub struct Judge {
+    pub class: u8,
+    pub job: Job,
+    pub credited: Vec<Rolled>,
+    ghost in_range: { class ≤ 60 },
+}
+
+impl Judge {
+    ghost use Rattle.fixed_job.specs.Answers.{first_failed, hash_of};
+    ghost use Rattle.fixed_job.specs.Standing.{Keeps};
+
+    pub fn new(alloc: Global, class: u8, job: &Job) -> Judge
+        requires { class ≤ 60 }
+        ensures class { result.class ≡ class }
+        ensures job { result.job ≡ job.now }
+        ensures keeps { Keeps result [] }
+    {
+        Judge {
+            class,
+            job: *job,
+            credited: Vec::new(alloc),
+        }
+    }
+
+    fn hash(&self, rolled: &Rolled) -> [u8; 32]
+        ensures { result ≡ hash_of self.now.job rolled.now }
+    {
+        let header = Header {
+            version: rolled.version,
+            prev_hash: self.job.prev_hash,
+            root: self.job.root,
+            ntime: rolled.ntime,
+            nbits: self.job.nbits,
+            nonce: rolled.nonce,
+        };
+        dsha(&header.bytes())
+    }
+
+    fn first_failed(&self, share: &Submission) -> Option<Refusal>
+        ensures { (earlier : List _) → Keeps self.now earlier
+            → result ≡ first_failed self.now.class self.now.job earlier share.now }
+    {
+        let rolled = share.rolled();
+        if share.channel != 1 {
+            Some(Refusal::InvalidChannelId)
+        } else if share.job != 1 {
+            Some(Refusal::InvalidJobId)
+        } else if !meets_class(&self.hash(&rolled), self.class) {
+            Some(Refusal::DifficultyTooLow)
+        } else if is_among(&self.credited, &rolled) {
+            Some(Refusal::DuplicateShare)
+        } else {
+            None
+        }
+    }
+
+    /// The first condition that fails; where none does, the share is credited.
+    pub fn judge(&mut self, share: &Submission) -> Result<Option<Refusal>, AllocError>
+        ensures verdict { (earlier : List _) → Keeps self.old earlier
+            → IfOk result (λ refusal. refusal ≡ first_failed self.old.class self.old.job earlier share.now) }
+        ensures keeps { (earlier : List _) → Keeps self.old earlier
+            → OnOk result (Keeps self.new (earlier ++ share.now ∷ [])) }
+        ensures class { self.new.class ≡ self.old.class }
+        ensures job { self.new.job ≡ self.old.job }
+    {
+        let refusal = self.first_failed(share);
+        if refusal.is_none() {
+            self.credited.push(share.rolled())?;
+        }
+        Ok(refusal)
+    }
+}
+
+fn is_among(credited: &[Rolled], rolled: &Rolled) -> bool
+    ensures { result ≡ list_any (is_same rolled.now) credited.now }
+{
+    credited.iter().any(|other| {
+        rolled.version == other.version && rolled.ntime == other.ntime && rolled.nonce == other.nonce
+    })
+}
