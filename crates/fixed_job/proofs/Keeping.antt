@@ -1,6 +1,5 @@
 -- What a judge keeps is enough to tell a duplicate.
-use Rattle.std.proofs.Common.{◌≡◌, ℕ, Bool, true, false, not, ◌==◌, ◌&&◌, ◌||◌, ◌⊎◌, List, [], ◌∷◌, ◌++◌, Option, Some, None, cond, refl, sym, ap, ◌∙◌, inl, inr}
-use Rattle.std.specs.List.{list_any}
+use Rattle.std.proofs.Common.{◌≡◌, ℕ, Bool, true, false, not, ◌==◌, ◌&&◌, ◌||◌, List, [], ◌∷◌, ◌++◌, Option, Some, None, cond, refl, sym, ap, ◌∙◌}
 use Rattle.std.specs.Option.{is_some}
 use Rattle.std.proofs.lemmas.Bool.{and_parts, eqb-true}
 use Rattle.std.proofs.lemmas.List.Folds.{list_any-append}
@@ -8,7 +7,6 @@ use Rattle.block_header.specs.Hash.{meets}
 use Rattle.fixed_job.specs.declared.submission.Submission.{Submission}
 use Rattle.fixed_job.specs.declared.submission.Rolled.{Rolled}
 use Rattle.fixed_job.specs.declared.judge.Job.{Job}
-use Rattle.fixed_job.specs.declared.judge.Judge.{Judge}
 use Rattle.fixed_job.specs.declared.judge.Refusal.{Refusal}
 use Rattle.fixed_job.specs.declared.judge.Refusal.TheVariants.{InvalidChannelId, InvalidJobId, DifficultyTooLow, DuplicateShare}
 use Rattle.fixed_job.specs.Rolling.{rolled_of, is_same}
@@ -91,9 +89,9 @@ module _ (class : ℕ) (job : Job) (shares : List Submission) (s : Submission) (
       (not_first (is_ours s) (is_same r (rolled_of s)) (not_second (s.channel == 1) (s.job == 1) none))
   refused_by strong (too_weak weak) =
       let never : is_same r (rolled_of s) ≡ true → ⊥ = λ same.
-          let equal = ap (λ q. meets (hash_of job q) class) (same_rolled r (rolled_of s) same) in
-          let contrary : true ≡ false = sym strong ∙ equal ∙ weak in
-          cc in
+      let equal = ap (λ q. meets (hash_of job q) class) (same_rolled r (rolled_of s) same) in
+      let contrary : true ≡ false = sym strong ∙ equal ∙ weak in
+      cc in
       or_none (is_submitted shares r) (is_ours s && is_same r (rolled_of s))
       (not_second (is_ours s) (is_same r (rolled_of s)) (false_unless (is_same r (rolled_of s)) never))
   refused_by strong (duplicate known) =
@@ -105,4 +103,4 @@ module _ (class : ℕ) (job : Job) (shares : List Submission) (s : Submission) (
   refused_more strong some =
       submitted_more shares s r
       ∙ refused_by strong
-        (failure_of (s.channel == 1) (s.job == 1) (meets (hash_of job (rolled_of s)) class) (is_submitted shares (rolled_of s)) some)
+      (failure_of (s.channel == 1) (s.job == 1) (meets (hash_of job (rolled_of s)) class) (is_submitted shares (rolled_of s)) some)

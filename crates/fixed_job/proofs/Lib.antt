@@ -1,4 +1,5 @@
 pub mod Keeping
+pub mod OneEnd
 pub mod Only
 pub mod Putting
 pub mod Running

@@ -1,5 +1,5 @@
 -- One put after another.
-use Rattle.std.proofs.Common.{◌≡◌, ℕ, ◌-◌, ◌≤◌, List, ◌++◌, length, take, drop, Option, Some, None, refl, sym, ap, ◌∙◌, append_assoc, length-drop}
+use Rattle.std.proofs.Common.{◌≡◌, ℕ, ◌-◌, List, ◌++◌, length, take, drop, Option, Some, None, ap, ◌∙◌, append_assoc, length-drop}
 use Rattle.std.proofs.lemmas.List.{take-append-drop}
 use Rattle.std.proofs.Math.Seq.{take-length}
 use Rattle.pool_io.specs.Outside.{Adds}
@@ -16,8 +16,7 @@ pub put_more : (before now after : Option (List ℕ)) (bytes rest : List ℕ) (n
     → Adds now after (take n rest)
     → (front : List ℕ) × (front ++ take (length rest - n) (drop n rest) ≡ bytes) × Adds before after front
 put_more before now after bytes rest n put taken =
-    let whole : take (length rest - n) (drop n rest) ≡ drop n rest = rw (← length-drop n rest) (take-length (drop n rest)) in
-    (
+    let whole : take (length rest - n) (drop n rest) ≡ drop n rest = rw (← length-drop n rest) (take-length (drop n rest)) in (
       put.0 ++ take n rest,
       rw whole (append_assoc put.0 (take n rest) (drop n rest) ∙ ap (λ r. put.0 ++ r) (take-append-drop n rest) ∙ put.1),
       Adds-more before now after put.0 (take n rest) put.2 taken,

@@ -1,24 +1,23 @@
 -- The command between its turns.
-use Rattle.std.proofs.Common.{◌≡◌, ℕ, ◌+◌, ◌^◌, ◌<◌, ◌≤◌, List, [], ◌∷◌, ◌++◌, length, take, drop, map, Option, Some, None, refl, sym, ap, ◌∙◌, append_assoc, append-nil, arith, length-append, inl, inr}
+use Rattle.std.proofs.Common.{◌≡◌, ℕ, ◌+◌, ◌^◌, ◌<◌, ◌≤◌, List, [], ◌∷◌, ◌++◌, length, map, Option, Some, None, refl, sym, ap, ◌∙◌, append_assoc, append-nil, arith, length-append, inl, inr}
 use Rattle.std.proofs.lemmas.List.{map-append}
 use Rattle.pool_base.specs.Lists.{Begins}
 use Rattle.pool_io.specs.declared.turn.Turn.{Turn}
 use Rattle.pool_io.specs.declared.source.Took.TheVariants as took
 use Rattle.pool_io.specs.Outside.{Adds, Takes}
-use Rattle.pool_io.specs.Steps.{Step, bytes_in, steps_of, idles_after, IsAtLimit, IsFree, IsFreeBefore, IsBytesOut, IsIdleOut, Brought}
+use Rattle.pool_io.specs.Steps.{Step, bytes_in, steps_of, idles_after, IsAtLimit, IsFree, Brought}
 use Rattle.pool_io.proofs.Stepping.{bytes_in-more, bytes_in-idle, idles_after-more, idles_after-idle, free_bytes, free_idle, within_limits, brought_all}
 use Rattle.fixed_job.specs.declared.submission.Submission.{Submission}
-use Rattle.fixed_job.specs.declared.judge.Job.{Job}
 use Rattle.fixed_job.specs.declared.stream.Stream.{Stream}
 use Rattle.fixed_job.specs.declared.command.Command.{Command}
 use Rattle.fixed_job.specs.declared.command.FixedEnd.{FixedEnd}
 use Rattle.fixed_job.specs.declared.command.FixedEnd.TheVariants as end
-use Rattle.fixed_job.specs.Submitting.{Spell, IsPartial, IsOther}
+use Rattle.fixed_job.specs.Submitting.{Spell}
 use Rattle.fixed_job.specs.Answers.{answers_to}
-use Rattle.fixed_job.specs.Reading.{bounds, GoesOn, IsWhole, TurnsOther, IsCut, Stops, ReachesLimit}
+use Rattle.fixed_job.specs.Reading.{bounds}
 use Rattle.fixed_job.specs.Ending.{EndsBy, Ran}
 use Rattle.fixed_job.proofs.Putting.{Adds-more}
-use Rattle.fixed_job.specs.Standing.{Stands, Breaks, BreaksIn, Made, Leaves, GoesTo, TurnsTo}
+use Rattle.fixed_job.specs.Standing.{Stands, BreaksIn, Made, Leaves, GoesTo, TurnsTo}
 
 -- nothing more is held
 Adds-none : (held : Option (List ℕ)) → Adds held held []
@@ -137,7 +136,6 @@ put_ends steps piece given front new answered begins rest = (
 
 module _ (before now after : Option (List ℕ)) (steps : List Step) (piece : List ℕ) (old : Command) (new : Stream) (made : Made before now steps old)
     (answered : Answered steps piece made.given new) (put : (front : List ℕ) × Begins front new.answers.items × Adds now after front) where
-
   pub put_memory_leaves : Leaves new.judge.class new.judge.job before after (steps ++ map Some piece) end.Memory
   put_memory_leaves = record {
     given = made.given ++ put.0;
@@ -155,7 +153,6 @@ module _ (before now after : Option (List ℕ)) (steps : List Step) (piece : Lis
 -- All answers to a piece were put, and the stream holds none any more.
 module _ (before now after : Option (List ℕ)) (steps : List Step) (piece : List ℕ) (old : Command) (new : Stream) (made : Made before now steps old)
     (put : Adds now after new.answers.items) (some : 0 < length piece) (room : old.taken + length piece ≤ 2 ^ 40) where
-
   room_left : length (bytes_in steps) + length piece ≤ 2 ^ 40
   room_left = rw made.bytes room
 
@@ -169,7 +166,9 @@ module _ (before now after : Option (List ℕ)) (steps : List Step) (piece : Lis
         ends = λ rest. (
           broken.shares,
           inl (
-            steps ++ map Some breaks.front, map Some breaks.rest ++ rest, cut_at steps piece breaks.front breaks.rest rest breaks.split,
+            steps ++ map Some breaks.front,
+            map Some breaks.rest ++ rest,
+            cut_at steps piece breaks.front breaks.rest rest breaks.split,
             record {
               held = broken.held;
               spelled = rw (bytes_in-more steps breaks.front) broken.spelled;
@@ -208,7 +207,7 @@ module _ (before now after : Option (List ℕ)) (steps : List Step) (piece : Lis
         → Made before after (steps ++ map Some piece) command
     made_more command below held judge flushed taken idles =
         let bytes : length (bytes_in (steps ++ map Some piece)) ≡ length (bytes_in steps) + length piece =
-            ap length (bytes_in-more steps piece) ∙ length-append (bytes_in steps) piece in
+        ap length (bytes_in-more steps piece) ∙ length-append (bytes_in steps) piece in
         let none : idles_after 0 (steps ++ map Some piece) ≡ 0 = idles_after-more steps piece some in
         record {
           free = (

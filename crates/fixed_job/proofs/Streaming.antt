@@ -1,9 +1,9 @@
 -- The bytes of a stream, one after the other.
-use Rattle.std.proofs.Common.{◌≡◌, ◌≢◌, ℕ, ◌+◌, ◌^◌, ◌<◌, ◌≤◌, List, [], ◌∷◌, ◌++◌, length, take, drop, Option, Some, None, refl, sym, ap, ◌∙◌, subst, append_assoc, append-nil, arith, length-append, inl, inr}
+use Rattle.std.proofs.Common.{◌≡◌, ◌≢◌, ℕ, ◌≤◌, List, [], ◌∷◌, ◌++◌, length, take, drop, refl, sym, ap, ◌∙◌, append_assoc, append-nil, arith, length-append, inl, inr}
 use Rattle.std.proofs.lemmas.List.{take-append-drop, take-append-le}
 use Rattle.std.proofs.lemmas.Bool.{cases_lt}
 use Rattle.std.proofs.Math.Seq.{take-length}
-use Rattle.sv2_frames.specs.Framing.{header_of, frame_of}
+use Rattle.sv2_frames.specs.Framing.{header_of}
 use Rattle.fixed_job.specs.declared.submission.Submission.{Submission}
 use Rattle.fixed_job.specs.declared.judge.Job.{Job}
 use Rattle.fixed_job.specs.Submitting.{Spell, IsFrame, IsHeader, IsPartial, IsOther, Fits, payload_of}
@@ -36,7 +36,7 @@ frame_from bytes s header payload fits = record {
 -- the answers to one submission more
 pub answers_after-more : (class : ℕ) (job : Job) (earlier later : List Submission) (s : Submission)
     → answers_after class job earlier (later ++ s ∷ [])
-      ≡ answers_after class job earlier later ++ answer_of class s (first_failed class job (earlier ++ later) s)
+    ≡ answers_after class job earlier later ++ answer_of class s (first_failed class job (earlier ++ later) s)
 unfolding answers_after
 answers_after-more class job earlier [] s =
     append-nil (answer_of class s (first_failed class job earlier s))
@@ -83,7 +83,6 @@ partial_more held b partial not_whole header = record {
 -- One byte more, from a stream to one that holds it and is else the same.
 module _ (old new : Stream) (b : ℕ) (held : new.held.items ≡ old.held.items ++ b ∷ []) (judge : new.judge ≡ old.judge)
     (answers : new.answers.items ≡ old.answers.items) where
-
   same_answers : (given : List ℕ) (shares : List Submission) → given ++ old.answers.items ≡ answers_to old.judge.class old.judge.job shares
       → given ++ new.answers.items ≡ answers_to new.judge.class new.judge.job shares
   same_answers given shares answered = rw (answers, judge) answered

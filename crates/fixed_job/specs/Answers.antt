@@ -1,5 +1,5 @@
 -- The answers to the shares of one fixed job.
-use Rattle.std.specs.Prelude.{ℕ, ◌^◌, ◌==◌, Bool, true, false, not, ◌&&◌, List, [], ◌∷◌, ◌++◌, if◌then◌else◌, Option, Some, None, codes}
+use Rattle.std.specs.Prelude.{ℕ, ◌^◌, ◌==◌, Bool, not, ◌&&◌, List, [], ◌∷◌, ◌++◌, if◌then◌else◌, Option, Some, None, codes}
 use Rattle.std.specs.List.{list_any}
 use Rattle.sv2_types.specs.Spelling.{spelled_u32, spelled_u64, spelled_str255}
 use Rattle.sv2_frames.specs.Framing.{frame_of}

@@ -42,3 +42,17 @@ pub record Ran (class : ℕ) (job : Job) (turns : Option (List Turn)) (before af
   pub given : List ℕ
   pub put : Adds before after given
   pub ends : (told : List Turn) → turns ≡ Some told → EndsBy class job (steps_of told) given end
+
+-- an end that the input alone doesn't decide
+abbrev pub IsFault : FixedEnd → Type 0
+IsFault Done = ⊥
+IsFault OtherFrame = ⊥
+IsFault IdleOut = ⊥
+IsFault BytesOut = ⊥
+IsFault ReadFault = Unit {0}
+IsFault WriteFault = Unit {0}
+IsFault Memory = Unit {0}
+
+-- the end is this one, or a fault or want of memory came first
+abbrev pub EndsAs : FixedEnd → FixedEnd → Type 0
+EndsAs end result = (result ≡ end) ⊎ IsFault result

@@ -1,5 +1,6 @@
 pub mod Answers
 pub mod Ending
+pub mod Laws
 pub mod Reading
 pub mod Rolling
 pub mod Standing

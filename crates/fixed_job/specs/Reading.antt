@@ -1,6 +1,6 @@
 -- How a reading of turns goes on, and which of its moments ends it.
 use Rattle.std.specs.Prelude.{ℕ, ◌^◌, ◌≡◌, ◌≢◌, ◌⊎◌, List, [], ◌++◌}
-use Rattle.pool_io.specs.Steps.{Step, bytes_in, Bounds, IsFree, IsFreeBefore, IsAtLimit}
+use Rattle.pool_io.specs.Steps.{Step, bytes_in, Bounds, IsFree, IsFreeBefore}
 use Rattle.fixed_job.specs.declared.submission.Submission.{Submission}
 use Rattle.fixed_job.specs.Submitting.{Spell, IsPartial, IsOther}
 

@@ -1,5 +1,5 @@
 -- The frames that bring shares: SubmitSharesStandard (Stratum V2, "Mining Protocol").
-use Rattle.std.specs.Prelude.{ℕ, ◌^◌, ◌≡◌, ◌≢◌, ◌<◌, ◌≤◌, ◌⊎◌, List, [], ◌∷◌, ◌++◌, length, take}
+use Rattle.std.specs.Prelude.{ℕ, ◌^◌, ◌≡◌, ◌<◌, ◌≤◌, ◌⊎◌, List, [], ◌∷◌, ◌++◌, length, take}
 use Rattle.sv2_types.specs.Spelling.{spelled_u32}
 use Rattle.sv2_frames.specs.Framing.{header_of, frame_of}
 use Rattle.fixed_job.specs.declared.submission.Submission.{Submission}
@@ -48,7 +48,6 @@ pub record IsOther (bytes : List ℕ) : Type 0 where
   pub long : 6 ≤ length bytes
   pub header : IsHeader (take 6 bytes) → ⊥
 
--- there are bytes, and they begin with no frame of a submission
-pub record IsNoFrame (bytes : List ℕ) : Type 0 where
-  pub some : bytes ≢ []
-  pub other : (frame more : List ℕ) (s : Submission) → IsFrame frame s → bytes ≡ frame ++ more → ⊥
+-- no frame of a submission begins the bytes
+abbrev pub IsRest : List ℕ → Type 0
+IsRest bytes = (frame more : List ℕ) (s : Submission) → IsFrame frame s → bytes ≡ frame ++ more → ⊥

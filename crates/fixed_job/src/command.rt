@@ -161,7 +161,11 @@ impl Command {
     }
 }
 
-ghost use Rattle.fixed_job.specs.Ending.{Ran};
+ghost use Rattle.pool_io.specs.declared.turn.Turn.{Turn};
+ghost use Rattle.pool_io.specs.Steps.{steps_of, IsIdleOut, IsBytesOut};
+ghost use Rattle.fixed_job.specs.declared.submission.Submission.{Submission};
+ghost use Rattle.fixed_job.specs.Ending.{Ran, EndsAs};
+ghost use Rattle.fixed_job.specs.Reading.{bounds, IsWhole, Stops, ReachesLimit};
 
 /// Judges the shares that the source brings, and puts the answers. The class is 0 to 60.
 pub fn judge_shares<S: Source, T: Sink>(
@@ -175,6 +179,16 @@ pub fn judge_shares<S: Source, T: Sink>(
 
     // What each end says of the input and of what was put.
     ensures ran { Ran class job.now (S.left source.old) (T.held sink.old) (T.held sink.new) result }
+
+    // The steps that the source tells decide the end, but for a fault or want of memory.
+    ensures whole { (told : List Turn) (shares : List Submission) → S.left source.old ≡ Some told
+        → IsWhole (steps_of told) shares → EndsAs FixedEnd.Done result }
+    ensures stops { (told : List Turn) (shares : List Submission) → S.left source.old ≡ Some told
+        → Stops (steps_of told) shares → EndsAs FixedEnd.OtherFrame result }
+    ensures idle_out { (told : List Turn) (shares : List Submission) → S.left source.old ≡ Some told
+        → ReachesLimit (IsIdleOut bounds) (steps_of told) shares → EndsAs FixedEnd.IdleOut result }
+    ensures bytes_out { (told : List Turn) (shares : List Submission) → S.left source.old ≡ Some told
+        → ReachesLimit (IsBytesOut bounds) (steps_of told) shares → EndsAs FixedEnd.BytesOut result }
 
     // A fault is told only where a count rose.
     ensures read_fault { result ≡ FixedEnd.ReadFault → Rose (S.faults source.old) (S.faults source.new) }

@@ -120,6 +120,8 @@ fn is_among(credited: &[Rolled], rolled: &Rolled) -> bool
     ensures { result ≡ list_any (is_same rolled.now) credited.now }
 {
     credited.iter().any(|other| {
-        rolled.version == other.version && rolled.ntime == other.ntime && rolled.nonce == other.nonce
+        rolled.version == other.version
+            && rolled.ntime == other.ntime
+            && rolled.nonce == other.nonce
     })
 }

@@ -71,7 +71,13 @@ impl Stream {
     {
         let share = read_submission(&self.held[HEADER_LEN..]).unwrap();
         let refusal = self.judge.judge(&share)?;
-        put_answer(&mut self.answers, &mut self.payload, self.judge.class, &share, refusal)?;
+        put_answer(
+            &mut self.answers,
+            &mut self.payload,
+            self.judge.class,
+            &share,
+            refusal,
+        )?;
         self.held.clear();
         Ok(())
     }

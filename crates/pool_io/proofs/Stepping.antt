@@ -1,12 +1,11 @@
 -- A reading goes on by one answer of the source.
-use Rattle.std.proofs.Common.{◌≡◌, ℕ, zero, suc, ◌+◌, ◌<◌, ◌≤◌, ◌⊎◌, List, [], ◌∷◌, ◌++◌, length, take, drop, map, Option, Some, None, refl, sym, ap, ◌∙◌, append_assoc, append-nil, arith, length-append, inl, inr}
+use Rattle.std.proofs.Common.{◌≡◌, ℕ, ◌+◌, ◌<◌, ◌≤◌, List, [], ◌∷◌, ◌++◌, length, take, drop, map, Option, Some, None, refl, sym, ap, ◌∙◌, append_assoc, append-nil, arith, length-append, inl, inr}
 use Rattle.std.proofs.lemmas.List.{take-append-drop, map-append, length-map}
 use Rattle.pool_io.specs.declared.turn.Turn.{Turn}
 use Rattle.pool_io.specs.declared.turn.Turn.TheVariants as turn
-use Rattle.pool_io.specs.declared.source.Took.{Took}
 use Rattle.pool_io.specs.declared.source.Took.TheVariants.{Bytes, Idle, End}
 use Rattle.pool_io.specs.Outside.{Takes, TakesBytes, rest_of, IsEnded}
-use Rattle.pool_io.specs.Steps.{Step, steps_of, bytes_in, idles_after, Bounds, IsAtLimit, IsIdleOut, IsBytesOut, IsFree, IsFreeBefore, Brought}
+use Rattle.pool_io.specs.Steps.{Step, steps_of, bytes_in, idles_after, Bounds, IsAtLimit, IsFree, IsFreeBefore, Brought}
 
 pub bytes_in-append : (a b : List Step) → bytes_in (a ++ b) ≡ bytes_in a ++ bytes_in b
 bytes_in-append [] b = refl
@@ -116,14 +115,14 @@ steps_of-ended (turn.Idle ∷ turns) ended = absurd ended
 steps_of-taken : (old new : List Turn) (n : ℕ) (buffer : List ℕ) → TakesBytes old new n buffer → steps_of old ≡ map Some (take n buffer) ++ steps_of new
 steps_of-taken old new n buffer takes =
     let joined : map Some (take n takes.piece) ++ map Some (drop n takes.piece) ≡ map Some takes.piece =
-        sym (map-append Some (take n takes.piece) (drop n takes.piece)) ∙ ap (map Some) (take-append-drop n takes.piece) in
+    sym (map-append Some (take n takes.piece) (drop n takes.piece)) ∙ ap (map Some) (take-append-drop n takes.piece) in
     ap steps_of takes.next
     ∙ sym (
-      ap (λ t. map Some (take n buffer) ++ steps_of t) takes.rest
-      ∙ ap (λ l. map Some (take n buffer) ++ l) (steps_of-rest_of (drop n takes.piece) takes.later)
-      ∙ ap (λ l. map Some l ++ (map Some (drop n takes.piece) ++ steps_of takes.later)) takes.taken
-      ∙ sym (append_assoc (map Some (take n takes.piece)) (map Some (drop n takes.piece)) (steps_of takes.later))
-      ∙ ap (λ l. l ++ steps_of takes.later) joined)
+    ap (λ t. map Some (take n buffer) ++ steps_of t) takes.rest
+    ∙ ap (λ l. map Some (take n buffer) ++ l) (steps_of-rest_of (drop n takes.piece) takes.later)
+    ∙ ap (λ l. map Some l ++ (map Some (drop n takes.piece) ++ steps_of takes.later)) takes.taken
+    ∙ sym (append_assoc (map Some (take n takes.piece)) (map Some (drop n takes.piece)) (steps_of takes.later))
+    ∙ ap (λ l. l ++ steps_of takes.later) joined)
 
 -- nothing was taken yet
 pub brought_none : (turns : Option (List Turn)) → Brought turns turns []
@@ -135,11 +134,11 @@ pub brought_bytes : (turns old new : Option (List Turn)) (steps : List Step) (n 
     → Brought turns old steps → Takes old new (Bytes n) buffer → Brought turns new (steps ++ map Some (take n buffer))
 brought_bytes None old new steps n buffer brought takes = tt
 brought_bytes (Some told) old new steps n buffer brought takes =
-    let took = rw brought.1 at takes in
-    (
-      took.0, took.1,
+    let took = rw brought.1 at takes in (
+      took.0,
+      took.1,
       brought.2 ∙ ap (λ l. steps ++ l) (steps_of-taken brought.0 took.0 n buffer took.2)
-      ∙ sym (append_assoc steps (map Some (take n buffer)) (steps_of took.0)),
+          ∙ sym (append_assoc steps (map Some (take n buffer)) (steps_of took.0)),
     )
 
 -- an Idle answer came
@@ -147,9 +146,9 @@ pub brought_idle : (turns old new : Option (List Turn)) (steps : List Step) (buf
     → Brought turns old steps → Takes old new Idle buffer → Brought turns new (steps ++ None ∷ [])
 brought_idle None old new steps buffer brought takes = tt
 brought_idle (Some told) old new steps buffer brought takes =
-    let took = rw brought.1 at takes in
-    (
-      took.0, took.1,
+    let took = rw brought.1 at takes in (
+      took.0,
+      took.1,
       brought.2 ∙ ap (λ l. steps ++ l) (ap steps_of took.2) ∙ sym (append_assoc steps (None ∷ []) (steps_of took.0)),
     )
 

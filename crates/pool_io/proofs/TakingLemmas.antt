@@ -1,5 +1,5 @@
 -- What a source in memory gives of the piece that comes next.
-use Rattle.std.proofs.Common.{◌≡◌, ℕ, zero, suc, ◌+◌, ◌-◌, ◌<◌, ◌≤◌, List, [], ◌∷◌, ◌++◌, length, get_or, take, drop, refl, ap, sym, ◌∙◌, arith, length-take, length-drop, drop-cons, add-one}
+use Rattle.std.proofs.Common.{◌≡◌, ℕ, zero, suc, ◌+◌, ◌-◌, ◌<◌, ◌≤◌, List, [], ◌∷◌, ◌++◌, length, get_or, take, drop, refl, ap, sym, ◌∙◌, arith, length-drop, drop-cons, add-one}
 use Rattle.std.proofs.lemmas.List.{drop-drop, take_at, length-take-le}
 use Rattle.std.proofs.Math.Seq.{take-length}
 use Rattle.pool_io.specs.declared.turn.Turn.{Turn}

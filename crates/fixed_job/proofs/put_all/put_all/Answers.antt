@@ -1,4 +1,4 @@
-use Rattle.std.proofs.Common.{◌≤◌, arith}
+use Rattle.std.proofs.Common.{arith}
 use Rattle.fixed_job.proofs.Putting.{put_more}
 use Rattle.fixed_job.proofs.put_all.put_all.Goals as goal
 

@@ -1,4 +1,4 @@
-use Rattle.std.proofs.Common.{◌≡◌, ◌+◌, ◌<◌, refl, arith}
+use Rattle.std.proofs.Common.{refl, arith}
 use Rattle.fixed_job.proofs.Running.{idle_leaves, made_idle}
 use Rattle.fixed_job.proofs.command.Command.idle.Goals as goal
 

@@ -1,4 +1,4 @@
-use Rattle.std.proofs.Common.{◌≡◌, ◌+◌, ◌≤◌, ◌++◌, length, drop}
+use Rattle.std.proofs.Common.{◌≤◌, length, drop}
 use Rattle.std.proofs.lemmas.List.{take-append-le}
 use Rattle.pool_io.proofs.Stepping.{brought_bytes, brought_idle}
 use Rattle.fixed_job.proofs.Running.{turns_to, turns_to_end}

@@ -1,4 +1,4 @@
-use Rattle.std.proofs.Common.{◌≡◌, ◌≢◌, length, arith, refl, sym, ◌∙◌}
+use Rattle.std.proofs.Common.{◌≡◌, ◌≢◌, length, arith, refl}
 use Rattle.fixed_job.specs.Submitting.{IsHeader}
 use Rattle.fixed_job.proofs.Streaming.{breaks_at, fills_at, stands_at}
 use Rattle.fixed_job.proofs.stream.Stream.byte.Goals as goal
@@ -19,8 +19,8 @@ pub returns-else-len-eq-FRAME_LEN-clause-ok : goal.returns-else-len-eq-FRAME_LEN
 returns-else-len-eq-FRAME_LEN-clause-ok c =
     let not_whole : length c.push.new.self.items ≢ 30 = λ whole. omega (arith, c.push.new.self.ok.0, c.len-2.ensures, c.if-len-eq-FRAME_LEN.false) in
     let header : length c.push.new.self.items ≡ 6 → IsHeader c.push.new.self.items = λ six.
-        elim c.else-len-eq-HEADER_LEN.branch [
-          | else-len-eq-HEADER_LEN-via-then-len-eq-HEADER_LEN+else-not-is_header w ↦ rw w.deref.ensures.value at (w.if-not-is_header.ensures.0 refl)
-          | else-len-eq-HEADER_LEN-via-else-len-eq-HEADER_LEN w ↦ absurd (omega (arith, c.push.new.self.ok.0, c.len.ensures, w.if-len-eq-HEADER_LEN.false))
-        ] in
+    elim c.else-len-eq-HEADER_LEN.branch [
+      | else-len-eq-HEADER_LEN-via-then-len-eq-HEADER_LEN+else-not-is_header w ↦ rw w.deref.ensures.value at (w.if-not-is_header.ensures.0 refl)
+      | else-len-eq-HEADER_LEN-via-else-len-eq-HEADER_LEN w ↦ absurd (omega (arith, c.push.new.self.ok.0, c.len.ensures, w.if-len-eq-HEADER_LEN.false))
+    ] in
     stands_at _ _ _ c.in_ok-push.ensures.items refl refl not_whole header

@@ -1,4 +1,4 @@
-use Rattle.std.proofs.Common.{◌≡◌, ℕ, ◌-◌, ◌<◌, ◌^◌, List, [], ◌∷◌, ◌++◌, length, take, drop, arith, refl, sym, ap, ◌∙◌, length-drop}
+use Rattle.std.proofs.Common.{◌≡◌, ℕ, ◌-◌, List, ◌++◌, length, take, drop, arith, sym, ap, ◌∙◌, length-drop}
 use Rattle.std.proofs.Math.Seq.{take-length}
 use Rattle.fixed_job.specs.declared.stream.Stream.{Stream}
 use Rattle.fixed_job.specs.Submitting.{Fits, payload_of}

@@ -1,4 +1,3 @@
-use Rattle.std.proofs.Common.{refl, sym, ap, ◌∙◌}
 use Rattle.fixed_job.proofs.Streaming.{stands_first}
 use Rattle.fixed_job.proofs.stream.Stream.new.Goals as goal
 

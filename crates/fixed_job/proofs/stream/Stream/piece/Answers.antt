@@ -1,15 +1,14 @@
 use Rattle.std.proofs.Common.{◌≡◌, ℕ, suc, ◌<◌, List, [], ◌∷◌, ◌++◌, length, take, drop, get_or, sym, ap, ◌∙◌, arith, append_assoc, length-append, drop-cons}
 use Rattle.std.proofs.lemmas.Result.{err_from_is_err_and}
 use Rattle.std.proofs.lemmas.List.{take-append-drop}
-use Rattle.fixed_job.specs.Standing.{Breaks, BreaksIn}
 use Rattle.fixed_job.proofs.stream.Stream.piece.Goals as goal
 
 -- a list at one of its elements
 split_at : (xs : List ℕ) (i : ℕ) → i < length xs → xs ≡ (take i xs ++ get_or xs i 0 ∷ []) ++ drop (suc i) xs
 split_at xs i within = sym (
-  append_assoc (take i xs) (get_or xs i 0 ∷ []) (drop (suc i) xs)
-  ∙ ap (λ l. take i xs ++ l) (sym (drop-cons xs i 0 within))
-  ∙ take-append-drop i xs)
+    append_assoc (take i xs) (get_or xs i 0 ∷ []) (drop (suc i) xs)
+    ∙ ap (λ l. take i xs ++ l) (sym (drop-cons xs i 0 within))
+    ∙ take-append-drop i xs)
 
 pub returns-in_err-byte-clause-other : goal.returns-in_err-byte-clause-other
 returns-in_err-byte-clause-other c =

@@ -1,4 +1,4 @@
-use Rattle.std.proofs.Common.{◌≡◌, ℕ, List, ◌+◌, ◌-◌, ◌≤◌, ◌<◌, ◌∷◌, Some, length, drop, take, refl, sym, ap, ◌∙◌, arith, length-take, length-drop}
+use Rattle.std.proofs.Common.{◌≡◌, ℕ, List, ◌+◌, ◌-◌, ◌≤◌, ◌<◌, ◌∷◌, length, drop, take, refl, ap, ◌∙◌, arith, length-take, length-drop}
 use Rattle.pool_io.proofs.TakingLemmas.{first_at, takes_all, takes_part}
 use Rattle.pool_io.specs.declared.turn.Turn.TheVariants.{Piece}
 use Rattle.pool_io.proofs.memory.source.SureSourceSource.take.Goals as goal
