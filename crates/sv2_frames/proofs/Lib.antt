@@ -1,1 +1,4 @@
+pub mod Cutting
+pub mod Feeding
 pub mod Fronts
+pub mod Standing
