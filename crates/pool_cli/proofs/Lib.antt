@@ -1,0 +1,4 @@
+pub mod JobBytes
+pub mod Hosting
+pub mod OneForm
+pub mod Statuses

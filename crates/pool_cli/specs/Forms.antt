@@ -1,0 +1,34 @@
+-- The forms of a command line.
+use Rattle.std.specs.Prelude.{ℕ, ◌≡◌, ◌<◌, ◌≤◌, ◌^◌, List, [], ◌∷◌, ◌++◌, length, Ok, codes}
+use Rattle.std.specs.Int.{w32, to_le_bytes}
+use Rattle.hex.specs.Hex.{decode_sized}
+use Rattle.fixed_job.specs.declared.judge.Job.{Job}
+use Rattle.pool_cli.specs.declared.words.Form.{Form}
+use Rattle.pool_cli.specs.declared.words.Form.TheVariants.{SoloFixed}
+use Rattle.pool_cli.specs.Numbers.{IsNumber}
+
+-- the bytes are the job's previous hash, merkle root and nbits, as they stand in a header
+pub record IsJob (bytes : List ℕ) (job : Job) : Type 0 where
+  pub prev_hash : length job.prev_hash ≡ 32
+  pub root : length job.root ≡ 32
+  pub nbits : job.nbits < 2 ^ 32
+  pub parts : bytes ≡ job.prev_hash ++ (job.root ++ to_le_bytes w32 job.nbits)
+
+-- `solo fixed CLASS JOBHEX`: a class of at most 60, and a job in 136 hex digits of either case
+pub record IsSoloFixed (words : List (List ℕ)) (class : ℕ) (job : Job) : Type 0 where
+  pub number : List ℕ
+  pub digits : List ℕ
+  pub bytes : List ℕ
+  pub spelled : words ≡ codes "solo" ∷ codes "fixed" ∷ number ∷ digits ∷ []
+  pub is_number : IsNumber number class
+  pub limit : class ≤ 60
+  pub decoded : decode_sized digits 68 ≡ Ok bytes
+  pub is_job : IsJob bytes job
+
+-- the words are of this form
+abbrev pub IsForm : List (List ℕ) → Form → Type 0
+IsForm words (SoloFixed class job) = IsSoloFixed words class job
+
+-- the words are none of the forms
+abbrev pub HasNoForm : List (List ℕ) → Type 0
+HasNoForm words = (form : Form) → IsForm words form → ⊥

@@ -1,0 +1,89 @@
+-- What the top call says of the command `solo fixed`.
+use Rattle.std.specs.Prelude.{ℕ, ◌≡◌, ◌≤◌, ◌⊎◌, List, [], ◌∷◌, ◌++◌, Option, Some}
+use Rattle.pool_base.specs.Counts.{Rose}
+use Rattle.pool_io.specs.declared.turn.Turn.{Turn}
+use Rattle.pool_io.specs.Lending.{Lending}
+use Rattle.pool_io.specs.Outside.{Adds}
+use Rattle.pool_io.specs.Seen.{Seen}
+use Rattle.pool_io.specs.Steps.{Step, steps_of, IsIdleOut, IsBytesOut}
+use Rattle.fixed_job.specs.declared.judge.Job.{Job}
+use Rattle.fixed_job.specs.declared.submission.Submission.{Submission}
+use Rattle.fixed_job.specs.declared.command.FixedEnd.{FixedEnd}
+use Rattle.fixed_job.specs.declared.command.FixedEnd.TheVariants.{Done, OtherFrame, IdleOut, BytesOut, ReadFault, WriteFault, Memory}
+use Rattle.pool_cli.specs.declared.words.Form.{Form}
+use Rattle.pool_cli.specs.declared.words.Form.TheVariants.{SoloFixed}
+use Rattle.fixed_job.specs.Reading.{bounds, IsWhole, Stops, ReachesLimit}
+use Rattle.fixed_job.specs.Answers.{answers_to}
+use Rattle.fixed_job.specs.Ending.{Ran, EndsAs}
+
+-- the status of each end of a fixed job
+abbrev pub status_of : FixedEnd → ℕ
+status_of Done = 0
+status_of OtherFrame = 3
+status_of ReadFault = 4
+status_of WriteFault = 5
+status_of Memory = 8
+status_of IdleOut = 10
+status_of BytesOut = 10
+
+-- one more came back, and as many are out as before
+pub record CameBack {T : Type 0} (old new : Lending T) (item : T) : Type 0 where
+  pub lent : new.lent ≡ old.lent
+  pub back : new.back ≡ old.back ++ item ∷ []
+
+-- A source and a sink were given, the job was judged from the one to the other, and both came back.
+pub record FixedRan {S T : Type 0} (read_faults : S → ℕ) (held : T → Option (List ℕ)) (write_faults : T → ℕ)
+    (class : ℕ) (job : Job) (old new : Seen S T) (status : ℕ) : Type 0 where
+  pub source : S
+  pub sink : T
+  pub sources : CameBack old.sources new.sources source
+  pub sinks : CameBack old.sinks new.sinks sink
+  pub end : FixedEnd
+  pub answer : status ≡ status_of end
+  pub ran : Ran class job old.input old.output (held sink) end
+  pub whole : (told : List Turn) (shares : List Submission) → old.input ≡ Some told → IsWhole (steps_of told) shares → EndsAs Done end
+  pub stops : (told : List Turn) (shares : List Submission) → old.input ≡ Some told → Stops (steps_of told) shares → EndsAs OtherFrame end
+  pub idle_out : (told : List Turn) (shares : List Submission) → old.input ≡ Some told → ReachesLimit (IsIdleOut bounds) (steps_of told) shares → EndsAs IdleOut end
+  pub bytes_out : (told : List Turn) (shares : List Submission) → old.input ≡ Some told → ReachesLimit (IsBytesOut bounds) (steps_of told) shares → EndsAs BytesOut end
+  pub read_fault : end ≡ ReadFault → Rose 0 (read_faults source)
+  pub write_fault : end ≡ WriteFault → Rose 0 (write_faults sink)
+
+-- The host gave no source or no sink; a source that it gave has come back.
+pub record NotGiven {S T : Type 0} (old new : Seen S T) (status : ℕ) : Type 0 where
+  pub sources : new.sources.lent ≡ old.sources.lent
+  pub sinks : new.sinks.lent ≡ old.sinks.lent
+  pub cause : (status ≡ 8) ⊎ ((status ≡ 7) × Rose old.faults new.faults)
+
+-- what the words asked for was done
+abbrev pub Does : {S T : Type 0} → (S → ℕ) → (T → Option (List ℕ)) → (T → ℕ) → Form → Seen S T → Seen S T → ℕ → Type 0
+Does read_faults held write_faults (SoloFixed class job) old new status =
+    FixedRan read_faults held write_faults class job old new status ⊎ NotGiven old new status
+
+-- the numbers of a form are within their limits
+abbrev pub IsWithinLimits : Form → Type 0
+IsWithinLimits (SoloFixed class job) = class ≤ 60
+
+-- a sink came back that holds these bytes more than standard output did
+abbrev pub HandsBack : {S T : Type 0} → (T → Option (List ℕ)) → Seen S T → Seen S T → List ℕ → Type 0
+HandsBack {S} {T} held old new given = (sink : T) × (new.sinks.back ≡ old.sinks.back ++ sink ∷ []) × Adds old.output (held sink) given
+
+-- a source came back whose count rose
+abbrev pub ReadRose : {S T : Type 0} → (S → ℕ) → Seen S T → Seen S T → Type 0
+ReadRose {S} {T} faults old new = (source : S) × (new.sources.back ≡ old.sources.back ++ source ∷ []) × Rose 0 (faults source)
+
+-- a sink came back whose count rose
+abbrev pub WriteRose : {S T : Type 0} → (T → ℕ) → Seen S T → Seen S T → Type 0
+WriteRose {S} {T} faults old new = (sink : T) × (new.sinks.back ≡ old.sinks.back ++ sink ∷ []) × Rose 0 (faults sink)
+
+-- where standard input tells its turns: they end so after some submissions, and what compares so with the answers to them was given
+abbrev pub Told : (List Step → List Submission → Type 0) → (List ℕ → List ℕ → Type 0) → (List ℕ → Type 0) → ℕ → Job → Option (List Turn) → Type 0
+Told Ends Compare Gives class job input = (told : List Turn) → input ≡ Some told
+    → (shares : List Submission) × Ends (steps_of told) shares × (given : List ℕ) × Compare given (answers_to class job shares) × Gives given
+
+-- 36,000 Idle answers in a row, or 2^40 bytes
+abbrev pub ReachesEither : List Step → List Submission → Type 0
+ReachesEither steps shares = ReachesLimit (IsIdleOut bounds) steps shares ⊎ ReachesLimit (IsBytesOut bounds) steps shares
+
+-- the status is that of a fault or of want of memory
+abbrev pub IsFaultStatus : ℕ → Type 0
+IsFaultStatus status = (status ≡ 4) ⊎ (status ≡ 5) ⊎ (status ≡ 7) ⊎ (status ≡ 8)

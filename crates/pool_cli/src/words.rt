@@ -1,0 +1,102 @@
+// The words of a command line, and the forms that they may have.
+ghost use Rattle.std.specs.Prelude.{◌≡◌, ◌↔◌, ◌<◌, ◌^◌, ℕ, List, string_bytes, length, IsTrue, IfSome, IfNone, Ok};
+ghost use Rattle.hex.specs.Hex.{decode_sized};
+ghost use Rattle.pool_cli.specs.Numbers.{IsNumber};
+ghost use Rattle.pool_cli.specs.Forms.{IsJob, IsForm};
+
+use fixed_job::Job;
+use hex::FromHex;
+use std::marker::Model;
+
+/// A word of the command line: a text of any length.
+#[derive(Drop)]
+pub struct Word {
+    text: String,
+}
+
+impl Model for Word {
+    ghost use Rattle.std.specs.Prelude.{ℕ, List, string_bytes};
+
+    ghost Value = { List ℕ };
+
+    ghost view = { λ w. string_bytes w.text };
+}
+
+impl Word {
+    pub fn of(text: String) -> Word
+        ensures { result ≡ string_bytes text }
+    {
+        Word { text }
+    }
+
+    pub fn text(&self) -> &str
+        ensures { result.now ≡ self.now }
+    {
+        self.text.as_str()
+    }
+
+    fn says(&self, text: &str) -> bool
+        ensures { IsTrue result ↔ (self.now ≡ text.now) }
+    {
+        self.text.as_str() == text
+    }
+}
+
+/// What the words ask for.
+#[derive(Drop)]
+pub enum Form {
+    /// `solo fixed CLASS JOBHEX`
+    SoloFixed { class: u8, job: Job },
+}
+
+/// The form that the words have, if they have one.
+pub fn form_of(words: &[Word]) -> Option<Form>
+    ensures found { IfSome result (IsForm words.now) }
+    ensures none { IfNone result ((form : _) → IsForm words.now form → ⊥) }
+{
+    let [solo, fixed, class, job] = words else {
+        return None;
+    };
+    if !solo.says("solo") || !fixed.says("fixed") {
+        return None;
+    }
+    let class = number(class.text()).filter(|class| *class <= 60)?;
+    let job = <[u8; 68]>::from_hex(job.text()).ok()?;
+    Some(Form::SoloFixed {
+        class: class as u8,
+        job: job_of(&job),
+    })
+}
+
+/// A number: `0`, or digits without a leading zero.
+fn number(text: &str) -> Option<u64>
+    ensures found { IfSome result (IsNumber text.now) }
+    ensures none { IfNone result ((n : ℕ) → n < 2 ^ 64 → IsNumber text.now n → ⊥) }
+{
+    let first = *text.as_bytes().first()?;
+    if first == b'+' || (first == b'0' && text.len() > 1) {
+        return None;
+    }
+    text.parse().ok()
+}
+
+/// The job whose previous hash, merkle root and nbits these are.
+fn job_of(bytes: &[u8]) -> Job
+    requires { length bytes.now ≡ 68 }
+    ensures { IsJob bytes.now result }
+{
+    Job {
+        prev_hash: hash_of(&bytes[..32]),
+        root: hash_of(&bytes[32..64]),
+        nbits: u32::from_le_bytes([bytes[64], bytes[65], bytes[66], bytes[67]]),
+    }
+}
+
+fn hash_of(bytes: &[u8]) -> [u8; 32]
+    requires { length bytes.now ≡ 32 }
+    ensures { result ≡ bytes.now }
+{
+    let mut hash = [0; 32];
+    hash.copy_from_slice(bytes);
+    hash
+}
