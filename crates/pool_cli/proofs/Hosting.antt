@@ -1,5 +1,5 @@
 -- A host that gave a source and a sink, and took both back.
-use Rattle.std.proofs.Common.{◌≡◌, ℕ, ◌+◌, ◌-◌, List, refl, sym, ap, ◌∙◌, arith}
+use Rattle.std.proofs.Common.{◌≡◌, ap, ◌∙◌, arith}
 use Rattle.pool_io.specs.Lending.{Lending, lent_one, with_back}
 use Rattle.pool_io.specs.Seen.{Seen}
 use Rattle.pool_cli.specs.Running.{CameBack}
@@ -17,15 +17,15 @@ module _ {S T : Type 0} (start first second third last : Seen S T) (source : S) 
     (sink_done : last ≡ record third { sinks = with_back third.sinks sink }) where
   pub sources_back : CameBack start.sources last.sources source
   sources_back = came_back start.sources last.sources source (
-    ap (λ (h : Seen S T). h.sources) sink_done
-    ∙ ap (λ (h : Seen S T). h.sources) source_done
-    ∙ ap (λ l. with_back l source) (ap (λ (h : Seen S T). h.sources) output ∙ ap (λ (h : Seen S T). h.sources) input))
+      ap (λ (h : Seen S T). h.sources) sink_done
+      ∙ ap (λ (h : Seen S T). h.sources) source_done
+      ∙ ap (λ l. with_back l source) (ap (λ (h : Seen S T). h.sources) output ∙ ap (λ (h : Seen S T). h.sources) input))
 
   pub sinks_back : CameBack start.sinks last.sinks sink
   sinks_back = came_back start.sinks last.sinks sink (
-    ap (λ (h : Seen S T). h.sinks) sink_done
-    ∙ ap (λ l. with_back l sink) (ap (λ (h : Seen S T). h.sinks) source_done ∙ ap (λ (h : Seen S T). h.sinks) output)
-    ∙ ap (λ l. with_back (lent_one l) sink) (ap (λ (h : Seen S T). h.sinks) input))
+      ap (λ (h : Seen S T). h.sinks) sink_done
+      ∙ ap (λ l. with_back l sink) (ap (λ (h : Seen S T). h.sinks) source_done ∙ ap (λ (h : Seen S T). h.sinks) output)
+      ∙ ap (λ l. with_back (lent_one l) sink) (ap (λ (h : Seen S T). h.sinks) input))
 
 -- what standard output holds is as before the input was given
 pub same_output : {S T : Type 0} (start first : Seen S T) → first ≡ record start { input = first.input; sources = lent_one start.sources } → first.output ≡ start.output

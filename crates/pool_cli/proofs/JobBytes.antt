@@ -1,5 +1,5 @@
 -- The parts of a job's 68 bytes.
-use Rattle.std.proofs.Common.{◌≡◌, ℕ, ◌+◌, ◌<◌, ◌^◌, List, [], ◌∷◌, ◌++◌, length, get_or, take, drop, refl, sym, ap, ◌∙◌, arith, drop-cons, length-take, length-drop}
+use Rattle.std.proofs.Common.{◌≡◌, ℕ, ◌+◌, ◌<◌, List, [], ◌∷◌, ◌++◌, length, get_or, take, drop, refl, sym, ap, ◌∙◌, arith, drop-cons}
 use Rattle.std.specs.Int.{w32, to_le_bytes, from_le_bytes}
 use Rattle.std.proofs.lemmas.List.{take-append-drop, drop_all, drop-drop, get_or-drop}
 use Rattle.std.proofs.lemmas.Nat.{le_bytes_4}
@@ -22,6 +22,6 @@ module _ (bytes : List ℕ) (whole : length bytes ≡ 68) where
       let each : (i : ℕ) → get_or four i 0 < 256 = λ i. rw (← last_four, get_or-drop) (fits (64 + i)) in
       let number_bytes : to_le_bytes w32 number ≡ drop 64 bytes = le_bytes_4 four number refl each is ∙ sym last_four in
       sym (
-        ap (λ l. take 32 bytes ++ (take 32 (drop 32 bytes) ++ l)) (number_bytes ∙ sym (drop-drop 32 32 bytes))
-        ∙ ap (λ l. take 32 bytes ++ l) (take-append-drop 32 (drop 32 bytes))
-        ∙ take-append-drop 32 bytes)
+      ap (λ l. take 32 bytes ++ (take 32 (drop 32 bytes) ++ l)) (number_bytes ∙ sym (drop-drop 32 32 bytes))
+      ∙ ap (λ l. take 32 bytes ++ l) (take-append-drop 32 (drop 32 bytes))
+      ∙ take-append-drop 32 bytes)

@@ -1,5 +1,5 @@
 -- Words have one class and one job.
-use Rattle.std.proofs.Common.{◌≡◌, ℕ, ◌<◌, ◌^◌, List, [], ◌∷◌, ◌++◌, length, take, drop, ◌⊎◌, Option, Ok, refl, sym, ap, ◌∙◌}
+use Rattle.std.proofs.Common.{◌≡◌, ℕ, List, ◌++◌, take, drop, ◌⊎◌, Option, sym, ap, ◌∙◌}
 use Rattle.std.specs.Int.{w32, to_le_bytes, from_le_bytes}
 use Rattle.std.proofs.lemmas.List.{take_at, drop_at}
 use Rattle.std.proofs.lemmas.Nat.{from_le_bytes-to_le_bytes_4}
@@ -19,9 +19,9 @@ one_job bytes other a b same a_is b_is =
     let number = λ (j : Job). to_le_bytes w32 j.nbits in
     let joined : a.prev_hash ++ (a.root ++ number a) ≡ b.prev_hash ++ (b.root ++ number b) = sym a_is.parts ∙ same ∙ b_is.parts in
     let prev_hash : a.prev_hash ≡ b.prev_hash =
-        sym (take_at a.prev_hash (a.root ++ number a) 32 a_is.prev_hash) ∙ ap (take 32) joined ∙ take_at b.prev_hash (b.root ++ number b) 32 b_is.prev_hash in
+    sym (take_at a.prev_hash (a.root ++ number a) 32 a_is.prev_hash) ∙ ap (take 32) joined ∙ take_at b.prev_hash (b.root ++ number b) 32 b_is.prev_hash in
     let rest : a.root ++ number a ≡ b.root ++ number b =
-        sym (drop_at a.prev_hash (a.root ++ number a) 32 a_is.prev_hash) ∙ ap (drop 32) joined ∙ drop_at b.prev_hash (b.root ++ number b) 32 b_is.prev_hash in
+    sym (drop_at a.prev_hash (a.root ++ number a) 32 a_is.prev_hash) ∙ ap (drop 32) joined ∙ drop_at b.prev_hash (b.root ++ number b) 32 b_is.prev_hash in
     let root : a.root ≡ b.root = sym (take_at a.root (number a) 32 a_is.root) ∙ ap (take 32) rest ∙ take_at b.root (number b) 32 b_is.root in
     let last : number a ≡ number b = sym (drop_at a.root (number a) 32 a_is.root) ∙ ap (drop 32) rest ∙ drop_at b.root (number b) 32 b_is.root in
     let nbits : a.nbits ≡ b.nbits = sym (from_le_bytes-to_le_bytes_4 a.nbits a_is.nbits) ∙ ap (from_le_bytes w32) last ∙ from_le_bytes-to_le_bytes_4 b.nbits b_is.nbits in

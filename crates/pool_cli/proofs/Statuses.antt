@@ -1,16 +1,14 @@
 -- Each status of the command says what its end says.
-use Rattle.std.proofs.Common.{◌≡◌, ℕ, ◌⊎◌, List, [], ◌∷◌, ◌++◌, ◌<◌, Option, Some, refl, sym, ap, ◌∙◌, inl, inr, arith}
-use Rattle.pool_base.specs.Counts.{Rose}
+use Rattle.std.proofs.Common.{◌≡◌, ℕ, ◌⊎◌, List, [], ◌∷◌, Option, Some, refl, sym, ap, ◌∙◌, inl, inr, arith}
 use Rattle.pool_base.specs.Lists.{Begins}
 use Rattle.pool_io.specs.declared.turn.Turn.{Turn}
 use Rattle.pool_io.specs.Seen.{Seen}
-use Rattle.pool_io.specs.Steps.{Step, steps_of, IsIdleOut, IsBytesOut}
+use Rattle.pool_io.specs.Steps.{Step, steps_of}
 use Rattle.fixed_job.specs.declared.judge.Job.{Job}
 use Rattle.fixed_job.specs.declared.submission.Submission.{Submission}
 use Rattle.fixed_job.specs.declared.command.FixedEnd.{FixedEnd}
 use Rattle.fixed_job.specs.declared.command.FixedEnd.TheVariants as end
-use Rattle.fixed_job.specs.Answers.{answers_to}
-use Rattle.fixed_job.specs.Reading.{bounds, IsWhole, Stops, ReachesLimit}
+use Rattle.fixed_job.specs.Reading.{IsWhole, Stops}
 use Rattle.fixed_job.specs.Ending.{EndsBy, EndsAs, IsFault, Answers, Equal, HasBrought, HasSpelled}
 use Rattle.std.specs.Prelude.{Contains}
 use Rattle.pool_cli.specs.declared.words.Form.{Form}

@@ -17,7 +17,10 @@ use pool_io::{Host, HostError};
 use std::alloc::Global;
 
 /// The words are none of the forms.
-const USAGE: u8 = 2;
+pub const USAGE: u8 = 2;
+
+/// There was no memory.
+pub const MEMORY: u8 = 8;
 
 /// Does what the words ask for, and answers the status of the process. Everything that the host gave comes back.
 pub fn run<H: Host>(alloc: Global, host: &mut H, words: &[Word]) -> u8
@@ -110,7 +113,7 @@ fn refused(error: HostError) -> u8
 {
     match error {
         HostError::Failed => 7,
-        HostError::Memory => 8,
+        HostError::Memory => MEMORY,
     }
 }
 
@@ -124,7 +127,7 @@ fn status(end: FixedEnd) -> u8
         FixedEnd::OtherFrame => 3,
         FixedEnd::ReadFault => 4,
         FixedEnd::WriteFault => 5,
-        FixedEnd::Memory => 8,
+        FixedEnd::Memory => MEMORY,
         FixedEnd::IdleOut | FixedEnd::BytesOut => 10,
     }
 }

@@ -1,4 +1,4 @@
-use Rattle.std.proofs.Common.{◌≡◌, ◌⊎◌, ℕ, arith}
+use Rattle.std.proofs.Common.{◌⊎◌, ℕ, arith}
 use Rattle.pool_base.specs.Lists.{Begins}
 use Rattle.fixed_job.specs.declared.judge.Job.{Job}
 use Rattle.fixed_job.specs.Ending.{Equal, HasBrought, HasSpelled}
@@ -14,7 +14,7 @@ use Rattle.pool_cli.proofs.run.run.Goals.{After-perform}
 -- the command that the words ask for was done
 asked : (g : _) (c : After-perform g) (class : ℕ) (job : Job) → IsSoloFixed c.args.words.now class job
     → FixedRan g.H.S.Source.faults g.H.T.Sink.held g.H.T.Sink.faults class job (g.H.Host.seen c.args.host.now) (g.H.Host.seen c.perform.new.host) c.perform.result
-      ⊎ NotGiven (g.H.Host.seen c.args.host.now) (g.H.Host.seen c.perform.new.host) c.perform.result
+    ⊎ NotGiven (g.H.Host.seen c.args.host.now) (g.H.Host.seen c.perform.new.host) c.perform.result
 asked g c class job form =
     was_asked g.H.S.Source.faults g.H.T.Sink.held g.H.T.Sink.faults c.args.words.now c.in-Some.form (g.H.Host.seen c.args.host.now) (g.H.Host.seen c.perform.new.host) c.perform.result
     c.in-Some.ensures.found c.perform.ensures.does class job form

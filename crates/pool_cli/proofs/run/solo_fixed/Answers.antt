@@ -1,6 +1,4 @@
-use Rattle.std.proofs.Common.{◌≡◌, inl, refl, sym, ap, ◌∙◌}
-use Rattle.pool_base.specs.Counts.{Rose}
-use Rattle.pool_cli.specs.Running.{FixedRan, NotGiven, status_of}
+use Rattle.std.proofs.Common.{inl, ◌∙◌}
 use Rattle.pool_cli.proofs.Hosting.{sources_back, sinks_back, same_output}
 use Rattle.pool_cli.proofs.run.solo_fixed.Goals as goal
 

@@ -1,0 +1,128 @@
+// The edge: standard input and output as a source and a sink. Nothing is known of what they bring or hold.
+ghost use Rattle.std.specs.Prelude.{◌≡◌};
+
+use pool_io::{Host, HostError, Shelf, Sink, SinkFailed, Source, Took};
+use std::alloc::Global;
+use std::io::{ErrorKind, Read, Write};
+
+/// A reader as a source. A read that was interrupted or would block is Idle; any other error is counted.
+#[derive(Drop)]
+pub struct ReadSource<R: Read + Drop> {
+    reader: R,
+    faults: u64,
+}
+
+impl<R: Read + Drop> ReadSource<R> {
+    pub fn new(reader: R) -> ReadSource<R>
+        ensures { result.faults ≡ 0 }
+    {
+        ReadSource { reader, faults: 0 }
+    }
+}
+
+impl<R: Read + Drop> Source for ReadSource<R> {
+    ghost use Rattle.std.specs.Prelude.{None};
+
+    ghost faults = { λ s. s.faults };
+
+    ghost left = { λ _. None };
+
+    fn take(&mut self, buffer: &mut [u8]) -> Took {
+        match self.reader.read(buffer) {
+            Ok(0) => Took::End,
+            Ok(count) => Took::Bytes(count),
+            Err(error) => match error.kind() {
+                ErrorKind::Interrupted | ErrorKind::WouldBlock => Took::Idle,
+                _ => {
+                    self.faults = self.faults.saturating_add(1);
+                    Took::Failed
+                }
+            },
+        }
+    }
+}
+
+/// A writer as a sink. Each error is counted, and so is a write that takes nothing.
+#[derive(Drop)]
+pub struct WriteSink<W: Write + Drop> {
+    writer: W,
+    faults: u64,
+}
+
+impl<W: Write + Drop> WriteSink<W> {
+    pub fn new(writer: W) -> WriteSink<W>
+        ensures { result.faults ≡ 0 }
+    {
+        WriteSink { writer, faults: 0 }
+    }
+}
+
+impl<W: Write + Drop> Sink for WriteSink<W> {
+    ghost use Rattle.std.specs.Prelude.{None};
+
+    ghost faults = { λ s. s.faults };
+
+    ghost held = { λ _. None };
+
+    fn put(&mut self, piece: &[u8]) -> Result<usize, SinkFailed> {
+        match self.writer.write(piece) {
+            Ok(count) if count > 0 => Ok(count),
+            _ => {
+                self.faults = self.faults.saturating_add(1);
+                Err(SinkFailed::Failed)
+            }
+        }
+    }
+}
+
+/// The host of a program that reads `R` and writes `W`. It never fails but for want of memory.
+#[derive(Drop)]
+pub struct StreamHost<R: Read + Copy + Drop, W: Write + Copy + Drop> {
+    input: R,
+    output: W,
+    sources: Shelf<ReadSource<R>>,
+    sinks: Shelf<WriteSink<W>>,
+}
+
+impl<R: Read + Copy + Drop, W: Write + Copy + Drop> StreamHost<R, W> {
+    pub fn new(alloc: Global, input: R, output: W) -> StreamHost<R, W> {
+        StreamHost {
+            input,
+            output,
+            sources: Shelf::new(alloc),
+            sinks: Shelf::new(alloc),
+        }
+    }
+}
+
+impl<R: Read + Copy + Drop, W: Write + Copy + Drop> Host for StreamHost<R, W> {
+    ghost use Rattle.std.specs.Prelude.{None};
+
+    type S = ReadSource<R>;
+
+    type T = WriteSink<W>;
+
+    ghost seen = { λ h. record { faults = 0; input = None; output = None; sources = h.sources; sinks = h.sinks } };
+
+    fn input(&mut self) -> Result<ReadSource<R>, HostError> {
+        if self.sources.lend().is_err() {
+            return Err(HostError::Memory);
+        }
+        Ok(ReadSource::new(self.input))
+    }
+
+    fn output(&mut self) -> Result<WriteSink<W>, HostError> {
+        if self.sinks.lend().is_err() {
+            return Err(HostError::Memory);
+        }
+        Ok(WriteSink::new(self.output))
+    }
+
+    fn done_source(&mut self, source: ReadSource<R>) {
+        self.sources.take_back(source);
+    }
+
+    fn done_sink(&mut self, sink: WriteSink<W>) {
+        self.sinks.take_back(sink);
+    }
+}
