@@ -1,4 +1,6 @@
 pub mod Cutting
 pub mod Feeding
 pub mod Fronts
+pub mod Handing
 pub mod Standing
+pub mod Streams

@@ -1,10 +1,12 @@
 -- What bytes that end where their frame does are.
-use Rattle.std.proofs.Common.{◌≡◌, ℕ, ◌+◌, ◌*◌, ◌<◌, ◌≤◌, ◌^◌, List, [], ◌∷◌, ◌++◌, length, take, refl, sym, ap, ◌∙◌, inl, inr, arith}
+use Rattle.std.proofs.Common.{◌≡◌, ℕ, ◌+◌, ◌*◌, ◌<◌, ◌≤◌, ◌^◌, List, [], ◌∷◌, ◌++◌, length, min, take, drop, refl, sym, ap, ◌∙◌, inl, inr, arith}
 use Rattle.std.proofs.lemmas.Bool.{le-ltb, lt-ltb, cases_lt}
-use Rattle.std.proofs.lemmas.List.{nil_from_length, get_or-take, get_or_past, length-take}
+use Rattle.std.proofs.lemmas.List.{append-nil, nil_from_length, get_or-take, get_or_past, length-take, length-append, take-append-drop}
 use Rattle.sv2_frames.specs.Framing.{header_of, payload_length}
-use Rattle.sv2_frames.specs.Holding.{frame_end, IsFull}
-use Rattle.sv2_frames.proofs.Cutting.{IsBytes, header_again, payload_length-header}
+use Rattle.sv2_frames.specs.Holding.{Holding, frame_end, HoldsFrame, IsHeldFrame, IsFull, IsCutWithin}
+use Rattle.sv2_frames.proofs.Cutting.{IsBytes, header_again, payload_length-header, cut_short, short_not_over}
+use Rattle.sv2_frames.proofs.Feeding.{frame_end-front, frame_end-least}
+use Rattle.sv2_frames.proofs.Streams.{cut_has_no_frame}
 
 pub frame_end-over : (limit : ℕ) (bytes : List ℕ) → 6 ≤ length bytes → limit < payload_length bytes → frame_end limit bytes ≡ 6
 frame_end-over limit bytes there over = rw (le-ltb (length bytes) 6 there, lt-ltb limit (payload_length bytes) over) refl
@@ -79,3 +81,38 @@ full_is limit held (inr over) =
     let says : payload_length held ≡ over.0 = ap payload_length o.header ∙ payload_length-header o.ext o.kind over.0 [] o.length_fits in
     let end = frame_end-over limit held (omega (arith, len)) (omega (arith, says, o.over)) in
     (omega (arith, len), omega (arith, len, end))
+
+-- what is full is not cut
+pub full_not_cut : (holding : Holding) → IsFull holding → IsCutWithin holding → ⊥
+full_not_cut holding (inl frame) cut =
+    cut_has_no_frame holding.held frame.frame [] cut.cut frame.fits (frame.whole ∙ sym (append-nil _))
+full_not_cut holding (inr over) cut = cut.not_over over.0 over.1
+
+-- where what is held is still cut, all of the piece was taken
+pub cut_takes_all : (limit taken : ℕ) (held piece new : List ℕ) → new ≡ held ++ take taken piece
+    → new ≡ take (frame_end limit (held ++ piece)) (held ++ piece) → taken ≤ length piece → IsBytes new
+    → IsCutWithin (record { held = new; limit = limit }) → taken ≡ length piece
+cut_takes_all limit taken held piece new bytes ends fits are_bytes cut =
+    let all : List ℕ = held ++ piece in
+    let end : ℕ = frame_end limit all in
+    let len : length new ≡ length held + taken = omega (arith, ap length bytes, length-append held (take taken piece), length-take taken piece) in
+    let front : length new ≡ min end (length all) = ap length ends ∙ length-take end all in
+    let whole = length-append held piece in
+    elim (cases_lt taken (length piece)) [
+      | inl left ↦
+          let full : length new ≡ end = omega (arith, len, front, whole) in
+          let there : 6 ≤ length new = omega (arith, full, frame_end-least limit all) in
+          let split : all ≡ new ++ drop end all = sym (take-append-drop end all) ∙ ap (λ xs. xs ++ drop end all) (sym ends) in
+          let same : frame_end limit all ≡ frame_end limit new = ap (frame_end limit) split ∙ frame_end-front limit new (drop end all) there in
+          absurd (full_not_cut _ (full_stands limit new are_bytes there (full ∙ same)) cut)
+      | inr done ↦ omega (arith, fits)
+    ]
+
+-- nothing is a proper prefix of a frame
+pub nothing_is_cut : (limit : ℕ) → IsCutWithin (record { held = []; limit = limit })
+nothing_is_cut limit = record { cut = cut_short [] (λ i. omega arith) (omega arith); not_over = short_not_over _ (omega arith) }
+
+-- a held frame is a frame that is held
+pub frame_is_held : (ext kind : ℕ) (payload : List ℕ) (holding : Holding) → IsHeldFrame ext kind payload holding → HoldsFrame holding
+frame_is_held ext kind payload holding held =
+    record { frame = record { ext = ext; kind = kind; payload = payload }; fits = held.fits; within = held.within; whole = held.whole }

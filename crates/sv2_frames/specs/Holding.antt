@@ -1,6 +1,6 @@
 -- What a splitter holds (this project's own).
 use Rattle.std.specs.Prelude.{◌≡◌, ◌≢◌, ◌⊎◌, ℕ, ◌+◌, ◌<◌, ◌≤◌, ◌^◌, if◌then◌else◌, nat_lt, List, [], ◌++◌, length, take}
-use Rattle.sv2_frames.specs.Framing.{header_of, frame_of, FrameValue, bytes_of, IsFrame, payload_length}
+use Rattle.sv2_frames.specs.Framing.{header_of, frame_of, FrameValue, FrameFits, bytes_of, IsFrame, payload_length}
 
 -- what contracts see of a splitter: the bytes that are held, and the limit on a payload
 pub record Holding : Type 0 where
@@ -44,8 +44,8 @@ IsFull holding = HoldsFrame holding ⊎ ((len : ℕ) × HoldsOver len holding)
 -- just this frame is held, within the limit
 pub record IsHeldFrame (ext kind : ℕ) (payload : List ℕ) (holding : Holding) : Type 0 where
   pub whole : holding.held ≡ frame_of ext kind payload
+  pub fits : FrameFits ext kind payload
   pub within : length payload ≤ holding.limit
-  pub length_fits : length payload < 2 ^ 24
 
 -- a proper prefix of a frame is held, and no header over the limit
 pub record IsCutWithin (holding : Holding) : Type 0 where

@@ -1,2 +1,4 @@
 pub mod Framing
 pub mod Holding
+pub mod Running
+pub mod Stream

@@ -70,6 +70,7 @@ pub(crate) fn take_in(buffer: &mut [u8], held: usize, limit: u32, piece: &[u8]) 
     ensures bytes { take (held + result) buffer.new ≡ take held buffer.old ++ take result piece.now }
     ensures end { let all = take held buffer.old ++ piece.now in take (held + result) buffer.new ≡ take (frame_end limit all) all }
     ensures none { (result ≡ 0) ↔ ((piece.now ≡ []) ⊎ IsFull (record { held = take held buffer.old; limit = limit })) }
+    ensures all { IsCutWithin (record { held = take (held + result) buffer.new; limit = limit }) → result ≡ length piece.now }
     ensures kept { IsBuffer buffer.new (held + result) limit }
 {
     let first = fill(buffer, held, HEADER_LEN, piece);
@@ -83,6 +84,7 @@ pub(crate) fn take_in(buffer: &mut [u8], held: usize, limit: u32, piece: &[u8]) 
 pub(crate) fn frame_in(held: &[u8], limit: u32) -> Result<Option<Frame<'_>>, TooLong>
     requires { length held.now ≤ frame_end limit held.now }
     ensures frame { IfOk result (λ found. IfSome found (λ f. IsHeldFrame f.ext f.kind f.payload.now (record { held = held.now; limit = limit }))) }
+    ensures held { IfOk result (λ found. IfSome found (λ _. HoldsFrame (record { held = held.now; limit = limit }))) }
     ensures whole { HoldsFrame (record { held = held.now; limit = limit }) → IsOkAnd result (λ found. IsSome found) }
     ensures none { IsOkAnd result (λ found. IsNone found) ↔ IsCutWithin (record { held = held.now; limit = limit }) }
     ensures too_long { IfErr result (λ e. HoldsOver e.0 (record { held = held.now; limit = limit })) }

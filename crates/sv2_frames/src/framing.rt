@@ -2,6 +2,7 @@
 
 ghost use Rattle.std.specs.Prelude.{◌≡◌, ◌<◌, ◌^◌, ◌++◌, length, OnOk, OnErr};
 ghost use Rattle.sv2_frames.specs.Framing.{frame_of, header_of, NoFrameBeginsAnother};
+ghost use Rattle.sv2_frames.specs.Stream.{FramesExist, FramesAreUnique};
 
 use std::alloc::AllocError;
 
@@ -39,4 +40,14 @@ fn header_of(ext: u16, kind: u8, len: u32) -> [u8; 6]
 /// A law of the format: a stream can begin with one frame only.
 pub fn no_frame_begins_another()
     ensures { NoFrameBeginsAnother }
+{}
+
+/// A law of the format: a stream has frames and a rest that is a proper prefix of one.
+pub fn frames_exist()
+    ensures { FramesExist }
+{}
+
+/// A law of the format: a stream has no other frames and no other rest.
+pub fn frames_are_unique()
+    ensures { FramesAreUnique }
 {}

@@ -3,8 +3,10 @@
 
 mod buffer;
 mod framing;
+mod running;
 mod splitting;
 
 pub use buffer::TooLong;
-pub use framing::{Frame, no_frame_begins_another, write_frame};
+pub use framing::{Frame, frames_are_unique, frames_exist, no_frame_begins_another, write_frame};
+pub use running::{RunEnd, TakeFrames};
 pub use splitting::Splitter;

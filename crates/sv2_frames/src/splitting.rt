@@ -32,7 +32,8 @@ impl Splitter {
 
     /// A splitter that holds nothing. `limit` is the greatest payload that is taken, in bytes.
     pub fn new(alloc: Global, limit: u32) -> Result<Splitter, AllocError>
-        ensures { IfOk result (λ splitter. splitter ≡ record { held = []; limit = limit }) }
+        ensures empty { IfOk result (λ splitter. splitter ≡ record { held = []; limit = limit }) }
+        ensures cut { IfOk result (λ splitter. IsCutWithin splitter) }
     {
         let buffer = vec![in alloc; 0; limit as usize + 6]?;
         Ok(Splitter {
@@ -49,6 +50,7 @@ impl Splitter {
         ensures bytes { self.new.held ≡ self.old.held ++ take result piece.now }
         ensures end { let all = self.old.held ++ piece.now in self.new.held ≡ take (frame_end self.old.limit all) all }
         ensures none { (result ≡ 0) ↔ ((piece.now ≡ []) ⊎ IsFull self.old) }
+        ensures all { IsCutWithin self.new → result ≡ length piece.now }
         ensures room { length self.new.held ≤ self.new.limit + 6 }
         ensures limit { self.new.limit ≡ self.old.limit }
     {
@@ -60,6 +62,7 @@ impl Splitter {
     /// The frame that is held, once it is whole. A header over the limit is refused, again and again.
     pub fn next(&self) -> Result<Option<Frame<'_>>, TooLong>
         ensures frame { IfOk result (λ found. IfSome found (λ f. IsHeldFrame f.ext f.kind f.payload.now self.now)) }
+        ensures held { IfOk result (λ found. IfSome found (λ _. HoldsFrame self.now)) }
         ensures whole { HoldsFrame self.now → IsOkAnd result (λ found. IsSome found) }
         ensures none { IsOkAnd result (λ found. IsNone found) ↔ IsCutWithin self.now }
         ensures too_long { IfErr result (λ e. HoldsOver e.0 self.now) }
@@ -71,7 +74,8 @@ impl Splitter {
     /// Lets go of the frame that is held.
     pub fn drop_frame(&mut self)
         requires { HoldsFrame self.old }
-        ensures { self.new ≡ record self.old { held = [] } }
+        ensures empty { self.new ≡ record self.old { held = [] } }
+        ensures cut { IsCutWithin self.new }
     {
         self.held = 0;
     }

@@ -1,9 +1,10 @@
-use Rattle.std.proofs.Common.{◌<◌, ◌≤◌, length, drop, ap, refl, arith, rules}
+use Rattle.std.proofs.Common.{◌<◌, ◌≤◌, ◌-◌, length, take, drop, ap, refl, arith, rules}
 use Rattle.std.proofs.lemmas.List.{take_rest}
 use Rattle.std.proofs.lemmas.Grind.{common_steps}
 use Rattle.sv2_frames.specs.Framing.{payload_length}
-use Rattle.sv2_frames.specs.Holding.{HoldsOver}
+use Rattle.sv2_frames.specs.Holding.{HoldsOver, IsHeldFrame}
 use Rattle.sv2_frames.proofs.Cutting.{IsBytes, cut_short, cut_behind_header, short_not_over, within_not_over}
+use Rattle.sv2_frames.proofs.Standing.{frame_is_held}
 use Rattle.sv2_frames.proofs.buffer.frame_in.Goals as goal
 
 pub returns-in_default-clause-none : goal.returns-in_default-clause-none
@@ -30,3 +31,10 @@ returns-then-payload-header-clause-none c =
       },
       λ _. refl,
     )
+
+pub returns-clause-held : goal.returns-clause-held
+returns-clause-held c =
+    let held = c.args.held.now in
+    let frame : IsHeldFrame c.in-Some.header.ext c.in-Some.header.kind (take (length held - 6) (drop 6 held)) (record { held = held; limit = c.args.limit }) =
+    grind (arith, common_steps) in
+    frame_is_held _ _ _ _ frame

@@ -1,10 +1,10 @@
 use Rattle.std.proofs.Common.{◌≡◌, ℕ, ◌+◌, ◌-◌, ◌≤◌, min, List, ◌++◌, length, take, drop, sym, ap, ◌∙◌, subst, inl, inr, arith, rules}
 use Rattle.std.proofs.lemmas.Bool.{cases_lt}
-use Rattle.std.proofs.lemmas.List.{append-nil, nil_from_length, length-append, length-take, length-take-le, length-drop, take_rest}
+use Rattle.std.proofs.lemmas.List.{append-nil, nil_from_length, length-take-le, length-drop, take_rest}
 use Rattle.sv2_frames.specs.Holding.{frame_end}
 use Rattle.sv2_frames.proofs.Cutting.{IsBytes}
 use Rattle.sv2_frames.proofs.Feeding.{fed_bytes, fed_end, present_after, nothing_taken, taken_nothing}
-use Rattle.sv2_frames.proofs.Standing.{IsBytes-take, full_stands, full_is}
+use Rattle.sv2_frames.proofs.Standing.{IsBytes-take, full_stands, full_is, cut_takes_all}
 use Rattle.sv2_frames.proofs.buffer.take_in.Goals as goal
 
 pub returns-clause-bytes : goal.returns-clause-bytes
@@ -27,6 +27,12 @@ returns-clause-end c =
     rw (len, ← end, ← rest) c.fill-second.ensures.count in
     fed_end c.args.limit old piece _ first c.fill-second.result (omega (arith, len, c.requires.present)) start next (returns-clause-bytes c)
 
+pub returns-clause-within : goal.returns-clause-within
+returns-clause-within c =
+    let piece = c.args.piece.now in
+    let first = c.fill-first.result in
+    omega (arith, c.fill-first.ensures.count, c.fill-second.ensures.count, length-drop first piece, ap length (take_rest piece first))
+
 pub returns-clause-none : goal.returns-clause-none
 returns-clause-none c =
     let piece = c.args.piece.now in
@@ -38,8 +44,7 @@ returns-clause-none c =
     let present : length old ≤ frame_end limit old = omega (arith, len, c.requires.present) in
     let bytes : new ≡ old ++ take taken piece = returns-clause-bytes c in
     let end : new ≡ take (frame_end limit (old ++ piece)) (old ++ piece) = returns-clause-end c in
-    let fits : taken ≤ length piece =
-    omega (arith, ap length bytes, ap length end, length-append old (take taken piece), length-take (frame_end limit (old ++ piece)) (old ++ piece), length-append old piece, length-take taken piece, c.fill-first.ensures.count, c.fill-second.ensures.count, length-drop c.fill-first.result piece, ap length (take_rest piece c.fill-first.result)) in (
+    let fits : taken ≤ length piece = returns-clause-within c in (
       λ zero. elim (cases_lt 0 (length piece)) [
         | inl some ↦
             let same : new ≡ old = bytes ∙ ap (λ n. old ++ take n piece) zero ∙ append-nil old in
@@ -68,3 +73,12 @@ returns-clause-kept c =
     let len : length new ≡ held = length-take-le held c.fill-second.new.buffer (omega arith) in
     let present : length new ≤ frame_end limit new = rw end (present_after limit all) in
     record { room = search rules; within = room; present = omega (arith, present, len) }
+
+pub returns-clause-all : goal.returns-clause-all
+returns-clause-all c =
+    let piece = c.args.piece.now in
+    let old : List ℕ = take c.args.held c.args.buffer.now in
+    let taken = c.fill-first.result + c.fill-second.result in
+    let are_bytes : IsBytes (take (c.args.held + taken) c.fill-second.new.buffer) =
+    IsBytes-take (c.args.held + taken) c.fill-second.new.buffer (λ i. omega (arith, c.type_inv.buffer i)) in
+    cut_takes_all c.args.limit taken old piece _ (returns-clause-bytes c) (returns-clause-end c) (returns-clause-within c) are_bytes
