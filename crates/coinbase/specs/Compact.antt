@@ -1,0 +1,15 @@
+-- Compact sizes (Bitcoin's "CompactSize Unsigned Integers").
+use Rattle.std.specs.Prelude.{ℕ, ◌^◌, List, [], ◌∷◌, ◌++◌, length, nat_lt, if◌then◌else◌}
+use Rattle.std.specs.Int.{w16, w32, w64, to_le_bytes}
+
+-- a number below 2^64 in its shortest spelling
+unfoldable pub compact : ℕ → List ℕ
+compact n =
+    if nat_lt n 253 then n ∷ []
+    else if nat_lt n (2 ^ 16) then 253 ∷ to_le_bytes w16 n
+    else if nat_lt n (2 ^ 32) then 254 ∷ to_le_bytes w32 n
+    else 255 ∷ to_le_bytes w64 n
+
+-- bytes behind their number
+abbrev pub sized : List ℕ → List ℕ
+sized bytes = compact (length bytes) ++ bytes

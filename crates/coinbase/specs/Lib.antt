@@ -1,0 +1,13 @@
+pub mod Compact
+pub mod Form
+pub mod Reading
+pub mod Cursors
+pub mod Outputs
+pub mod Parts
+pub mod Broken
+pub mod Coin
+pub mod Recipes
+pub mod States
+pub mod Steps
+pub mod Custom
+pub mod CustomRecipes
