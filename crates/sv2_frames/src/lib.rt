@@ -10,3 +10,6 @@ pub use buffer::TooLong;
 pub use framing::{Frame, frames_are_unique, frames_exist, no_frame_begins_another, write_frame};
 pub use running::{RunEnd, TakeFrames};
 pub use splitting::Splitter;
+
+#[cfg(test)]
+mod tests;

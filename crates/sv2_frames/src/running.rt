@@ -1,6 +1,6 @@
 //! A stream in whatever pieces it comes, handed on frame by frame.
 
-ghost use Rattle.std.specs.Prelude.{◌≡◌, ℕ, Bool, length, take};
+ghost use Rattle.std.specs.Prelude.{Bool};
 ghost use Rattle.std.specs.List.{flat_map};
 ghost use Rattle.sv2_frames.specs.Framing.{FrameValue};
 ghost use Rattle.sv2_frames.specs.Holding.{IsCutWithin};
