@@ -3,6 +3,8 @@
 
 mod edge;
 mod run;
+#[cfg(test)]
+mod tests;
 mod words;
 
 use edge::StreamHost;
