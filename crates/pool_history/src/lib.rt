@@ -1,0 +1,25 @@
+//! What a pool's history is made of, and everything that is defined over it. It holds no pool: the crates
+//! above keep the history, and answer by these definitions.
+#![tactic(auto)]
+
+mod asking;
+mod causes;
+mod events;
+mod leads;
+mod refusals;
+mod replies;
+mod settings;
+mod shares;
+mod telling;
+mod templates;
+
+pub use asking::{OpenAsk, Request};
+pub use causes::Cause;
+pub use events::{Event, JobState, Kind, Role};
+pub use leads::Lead;
+pub use refusals::{CustomError, Failed, GrantError, JobError, NameError, OpenError, UpdateError};
+pub use replies::{Class, Opened, Reply, Script, SessionNumber};
+pub use settings::{Rules, Users};
+pub use shares::{Brief, Checked, Submission};
+pub use telling::{Note, Notes};
+pub use templates::{CustomData, TemplateData, TipData};
