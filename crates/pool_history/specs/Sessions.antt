@@ -1,8 +1,8 @@
 -- The sessions of a history (this project's own). Every definition goes over the past: the events from the last to
 -- the first, so that the number of earlier events of a kind counts the rest of the list.
-use Rattle.std.specs.Prelude.{ℕ, ◌+◌, ◌==◌, Bool, true, false, if◌then◌else◌, Option, None, Some, unwrap_or, List, [], ◌∷◌, length, reverse}
+use Rattle.std.specs.Prelude.{ℕ, ◌+◌, ◌==◌, Bool, true, false, if◌then◌else◌, Option, None, Some, List, [], ◌∷◌, reverse}
 use Rattle.pool_history.specs.declared.events.Event.{Event}
-use Rattle.pool_history.specs.declared.events.Event.TheVariants.{Start, Enter, Template, Tip, Open, Name, Class, Close, Leave, Credit, Grant, Custom}
+use Rattle.pool_history.specs.declared.events.Event.TheVariants.{Start, Enter, Template, Open, Leave, Credit, Grant}
 use Rattle.pool_history.specs.declared.events.Role.{Role}
 use Rattle.pool_history.specs.declared.events.Role.TheVariants as role
 use Rattle.pool_history.specs.declared.settings.Rules.{Rules}
@@ -16,6 +16,14 @@ abbrev pub rules_of : List Event → Option Rules
 rules_of [] = None
 rules_of (Start rules ∷ []) = Some rules
 rules_of (event ∷ older) = rules_of older
+
+-- the pool's script
+abbrev pub script_in : Option Rules → List ℕ
+script_in None = []
+script_in (Some rules) = rules.pool_script
+
+abbrev pub script_of : List Event → List ℕ
+script_of past = script_in (rules_of past)
 
 -- how many Enter events there are
 abbrev pub enters : List Event → ℕ
@@ -104,22 +112,3 @@ abbrev pub mines : Role → Bool
 mines role.Miner = true
 mines role.Feed = false
 mines role.Solo = true
-
--- a session's role is one of these
-abbrev pub plays : (Role → Bool) → Option Entrance → Bool
-plays may None = false
-plays may (Some entered) = may entered.role
-
--- the token that was granted last but so many: numbers count the Grants before, and one more
-pub record Granted : Type 0 where
-  pub session : ℕ
-  pub account : List ℕ
-  pub fixed : Bool
-  pub path : List (List ℕ)
-
--- the Grant of a number
-abbrev pub grant_numbered : List Event → ℕ → Option Granted
-grant_numbered [] number = None
-grant_numbered (Grant session account fixed path ∷ older) number =
-    if grants older + 1 == number then Some (record { session = session; account = account; fixed = fixed; path = path }) else grant_numbered older number
-grant_numbered (event ∷ older) number = grant_numbered older number

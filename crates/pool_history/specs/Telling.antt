@@ -1,7 +1,7 @@
 -- When a note can be written as its message (Stratum V2, "Data Types Mapping").
 use Rattle.std.specs.Prelude.{ℕ, ◌<◌, ◌^◌, List, length}
 use Rattle.pool_history.specs.declared.telling.Note.{Note}
-use Rattle.pool_history.specs.declared.telling.Note.TheVariants.{Extended, Standard, PrevHash, Solution}
+use Rattle.pool_history.specs.declared.telling.Note.TheVariants.{Extended, Solution}
 
 -- the lists of a NewExtendedMiningJob fit their types
 pub record ExtendedFits (path : List (List ℕ)) (prefix suffix : List ℕ) : Type 0 where

@@ -1,0 +1,109 @@
+-- Shares and the credits before them: which condition fails first, and what a credit is worth (this project's own).
+use Rattle.std.specs.Prelude.{ℕ, ◌^◌, Bool, if◌then◌else◌, Option, None, Some, Result, Ok, Err, List, [], ◌∷◌, ◌++◌, nat_lt}
+use Rattle.std.specs.List.{list_any}
+use Rattle.std.specs.Str.{bytes_eq}
+use Rattle.block_header.specs.Hash.{dsha, meets}
+use Rattle.block_header.specs.Target.{at_most}
+use Rattle.coinbase.specs.Custom.{total}
+use Rattle.coinbase.specs.Outputs.{outputs_of}
+use Rattle.coinbase.specs.Steps.{◌>>=◌}
+use Rattle.pool_history.specs.declared.events.Event.{Event}
+use Rattle.pool_history.specs.declared.events.Event.TheVariants as event
+use Rattle.pool_history.specs.declared.refusals.Failed.{Failed}
+use Rattle.pool_history.specs.declared.refusals.Failed.TheVariants as failed
+use Rattle.pool_history.specs.declared.settings.Rules.{Rules}
+use Rattle.pool_history.specs.Channels.{channel_in, channels_of, class_at}
+use Rattle.pool_history.specs.Jobs.{Source, FromTemplate, FromMiner, jobs_of, numbered}
+use Rattle.pool_history.specs.Judging.{Share, Admitted, admitted, found, is_standard, outputs_in, rebuilt}
+use Rattle.pool_history.specs.Sessions.{credits, script_of}
+
+-- the class at the job of a share: a later class doesn't change it
+abbrev pub class_of_share : Admitted → ℕ
+class_of_share share = class_at share.channel share.job.live_at
+
+-- the work of a share
+abbrev pub work_of : Admitted → ℕ
+work_of share = 2 ^ class_of_share share
+
+-- the fields of a credit as they are judged: it counts as standard where its channel is
+abbrev pub credit_share : Admitted → ℕ → ℕ → ℕ → ℕ → ℕ → List ℕ → Share
+credit_share where_booked channel job nonce ntime version extranonce = record {
+  is_standard = is_standard where_booked.channel.kind;
+  channel = channel;
+  job = job;
+  nonce = nonce;
+  ntime = ntime;
+  version = version;
+  extranonce = extranonce;
+}
+
+-- the channel, the job and the tip of a credit, by the events before it
+abbrev pub booked_with : List Event → ℕ → ℕ → Result Admitted Failed
+booked_with past channel job = do
+  there ← found failed.Channel (channel_in (channels_of past) channel)
+  source ← found failed.Job (numbered job (jobs_of past).all)
+  tip ← found failed.Stale (jobs_of past).tip
+  Ok (record { channel = there; job = source; tip = tip })
+
+-- a list of what was found
+abbrev pub listed : {X Y : Type 0} → (X → Y) → Result X Failed → List Y
+listed f (Ok x) = f x ∷ []
+listed f (Err code) = []
+
+-- the headers of all credits, each rebuilt by the events before it; a later tip drops none
+abbrev pub headers : List Event → List (List ℕ)
+headers [] = []
+headers (event.Credit session channel job nonce ntime version extranonce ∷ older) =
+    listed (λ with. rebuilt (script_of older) with (credit_share with channel job nonce ntime version extranonce)) (booked_with older channel job) ++ headers older
+headers (event ∷ older) = headers older
+
+-- ninth condition
+abbrev pub has_room : Rules → List Event → Option Failed
+has_room rules past = if nat_lt (credits past) rules.credit_limit then None else Some failed.Full
+
+-- eighth condition: no earlier credit has the header
+abbrev pub is_new : Rules → List Event → List ℕ → Option Failed
+is_new rules past header = if list_any (bytes_eq header) (headers past) then Some failed.Duplicate else has_room rules past
+
+-- seventh condition: the header's hash meets the class
+abbrev pub meets_its_class : Rules → List Event → ℕ → List ℕ → Option Failed
+meets_its_class rules past class header = if meets (dsha header) class then is_new rules past header else Some failed.Difficulty
+
+-- the last three conditions of a share that met the first six
+abbrev pub last_failed : Rules → List Event → Share → Result Admitted Failed → Option Failed
+last_failed rules past share (Err code) = Some code
+last_failed rules past share (Ok with) = meets_its_class rules past (class_of_share with) (rebuilt rules.pool_script with share)
+
+-- the first of the nine conditions that is false, or none
+abbrev pub first_failed : Rules → List Event → ℕ → Share → Option Failed
+first_failed rules past session share = last_failed rules past share (admitted rules past session share)
+
+-- the reward of a job: what its template has left, or what its outputs pay
+abbrev pub reward_of : Source → ℕ
+reward_of (FromTemplate template) = template.coinbase_tx_value_remaining
+reward_of (FromMiner custom) = total (outputs_in (outputs_of custom.coinbase_tx_outputs))
+
+-- a credit is a block where its hash is at most the target of the last tip
+abbrev pub is_block : List ℕ → Admitted → Share → Bool
+is_block script with share = at_most (dsha (rebuilt script with share)) with.tip.target
+
+-- a credit: the account, the work, and the reward where it is a block
+pub record Booked : Type 0 where
+  pub account : List ℕ
+  pub work : ℕ
+  pub reward : Option ℕ
+
+-- what a share that is booked counts
+abbrev pub booking : List ℕ → Share → Admitted → Booked
+booking script share with = record {
+  account = with.channel.account;
+  work = work_of with;
+  reward = if is_block script with share then Some (reward_of with.job.source) else None;
+}
+
+-- the credits of a history, the last first
+abbrev pub booked : List Event → List Booked
+booked [] = []
+booked (event.Credit session channel job nonce ntime version extranonce ∷ older) =
+    listed (λ with. booking (script_of older) (credit_share with channel job nonce ntime version extranonce) with) (booked_with older channel job) ++ booked older
+booked (event ∷ older) = booked older

@@ -1,0 +1,191 @@
+-- Which events are legal after others (this project's own). A condition is told by the cause that its failure has.
+use Rattle.std.specs.Prelude.{◌≡◌, ℕ, ◌==◌, ◌&&◌, Bool, true, false, not, if◌then◌else◌, Option, None, Some, is_some, List, [], ◌∷◌, length, bit_and, nat_le, nat_lt}
+use Rattle.std.specs.Int.{bit_at}
+use Rattle.std.specs.Str.{bytes_eq}
+use Rattle.pool_history.specs.declared.causes.Cause.{Cause}
+use Rattle.pool_history.specs.declared.causes.Cause.TheVariants as cause
+use Rattle.pool_history.specs.declared.events.Event.{Event}
+use Rattle.pool_history.specs.declared.events.Event.TheVariants as event
+use Rattle.pool_history.specs.declared.events.Kind.{Kind}
+use Rattle.pool_history.specs.declared.events.Kind.TheVariants as kind
+use Rattle.pool_history.specs.declared.refusals.CustomError.{CustomError}
+use Rattle.pool_history.specs.declared.refusals.CustomError.TheVariants as custom
+use Rattle.pool_history.specs.declared.refusals.Failed.{Failed}
+use Rattle.pool_history.specs.declared.refusals.GrantError.{GrantError}
+use Rattle.pool_history.specs.declared.refusals.GrantError.TheVariants as grant
+use Rattle.pool_history.specs.declared.settings.Rules.{Rules}
+use Rattle.pool_history.specs.Accounts.{are_in_range, is_empty, is_known}
+use Rattle.pool_history.specs.Channels.{OpenChannel, channel_in, channels_of, class_of}
+use Rattle.pool_history.specs.Crediting.{first_failed}
+use Rattle.pool_history.specs.Judging.{is_standard}
+use Rattle.pool_history.specs.Refusing.{custom_refusal, grant_refusal, has_too_many, held_leads, most_enters, own_channel, template_refusal, tip_refusal}
+use Rattle.pool_history.specs.Sessions.{Entrance, enters, entrance, feeds, is_present, mines, past_of, rules_of}
+use Rattle.pool_history.specs.Spaces.{lowest}
+
+-- the flags of a setup that are acceptable: bit 0, bit 1 and, with version rolling, bit 2 (Stratum V2, "SetupConnection")
+abbrev pub allowed_flags : Rules → ℕ
+allowed_flags rules = if rules.version_rolling then 7 else 3
+
+-- no other flag is set
+abbrev pub are_acceptable : Rules → ℕ → Bool
+are_acceptable rules flags = bit_and flags (allowed_flags rules) == flags
+
+-- a session may bring jobs of its own: REQUIRES_WORK_SELECTION
+abbrev pub selects_work : ℕ → Bool
+selects_work flags = bit_at flags 1 == 1
+
+-- a condition, its cause, and what comes next where it holds
+abbrev pub provided : Bool → Cause → Option Cause → Option Cause
+provided true code next = next
+provided false code next = Some code
+
+-- a refusal is a cause
+abbrev pub refused_as : {X : Type 0} → Cause → Option X → Option Cause
+refused_as code None = None
+refused_as code (Some refusal) = Some code
+
+-- a share's failed condition is its cause
+abbrev pub failed_as : Option Failed → Option Cause
+failed_as None = None
+failed_as (Some failed) = Some (cause.Share failed)
+
+-- the causes of refused grants
+abbrev pub grant_cause : Option GrantError → Option Cause
+grant_cause None = None
+grant_cause (Some grant.UnknownUser) = Some cause.UnknownUser
+grant_cause (Some (grant.TooManyGrants count)) = Some cause.TooManyGrants
+grant_cause (Some (grant.PathTooLong entries)) = Some cause.BadPath
+
+-- the causes of refused jobs of miners
+abbrev pub custom_cause : Option CustomError → Option Cause
+custom_cause None = None
+custom_cause (Some custom.NotOpen) = Some cause.NotOpen
+custom_cause (Some custom.BadToken) = Some cause.BadToken
+custom_cause (Some custom.StaleTip) = Some cause.StalePrevHash
+custom_cause (Some (custom.EarlyTime least)) = Some cause.BadNtime
+custom_cause (Some (custom.BadPath entries)) = Some cause.BadPath
+custom_cause (Some (custom.Coinbase error)) = Some cause.BadCoinbase
+
+-- the account that an opening has to say: none for V1
+abbrev pub is_opening_account : Rules → Kind → List ℕ → Bool
+is_opening_account rules kind.Standard account = is_known rules account
+is_opening_account rules kind.Extended account = is_known rules account
+is_opening_account rules kind.V1 account = is_empty account
+
+-- a class that a channel may have
+abbrev pub is_class : Rules → ℕ → Bool
+is_class rules class = nat_le rules.least_class class && nat_le class 60
+
+-- the length that a lead may have
+abbrev pub is_lead_length : Kind → ℕ → Bool
+is_lead_length kind.Standard len = len == 4
+is_lead_length kind.Extended len = nat_le 1 len && nat_le len 4
+is_lead_length kind.V1 len = nat_le 1 len && nat_le len 4
+
+-- just these bytes were found
+abbrev pub is_just : List ℕ → Option (List ℕ) → Bool
+is_just bytes None = false
+is_just bytes (Some others) = bytes_eq bytes others
+
+-- the lead has a length of its kind and is the lowest free one
+abbrev pub is_next_lead : List Event → Kind → List ℕ → Bool
+is_next_lead past kind lead = is_lead_length kind (length lead) && is_just lead (lowest (length lead) (held_leads past))
+
+-- a V1 channel without account
+abbrev pub is_nameless : Kind → List ℕ → Bool
+is_nameless kind.Standard account = false
+is_nameless kind.Extended account = false
+is_nameless kind.V1 account = is_empty account
+
+-- a channel may get this account
+abbrev pub may_get : Rules → List ℕ → Option OpenChannel → Bool
+may_get rules account None = false
+may_get rules account (Some channel) = is_nameless channel.kind channel.account && is_known rules account
+
+-- a channel's class may become this one
+abbrev pub may_become : Rules → ℕ → Option OpenChannel → Bool
+may_become rules class None = false
+may_become rules class (Some channel) = is_class rules class && not (class == class_of channel)
+
+-- a credit counts as standard where its channel is
+abbrev pub is_standard_in : Option OpenChannel → Bool
+is_standard_in None = false
+is_standard_in (Some channel) = is_standard channel.kind
+
+-- a session was entered so
+abbrev pub entered_with : (Entrance → Bool) → Option Entrance → Bool
+entered_with may None = false
+entered_with may (Some entered) = may entered
+
+-- the session is present, and may have the event; then what comes next
+abbrev pub within : (Entrance → Bool) → List Event → ℕ → Option Cause → Option Cause
+within may past session next =
+    provided (is_present past session) cause.NoSession (provided (entered_with may (entrance past session)) cause.BadRole next)
+
+-- any session, one that sends templates, one that submits shares, and one that brings jobs of its own
+abbrev pub any_role : Entrance → Bool
+any_role entered = true
+
+abbrev pub feeding : Entrance → Bool
+feeding entered = feeds entered.role
+
+abbrev pub mining : Entrance → Bool
+mining entered = mines entered.role
+
+abbrev pub selecting : Entrance → Bool
+selecting entered = mines entered.role && selects_work entered.flags
+
+-- the cause of an event after the events before it, whose rules these are
+abbrev pub cause_by : Rules → List Event → Event → Option Cause
+cause_by rules past (event.Start other) = Some cause.BadStart
+cause_by rules past (event.Enter worker role flags) =
+    provided (nat_lt (enters past) most_enters) cause.PoolFull (provided (are_acceptable rules flags) cause.BadFlags None)
+cause_by rules past (event.Leave session) = within any_role past session None
+cause_by rules past (event.Template session template) =
+    within feeding past session (refused_as cause.BadTemplate (template_refusal rules.pool_script past template))
+cause_by rules past (event.Tip session tip) = within feeding past session (refused_as cause.BadTip (tip_refusal past tip))
+cause_by rules past (event.Open session kind account class lead) =
+    within mining past session
+    (provided (is_opening_account rules kind account) cause.UnknownUser
+    (provided (is_class rules class) cause.BadClass
+    (provided (not (has_too_many past session)) cause.TooManyChannels
+    (provided (is_next_lead past kind lead) cause.BadLead None))))
+cause_by rules past (event.Name session channel account) =
+    within mining past session (provided (may_get rules account (own_channel past session channel)) cause.BadName None)
+cause_by rules past (event.Class session channel class) =
+    within mining past session (provided (may_become rules class (own_channel past session channel)) cause.BadClass None)
+cause_by rules past (event.Close session channel) =
+    within mining past session (provided (is_some (own_channel past session channel)) cause.NotOpen None)
+cause_by rules past (event.Credit session channel job nonce ntime version extranonce) =
+    within mining past session (failed_as (first_failed rules past session (record {
+      is_standard = is_standard_in (channel_in (channels_of past) channel);
+      channel = channel;
+      job = job;
+      nonce = nonce;
+      ntime = ntime;
+      version = version;
+      extranonce = extranonce;
+    })))
+cause_by rules past (event.Grant session account fixed path) =
+    within selecting past session (grant_cause (grant_refusal rules past account path))
+cause_by rules past (event.Custom session offer) =
+    within selecting past session (custom_cause (custom_refusal rules.pool_script past session offer))
+
+-- the cause where a Start stands first, or doesn't
+abbrev pub cause_in : Option Rules → List Event → Event → Option Cause
+cause_in None past event = Some cause.BadStart
+cause_in (Some rules) past event = cause_by rules past event
+
+-- the cause of the first condition of an event that is false after the events before it, or none
+abbrev pub cause_of : List Event → Event → Option Cause
+cause_of [] (event.Start rules) = if are_in_range rules then None else Some cause.BadStart
+cause_of past event = cause_in (rules_of past) past event
+
+-- no condition of any event is false
+abbrev pub LegalPast : List Event → Type 0
+LegalPast [] = Unit {0}
+LegalPast (event ∷ older) = LegalPast older × (cause_of older event ≡ None)
+
+-- each event of the history is legal after the events before it
+abbrev pub Legal : List Event → Type 0
+Legal history = LegalPast (past_of history)

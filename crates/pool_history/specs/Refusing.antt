@@ -1,0 +1,235 @@
+-- Why a request is refused (Stratum V2's error codes; their order and the limits are this project's own). What a
+-- request is answered with and what makes an event illegal are both by these.
+use Rattle.std.specs.Prelude.{ℕ, ◌+◌, ◌-◌, ◌^◌, ◌==◌, ◌&&◌, ◌||◌, Bool, true, false, not, if◌then◌else◌, min, max, Option, None, Some, is_none, Result, Ok, Err, List, [], ◌∷◌, ◌++◌, length, map, nat_lt, nat_le}
+use Rattle.std.specs.Int.{w64, to_le_bytes}
+use Rattle.std.specs.List.{list_any}
+use Rattle.std.specs.Str.{bytes_eq}
+use Rattle.block_header.specs.Target as target
+use Rattle.coinbase.specs.Coin.{assembled}
+use Rattle.coinbase.specs.Custom.{assembled_of_outputs}
+use Rattle.coinbase.specs.Parts.{Parts}
+use Rattle.coinbase.specs.declared.error.AssemblyError.{AssemblyError}
+use Rattle.coinbase.specs.declared.error.OutputsError.{OutputsError}
+use Rattle.pool_history.specs.declared.asking.OpenAsk.{OpenAsk}
+use Rattle.pool_history.specs.declared.events.Event.{Event}
+use Rattle.pool_history.specs.declared.events.Event.TheVariants as event
+use Rattle.pool_history.specs.declared.events.Kind.{Kind}
+use Rattle.pool_history.specs.declared.events.Kind.TheVariants as kind
+use Rattle.pool_history.specs.declared.refusals.CustomError.{CustomError}
+use Rattle.pool_history.specs.declared.refusals.CustomError.TheVariants as custom
+use Rattle.pool_history.specs.declared.refusals.GrantError.{GrantError}
+use Rattle.pool_history.specs.declared.refusals.GrantError.TheVariants as grant
+use Rattle.pool_history.specs.declared.refusals.JobError.{JobError}
+use Rattle.pool_history.specs.declared.refusals.JobError.TheVariants as job
+use Rattle.pool_history.specs.declared.refusals.NameError.{NameError}
+use Rattle.pool_history.specs.declared.refusals.NameError.TheVariants as name
+use Rattle.pool_history.specs.declared.refusals.OpenError.{OpenError}
+use Rattle.pool_history.specs.declared.refusals.OpenError.TheVariants as open_error
+use Rattle.pool_history.specs.declared.refusals.UpdateError.{UpdateError}
+use Rattle.pool_history.specs.declared.refusals.UpdateError.TheVariants as update
+use Rattle.pool_history.specs.declared.settings.Rules.{Rules}
+use Rattle.pool_history.specs.declared.templates.CustomData.{CustomData}
+use Rattle.pool_history.specs.declared.templates.TemplateData.{TemplateData}
+use Rattle.pool_history.specs.declared.templates.TipData.{TipData}
+use Rattle.pool_history.specs.Accounts.{account_of, is_empty, is_known}
+use Rattle.pool_history.specs.Channels.{OpenChannel, channel_in, channels_in, channels_of}
+use Rattle.pool_history.specs.Jobs.{Standing, future_of, has_template, jobs_of}
+use Rattle.pool_history.specs.Judging.{custom_terms, template_terms}
+use Rattle.pool_history.specs.Sessions.{grants, opens, templates}
+use Rattle.pool_history.specs.Spaces.{lowest}
+
+-- the limits: Enter events, Open events, templates, grants, open channels of a session, entries of a miner's own path
+abbrev pub most_enters : ℕ
+most_enters = 2 ^ 22
+
+abbrev pub most_opens : ℕ
+most_opens = 2 ^ 22
+
+abbrev pub most_templates : ℕ
+most_templates = 2 ^ 20
+
+abbrev pub most_grants : ℕ
+most_grants = 2 ^ 18
+
+abbrev pub most_channels : ℕ
+most_channels = 1024
+
+abbrev pub most_entries : ℕ
+most_entries = 32
+
+-- a template whose coinbase is refused
+abbrev pub coinbase_refusal : Result Parts AssemblyError → Option JobError
+coinbase_refusal (Ok parts) = None
+coinbase_refusal (Err error) = Some (job.Coinbase error)
+
+-- a future or live job of a template
+abbrev pub is_template_known : Standing → ℕ → Bool
+is_template_known standing id = list_any (λ job. has_template id job.source) (standing.future ++ standing.live)
+
+-- why a template is refused: the limit, a job with its id, no tip, its coinbase
+abbrev pub template_refusal : List ℕ → List Event → TemplateData → Option JobError
+template_refusal script past template =
+    if nat_le most_templates (templates past) then Some (job.TooMany (templates past))
+    else if is_template_known (jobs_of past) template.template_id then Some (job.TemplateKnown template.template_id)
+    else if not template.future_template && is_none (jobs_of past).tip then Some job.NoTip
+    else coinbase_refusal (assembled (template_terms template) script)
+
+-- why a tip is refused: no future job has its template
+abbrev pub tip_refusal : List Event → TipData → Option JobError
+tip_refusal past tip = if is_none (future_of (jobs_of past) tip.template_id) then Some (job.UnknownTemplate tip.template_id) else None
+
+-- whether a channel of a kind is opened for a known account; a V1 channel is opened without one
+abbrev pub may_open : Rules → Kind → List ℕ → Bool
+may_open rules kind.Standard account = is_known rules account
+may_open rules kind.Extended account = is_known rules account
+may_open rules kind.V1 account = true
+
+-- the class of a target
+abbrev pub class_of_target : List ℕ → ℕ
+class_of_target bytes = target.class_of (target.number bytes)
+
+-- the class that a target gets: not below the least
+abbrev pub class_for : Rules → List ℕ → ℕ
+class_for rules bytes = max (class_of_target bytes) rules.least_class
+
+-- how many bytes a channel's lead has
+abbrev pub lead_length : Kind → ℕ → ℕ
+lead_length kind.Standard size = 4
+lead_length kind.Extended size = min 4 (12 - size)
+lead_length kind.V1 size = min 4 (12 - size)
+
+-- the leads of the open channels
+abbrev pub held_leads : List Event → List (List ℕ)
+held_leads past = map (λ channel. channel.lead) (channels_of past)
+
+-- how many channels of a session are open
+abbrev pub open_count : List Event → ℕ → ℕ
+open_count past session = length (channels_in (channels_of past) session)
+
+-- a session may not open one more
+abbrev pub has_too_many : List Event → ℕ → Bool
+has_too_many past session = nat_le most_channels (open_count past session) || nat_le most_opens (opens past)
+
+-- the lead that an opening gets
+abbrev pub lead_for : List Event → OpenAsk → Option (List ℕ)
+lead_for past ask = lowest (lead_length ask.kind ask.min_size) (held_leads past)
+
+-- why a channel isn't opened
+abbrev pub open_refusal : Rules → List Event → ℕ → OpenAsk → Option OpenError
+open_refusal rules past session ask =
+    if not (may_open rules ask.kind (account_of ask.identity)) then Some open_error.UnknownUser
+    else if nat_lt 60 (class_of_target ask.max_target) then Some (open_error.TargetOutOfRange (class_of_target ask.max_target))
+    else if nat_lt 11 ask.min_size then Some (open_error.SizeTooLarge ask.min_size)
+    else if has_too_many past session then Some (open_error.TooManyChannels (open_count past session) (opens past))
+    else if is_none (lead_for past ask) then Some open_error.NoSpace
+    else None
+
+-- the open channel of a session
+abbrev pub own_channel : List Event → ℕ → ℕ → Option OpenChannel
+own_channel past session id = channel_in (channels_in (channels_of past) session) id
+
+-- a channel has another account
+abbrev pub has_other : List ℕ → OpenChannel → Bool
+has_other account channel = not (is_empty channel.account) && not (bytes_eq channel.account account)
+
+-- why a channel doesn't get an account
+abbrev pub name_refusal : Rules → List ℕ → Option OpenChannel → Option NameError
+name_refusal rules account None = Some name.NotOpen
+name_refusal rules account (Some channel) =
+    if not (is_known rules account) then Some name.UnknownUser else if has_other account channel then Some name.OtherAccount else None
+
+-- why a channel's class isn't set
+abbrev pub update_refusal : List ℕ → Option OpenChannel → Option UpdateError
+update_refusal target None = Some update.NotOpen
+update_refusal target (Some channel) =
+    if nat_lt 60 (class_of_target target) then Some (update.TargetOutOfRange (class_of_target target)) else None
+
+-- why a token isn't granted for a path, none being no path
+abbrev pub grant_refusal : Rules → List Event → List ℕ → List (List ℕ) → Option GrantError
+grant_refusal rules past account path =
+    if not (is_known rules account) then Some grant.UnknownUser
+    else if nat_le most_grants (grants past) then Some (grant.TooManyGrants (grants past))
+    else if nat_lt most_entries (length path) then Some (grant.PathTooLong (length path))
+    else None
+
+-- the token of a Grant: its number in eight bytes
+abbrev pub token_of : ℕ → List ℕ
+token_of number = to_le_bytes w64 number
+
+-- what was granted
+pub record Granted : Type 0 where
+  pub account : List ℕ
+  pub fixed : Bool
+  pub path : List (List ℕ)
+
+-- the Grant of a token; a Grant's number is one more than the number of Grants before
+abbrev pub grant_of : List Event → List ℕ → Option Granted
+grant_of [] token = None
+grant_of (event.Grant session account fixed path ∷ older) token =
+    if bytes_eq token (token_of (grants older + 1)) then Some (record { account = account; fixed = fixed; path = path }) else grant_of older token
+grant_of (event ∷ older) token = grant_of older token
+
+-- a miner's own job names the token
+abbrev pub is_spent : List Event → List ℕ → Bool
+is_spent [] token = false
+is_spent (event.Custom session custom ∷ older) token = bytes_eq token custom.token || is_spent older token
+is_spent (event ∷ older) token = is_spent older token
+
+-- an extended kind
+abbrev pub is_extended : Kind → Bool
+is_extended kind.Standard = false
+is_extended kind.Extended = true
+is_extended kind.V1 = false
+
+-- what was granted, where it was to the account
+abbrev pub granted_to : List ℕ → Option Granted → Option Granted
+granted_to account None = None
+granted_to account (Some granted) = if bytes_eq granted.account account then Some granted else None
+
+-- the grant of a token that the channel's account has still to spend
+abbrev pub unspent : List Event → List ℕ → OpenChannel → Option Granted
+unspent past token channel = if is_spent past token then None else granted_to channel.account (grant_of past token)
+
+-- two lists of hashes are the same
+abbrev pub same_path : List (List ℕ) → List (List ℕ) → Bool
+same_path [] [] = true
+same_path (a ∷ as') (b ∷ bs) = bytes_eq a b && same_path as' bs
+same_path [] (b ∷ bs) = false
+same_path (a ∷ as') [] = false
+
+-- a path that is too long, or another than the one that was fixed
+abbrev pub is_bad_path : Granted → List (List ℕ) → Bool
+is_bad_path granted path = nat_lt most_entries (length path) || (granted.fixed && not (same_path path granted.path))
+
+-- a miner's job whose coinbase is refused
+abbrev pub outputs_refusal : Result (Parts × ℕ) OutputsError → Option CustomError
+outputs_refusal (Ok assembled) = None
+outputs_refusal (Err error) = Some (custom.Coinbase error)
+
+-- a tip of another block
+abbrev pub is_other_tip : TipData → CustomData → Bool
+is_other_tip tip offer = not (bytes_eq tip.prev_hash offer.prev_hash) || not (tip.nbits == offer.nbits)
+
+-- why a miner's own job is refused over a tip, its channel and its token being good
+abbrev pub over_tip : List ℕ → Granted → CustomData → Option TipData → Option CustomError
+over_tip script granted offer None = Some custom.StaleTip
+over_tip script granted offer (Some tip) =
+    if is_other_tip tip offer then Some custom.StaleTip
+    else if nat_lt offer.min_ntime tip.header_timestamp then Some (custom.EarlyTime tip.header_timestamp)
+    else if is_bad_path granted offer.merkle_path then Some (custom.BadPath (length offer.merkle_path))
+    else outputs_refusal (assembled_of_outputs (custom_terms offer) script)
+
+-- the same by its token
+abbrev pub with_token : List ℕ → List Event → CustomData → Option Granted → Option CustomError
+with_token script past offer None = Some custom.BadToken
+with_token script past offer (Some granted) = over_tip script granted offer (jobs_of past).tip
+
+-- the same by its channel, which is an extended one of the session
+abbrev pub on_channel : List ℕ → List Event → CustomData → Option OpenChannel → Option CustomError
+on_channel script past offer None = Some custom.NotOpen
+on_channel script past offer (Some channel) =
+    if is_extended channel.kind then with_token script past offer (unspent past offer.token channel) else Some custom.NotOpen
+
+-- why a miner's own job is refused
+abbrev pub custom_refusal : List ℕ → List Event → ℕ → CustomData → Option CustomError
+custom_refusal script past session offer = on_channel script past offer (own_channel past session offer.channel_id)
