@@ -24,6 +24,7 @@ impl Model for U256 {
 }
 
 impl U256 {
+    /// The number with these bytes.
     pub fn of(bytes: [u8; 32]) -> U256
         ensures value { result ≡ bytes }
         ensures length { length result ≡ 32 }
@@ -31,6 +32,7 @@ impl U256 {
         U256 { bytes }
     }
 
+    /// The bytes, as they stand.
     pub fn bytes(&self) -> &[u8; 32]
         ensures value { result.now ≡ self.now }
         ensures length { length self.now ≡ 32 }

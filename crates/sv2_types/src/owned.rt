@@ -43,6 +43,7 @@ impl Str255 {
         Str255 { text }
     }
 
+    /// The text, borrowed.
     pub fn text(&self) -> &str
         ensures value { result.now ≡ self.now }
         ensures fits { length self.now ≤ 255 }
@@ -50,6 +51,7 @@ impl Str255 {
         self.text.as_str()
     }
 
+    /// The text, given back.
     pub fn into_text(self) -> String
         ensures value { string_bytes result ≡ self }
         ensures fits { length self ≤ 255 }
@@ -88,12 +90,14 @@ impl Blob {
         Blob { bytes }
     }
 
+    /// The bytes, borrowed.
     pub fn bytes(&self) -> &[u8]
         ensures { result.now ≡ self.now }
     {
         self.bytes.as_slice()
     }
 
+    /// The bytes, given back.
     pub fn into_vec(self) -> Vec<u8>
         ensures { result.items ≡ self }
     {
@@ -131,6 +135,7 @@ impl Hashes {
         Hashes { items }
     }
 
+    /// The hashes, borrowed.
     pub fn items(&self) -> &[[u8; 32]]
         ensures value { result.now ≡ self.now }
         ensures fits { AllByRecursion (λ item. length item ≡ 32) self.now }
@@ -138,6 +143,7 @@ impl Hashes {
         whole_hashes(self.items.as_slice())
     }
 
+    /// The hashes, given back.
     pub fn into_vec(self) -> Vec<[u8; 32]>
         ensures { result.items ≡ self }
     {

@@ -1,8 +1,8 @@
 //! A reader over borrowed bytes. It takes no memory, and a refusal leaves it where it was.
 
-ghost use Rattle.std.specs.Prelude.{◌≡◌, ◌+◌, ◌<◌, ◌≤◌, ◌^◌, ◌↔◌, length, take, IfOk, IfErr, OnErr, IsOk, IsErr, IsErrOf};
-ghost use Rattle.std.specs.Option.{option_map};
+ghost use Rattle.std.specs.Prelude.{◌≡◌, ◌+◌, ◌<◌, ◌≤◌, ◌^◌, ◌↔◌, length, take, drop, IfOk, IfErr, OnErr, IsOk, IsErr, IsErrOf};
 ghost use Rattle.std.specs.Result.{result_err};
+ghost use Rattle.std.specs.Str.{IsUtf8};
 ghost use Rattle.sv2_types.specs.Cursor.{Moves, rest_of};
 ghost use Rattle.sv2_types.specs.Fields.{U8, U16, U24, U32, U64, UINT256, BOOL, F32, STR0_255, B0_255, B0_32, B0_64K, B0_16M, OPTION_U32, SEQ0_255_U256, SEQ0_64K_U256, SEQ0_64K_U16, SEQ0_64K_B0_16M, Number, Truth, Bytes, Perhaps, Numbers, Parts, Admits, SpellsTruth};
 ghost use Rattle.sv2_types.specs.Reading.{missing, defect, said, parts_size, Finds, MovesOverTruth, numbers_of, parts_at};
@@ -80,6 +80,7 @@ impl<'a> Reader<'a> {
         Ok(part)
     }
 
+    /// A U8.
     pub fn u8(&mut self) -> Result<u8, ReadError>
         ensures spelled { IfOk result (λ v. Moves (spelled_u8 v) self.old self.new) }
         ensures only { Finds U8 (λ v. Number v) (rest_of self.old) result }
@@ -93,6 +94,7 @@ impl<'a> Reader<'a> {
         Ok(part[0])
     }
 
+    /// A U16: two bytes, low byte first.
     pub fn u16(&mut self) -> Result<u16, ReadError>
         ensures spelled { IfOk result (λ v. Moves (spelled_u16 v) self.old self.new) }
         ensures only { Finds U16 (λ v. Number v) (rest_of self.old) result }
@@ -106,6 +108,7 @@ impl<'a> Reader<'a> {
         Ok(u16_of(part))
     }
 
+    /// A U24: three bytes, low byte first.
     pub fn u24(&mut self) -> Result<u32, ReadError>
         ensures spelled { IfOk result (λ v. Moves (spelled_u24 v) self.old self.new) }
         ensures below { IfOk result (λ v. v < 2 ^ 24) }
@@ -120,6 +123,7 @@ impl<'a> Reader<'a> {
         Ok(u24_of(part))
     }
 
+    /// A U32: four bytes, low byte first.
     pub fn u32(&mut self) -> Result<u32, ReadError>
         ensures spelled { IfOk result (λ v. Moves (spelled_u32 v) self.old self.new) }
         ensures only { Finds U32 (λ v. Number v) (rest_of self.old) result }
@@ -133,6 +137,7 @@ impl<'a> Reader<'a> {
         Ok(u32_of(part))
     }
 
+    /// A U64: eight bytes, low byte first.
     pub fn u64(&mut self) -> Result<u64, ReadError>
         ensures spelled { IfOk result (λ v. Moves (spelled_u64 v) self.old self.new) }
         ensures only { Finds U64 (λ v. Number v) (rest_of self.old) result }
@@ -146,6 +151,7 @@ impl<'a> Reader<'a> {
         Ok(u64_of(part))
     }
 
+    /// A U256: 32 bytes, as they stand.
     pub fn u256(&mut self) -> Result<U256, ReadError>
         ensures spelled { IfOk result (λ v. Moves (v) self.old self.new) }
         ensures fits { IfOk result (λ v. Admits UINT256 (Bytes v)) }
@@ -157,7 +163,7 @@ impl<'a> Reader<'a> {
         Ok(U256::of(array_of(part)))
     }
 
-    /// The lowest bit of one byte; the other seven are ignored.
+    /// A BOOL: the lowest bit of one byte; the other seven are ignored.
     pub fn boolean(&mut self) -> Result<bool, ReadError>
         ensures spelled { IfOk result (λ v. MovesOverTruth v self.old self.new) }
         ensures only { Finds BOOL (λ v. Truth v) (rest_of self.old) result }
@@ -168,7 +174,7 @@ impl<'a> Reader<'a> {
         Ok(part[0] % 2 == 1)
     }
 
-    /// Four bytes that are carried and never read as a number.
+    /// An F32: four bytes that are carried and never read as a number.
     pub fn f32_bytes(&mut self) -> Result<[u8; 4], ReadError>
         ensures spelled { IfOk result (λ v. Moves (v) self.old self.new) }
         ensures fits { IfOk result (λ v. Admits F32 (Bytes v)) }
@@ -180,11 +186,14 @@ impl<'a> Reader<'a> {
         Ok(array_of(part))
     }
 
+    /// A STR0_255: one byte of length, then UTF-8. The whole content is there before it is looked at.
     pub fn str255(&mut self) -> Result<&'a str, ReadError>
         ensures spelled { IfOk result (λ v. Moves (spelled_str255 v.now) self.old self.new) }
         ensures fits { IfOk result (λ v. Admits STR0_255 (Bytes v.now)) }
         ensures only { Finds STR0_255 (λ v. Bytes v.now) (rest_of self.old) result }
         ensures refused { result_err result ≡ defect STR0_255 (rest_of self.old) }
+        ensures not_utf8 { let rest = rest_of self.old in IsErrOf result ReadError.NotUtf8
+            ↔ ((1 + said 1 rest ≤ length rest) × ¬ (IsUtf8 (take (said 1 rest) (drop 1 rest)))) }
         ensures err { OnErr result (self.new ≡ self.old) }
     {
         let start = self.at;
@@ -199,6 +208,7 @@ impl<'a> Reader<'a> {
         }
     }
 
+    /// A B0_255: one byte of length, then the bytes.
     pub fn b255(&mut self) -> Result<&'a [u8], ReadError>
         ensures spelled { IfOk result (λ v. Moves (spelled_b255 v.now) self.old self.new) }
         ensures fits { IfOk result (λ v. Admits B0_255 (Bytes v.now)) }
@@ -211,11 +221,13 @@ impl<'a> Reader<'a> {
         Ok(&part[1..])
     }
 
+    /// A B0_32: one byte of length, at most 32, then the bytes.
     pub fn b32(&mut self) -> Result<&'a [u8], ReadError>
         ensures spelled { IfOk result (λ v. Moves (spelled_b255 v.now) self.old self.new) }
         ensures fits { IfOk result (λ v. Admits B0_32 (Bytes v.now)) }
         ensures only { Finds B0_32 (λ v. Bytes v.now) (rest_of self.old) result }
         ensures refused { result_err result ≡ defect B0_32 (rest_of self.old) }
+        ensures too_great { IsErrOf result ReadError.LengthTooGreat ↔ (32 < said 1 (rest_of self.old)) }
         ensures err { OnErr result (self.new ≡ self.old) }
     {
         let len = said_u8(self.rest());
@@ -226,6 +238,7 @@ impl<'a> Reader<'a> {
         Ok(&part[1..])
     }
 
+    /// A B0_64K: two bytes of length, then the bytes.
     pub fn b64k(&mut self) -> Result<&'a [u8], ReadError>
         ensures spelled { IfOk result (λ v. Moves (spelled_b64k v.now) self.old self.new) }
         ensures fits { IfOk result (λ v. Admits B0_64K (Bytes v.now)) }
@@ -238,6 +251,7 @@ impl<'a> Reader<'a> {
         Ok(&part[2..])
     }
 
+    /// A B0_16M: three bytes of length, then the bytes.
     pub fn b16m(&mut self) -> Result<&'a [u8], ReadError>
         ensures spelled { IfOk result (λ v. Moves (spelled_b16m v.now) self.old self.new) }
         ensures fits { IfOk result (λ v. Admits B0_16M (Bytes v.now)) }
@@ -250,11 +264,13 @@ impl<'a> Reader<'a> {
         Ok(&part[3..])
     }
 
+    /// An OPTION[U32]: a count of 0 or 1, then the number where there is one.
     pub fn option_u32(&mut self) -> Result<Option<u32>, ReadError>
         ensures spelled { IfOk result (λ v. Moves (spelled_option_u32 v) self.old self.new) }
         ensures fits { IfOk result (λ v. Admits OPTION_U32 (Perhaps v)) }
         ensures only { Finds OPTION_U32 (λ v. Perhaps v) (rest_of self.old) result }
         ensures refused { result_err result ≡ defect OPTION_U32 (rest_of self.old) }
+        ensures too_great { IsErrOf result ReadError.CountTooGreat ↔ (1 < said 1 (rest_of self.old)) }
         ensures err { OnErr result (self.new ≡ self.old) }
     {
         match said_u8(self.rest()) {
@@ -270,6 +286,7 @@ impl<'a> Reader<'a> {
         }
     }
 
+    /// A SEQ0_255[U256]: one byte of count, then the items.
     pub fn seq_u256(&mut self) -> Result<Seq32<'a>, ReadError>
         ensures spelled { IfOk result (λ v. Moves (spelled_seq_u256 v.items.now) self.old self.new) }
         ensures fits { IfOk result (λ v. Admits SEQ0_255_U256 (Parts v.items.now)) }
@@ -282,6 +299,7 @@ impl<'a> Reader<'a> {
         Ok(Seq32::of(hashes_of(&part[1..])))
     }
 
+    /// A SEQ0_64K[U256]: two bytes of count, then the items.
     pub fn seq64k_u256(&mut self) -> Result<Seq32<'a>, ReadError>
         ensures spelled { IfOk result (λ v. Moves (spelled_seq64k_u256 v.items.now) self.old self.new) }
         ensures fits { IfOk result (λ v. Admits SEQ0_64K_U256 (Parts v.items.now)) }
@@ -294,6 +312,7 @@ impl<'a> Reader<'a> {
         Ok(Seq32::of(hashes_of(&part[2..])))
     }
 
+    /// A SEQ0_64K[U16]: two bytes of count, then the numbers.
     pub fn seq_u16(&mut self) -> Result<SeqU16<'a>, ReadError>
         ensures spelled { IfOk result (λ v. Moves (spelled_seq_u16 (numbers_of v.spelled.now)) self.old self.new) }
         ensures fits { IfOk result (λ v. Admits SEQ0_64K_U16 (Numbers (numbers_of v.spelled.now))) }
@@ -306,6 +325,7 @@ impl<'a> Reader<'a> {
         Ok(SeqU16::of(&part[2..]))
     }
 
+    /// A SEQ0_64K[B0_16M]: two bytes of count, then the byte strings. Each length is gone through.
     pub fn seq_bytes(&mut self) -> Result<SeqBytes<'a>, ReadError>
         ensures spelled { IfOk result (λ v. Moves (spelled_seq_bytes (parts_at v.count v.spelled.now)) self.old self.new) }
         ensures fits { IfOk result (λ v. Admits SEQ0_64K_B0_16M (Parts (parts_at v.count v.spelled.now))) }

@@ -13,11 +13,13 @@ use crate::little_endian::{said_u16, said_u24};
 /// At most 65,535 items of 32 bytes (Stratum V2, SEQ0_255[U256] and SEQ0_64K[U256]).
 #[derive(Clone, Copy, Debug, PartialEq, Eq)]
 pub struct Seq32<'a> {
+    /// The items, as they lie in the input.
     pub items: &'a [[u8; 32]],
-    ghost count_fits: { length items.now < 2 ^ 16 },
+    pub ghost count_fits: { length items.now < 2 ^ 16 },
 }
 
 impl<'a> Seq32<'a> {
+    /// The sequence of these items.
     pub fn of(items: &'a [[u8; 32]]) -> Seq32<'a>
         requires { length items.now < 2 ^ 16 }
         ensures { result.items.now ≡ items.now }
@@ -25,6 +27,7 @@ impl<'a> Seq32<'a> {
         Seq32 { items }
     }
 
+    /// The items, as they lie in the input.
     pub fn items(&self) -> &'a [[u8; 32]]
         ensures value { result.now ≡ self.now.items.now }
         ensures count { length result.now < 2 ^ 16 }
@@ -37,12 +40,14 @@ impl<'a> Seq32<'a> {
 /// At most 65,535 numbers, each spelled in two bytes, low byte first (Stratum V2, SEQ0_64K[U16]).
 #[derive(Clone, Copy, Debug, PartialEq, Eq)]
 pub struct SeqU16<'a> {
+    /// Two bytes for each number.
     pub spelled: &'a [u8],
-    ghost even: { length spelled.now % 2 ≡ 0 },
-    ghost count_fits: { length spelled.now ≤ 131070 },
+    pub ghost even: { length spelled.now % 2 ≡ 0 },
+    pub ghost count_fits: { length spelled.now ≤ 131070 },
 }
 
 impl<'a> SeqU16<'a> {
+    /// The numbers that these bytes spell.
     pub fn of(spelled: &'a [u8]) -> SeqU16<'a>
         requires even { length spelled.now % 2 ≡ 0 }
         requires count_fits { length spelled.now ≤ 131070 }
@@ -63,6 +68,7 @@ impl<'a> SeqU16<'a> {
         self.spelled.len() / 2
     }
 
+    /// There are no numbers.
     pub fn is_empty(&self) -> bool
         ensures { IsTrue result ↔ (numbers_of self.now.spelled.now ≡ []) }
     {
@@ -85,9 +91,11 @@ impl<'a> SeqU16<'a> {
 /// SEQ0_64K[B0_16M]).
 #[derive(Clone, Copy, Debug, PartialEq, Eq)]
 pub struct SeqBytes<'a> {
+    /// The byte strings, each behind its length.
     pub spelled: &'a [u8],
+    /// How many byte strings there are.
     pub count: u16,
-    ghost whole: { parts_size count spelled.now ≡ length spelled.now },
+    pub ghost whole: { parts_size count spelled.now ≡ length spelled.now },
 }
 
 impl<'a> SeqBytes<'a> {
@@ -113,6 +121,7 @@ impl<'a> SeqBytes<'a> {
         self.count as usize
     }
 
+    /// There are no byte strings.
     pub fn is_empty(&self) -> bool
         ensures { IsTrue result ↔ (parts_at self.now.count self.now.spelled.now ≡ []) }
     {

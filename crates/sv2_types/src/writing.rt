@@ -8,6 +8,7 @@ use crate::hash::U256;
 use crate::sequences::{Seq32, SeqBytes, SeqU16, spelled_numbers, spelled_parts};
 use std::alloc::AllocError;
 
+/// One byte.
 pub fn put_u8(out: &mut Vec<u8>, value: u8) -> Result<(), AllocError>
     ensures ok { OnOk result (out.new.items ≡ out.old.items ++ spelled_u8 value) }
     ensures err { OnErr result (out.new.items ≡ out.old.items) }
