@@ -1,0 +1,6 @@
+pub mod Given
+pub mod IllegalEvents
+pub mod OwnJobs
+pub mod Rows
+pub mod SessionS
+pub mod Settlements
