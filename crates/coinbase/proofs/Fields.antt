@@ -24,16 +24,16 @@ bind_ok (Ok x) f y e = (x, refl, e)
 bind_ok (Err d) f y e = absurd cc
 
 -- the same, for what follows from it
-pub bind_case : {A B C : Type 0} (r : Result A TxError) (f : A → Result B TxError) (y : B) → (r >>= f) ≡ Ok y → ((x : A) → r ≡ Ok x → f x ≡ Ok y → C) → C
+pub bind_case : {A B C E : Type 0} (r : Result A E) (f : A → Result B E) (y : B) → (r >>= f) ≡ Ok y → ((x : A) → r ≡ Ok x → f x ≡ Ok y → C) → C
 bind_case (Ok x) f y e k = k x refl e
 bind_case (Err d) f y e k = absurd cc
 
 -- a test that did not fail
-pub guard_ok : {A : Type 0} (b : Bool) (d : TxError) (x y : A) → cond b (Err d) (Ok x) ≡ Ok y → (b ≡ false) × (x ≡ y)
+pub guard_ok : {A E : Type 0} (b : Bool) (d : E) (x y : A) → cond b (Err d) (Ok x) ≡ Ok y → (b ≡ false) × (x ≡ y)
 guard_ok true d x y e = absurd cc
 guard_ok false d x y e = (refl, cc)
 
-pub guard_held : {A : Type 0} (b : Bool) (d : TxError) (r : Result A TxError) (y : A) → cond b r (Err d) ≡ Ok y → (b ≡ true) × (r ≡ Ok y)
+pub guard_held : {A E : Type 0} (b : Bool) (d : E) (r : Result A E) (y : A) → cond b r (Err d) ≡ Ok y → (b ≡ true) × (r ≡ Ok y)
 guard_held true d r y e = (refl, e)
 guard_held false d r y e = absurd cc
 
@@ -177,9 +177,9 @@ number_reader w limit wide = record { found = number_found w limit wide; only = 
 byte_alone : (n : ℕ) → n < 256 → to_le_bytes w8 n ≡ n ∷ []
 byte_alone n lt = ap (λ x. x ∷ []) (omega arith)
 
-compact-1 : (n : ℕ) → n < 253 → compact n ≡ n ∷ []
+pub compact_small : (n : ℕ) → n < 253 → compact n ≡ n ∷ []
 unfolding compact
-compact-1 n small = rw (lt-ltb n 253 small) refl
+compact_small n small = rw (lt-ltb n 253 small) refl
 
 compact-3 : (n : ℕ) → 253 ≤ n → n < 2 ^ 16 → compact n ≡ 253 ∷ to_le_bytes w16 n
 unfolding compact
@@ -244,7 +244,7 @@ compact_found p q n bytes e =
     elim (chosen (ltb first.0 253) (Ok first) (marked p first.0) (Ok (n, q)) rest) [
       | inl small ↦
           let alone : Took p first.1 (compact first.0) =
-          subst (Took p first.1) (byte_alone first.0 taken.1 ∙ sym (compact-1 first.0 (ltb-true _ _ small.0))) taken.0 in
+          subst (Took p first.1) (byte_alone first.0 taken.1 ∙ sym (compact_small first.0 (ltb-true _ _ small.0))) taken.0 in
           subst (λ (y : ℕ × Place). Took p y.1 (compact y.0) × (y.0 < 2 ^ 64)) (ok_is first (n, q) small.1) (alone, omega (arith, taken.1))
       | inr more ↦ elim (chosen (eqb first.0 253) (marked_at w16 253 p) (marked_last p first.0) (Ok (n, q)) more.1) [
         | inl two ↦
@@ -273,7 +273,7 @@ unfolding compact_at
 compact_only p q n fits took =
     elim (cases_lt n 253) [
       | inl small ↦
-          let alone : Took p q (to_le_bytes w8 n) = subst (Took p q) (compact-1 n small ∙ sym (byte_alone n (omega arith))) took in
+          let alone : Took p q (to_le_bytes w8 n) = subst (Took p q) (compact_small n small ∙ sym (byte_alone n (omega arith))) took in
           rw (number_only w8 256 wide8 p q n (omega arith) alone, lt-ltb n 253 small) refl
       | inr past_one ↦ elim (cases_lt n (2 ^ 16)) [
         | inl small ↦

@@ -13,7 +13,7 @@ use Rattle.coinbase.specs.declared.tx.TxOut.{TxOut}
 use Rattle.coinbase.specs.Compact.{compact, sized}
 use Rattle.coinbase.specs.Form.{counted, input_bytes, output_bytes, stack_bytes, has_item, written, with_witness, without_witness, IsInput, IsOutput, IsItem, IsStack, IsWitness, IsTx, TxOf}
 use Rattle.coinbase.specs.Steps.{◌>>=◌}
-use Rattle.coinbase.specs.Reading.{Place, bytes_at, number_at, compact_at, sized_at, many_at, counted_at, input_at, output_at, flagged_count_at, flagged_at, opening_at, witnesses_at, tx_at, tx_of, Answers}
+use Rattle.coinbase.specs.Reading.{Place, bytes_at, number_at, compact_at, sized_at, many_at, counted_at, input_at, output_at, flagged_count_at, flagged_at, opening_at, witnesses_at, witnesses_if, tx_at, tx_of, Answers}
 use Rattle.coinbase.proofs.Fields.{AreBytes, bind_case, guard_ok, guard_held, chosen, ok_is, same_place, Took, Took-then, between, Took-first, Took-second, AreBytes-rest, IsReader, bytes_found, bytes_only, number_reader, wide8, wide32, wide64, compact_reader, sized_reader, many_reader, counted_reader}
 
 number8 : IsReader (number_at w8) (to_le_bytes w8) (λ n. n < 256)
@@ -184,10 +184,7 @@ stack_reader =
 abbrev pub Follow : Bool → ℕ → List (List (List ℕ)) → Type 0
 Follow marked inputs stacks = MatchBool marked (IsWitness inputs stacks) (stacks ≡ [])
 
-abbrev pub following : Bool → ℕ → Place → Result (List (List (List ℕ)) × Place) TxError
-following marked inputs p = cond marked (witnesses_at inputs p) (Ok ([], p))
-
-witnesses_found : (marked : Bool) (n : ℕ) (p q : Place) (x : List (List (List ℕ))) → AreBytes p.left → following marked n p ≡ Ok (x, q) →
+witnesses_found : (marked : Bool) (n : ℕ) (p q : Place) (x : List (List (List ℕ))) → AreBytes p.left → witnesses_if marked n p ≡ Ok (x, q) →
     Took p q (flat_map stack_bytes x) × Follow marked n x
 unfolding witnesses_at
 witnesses_found true n p q x bytes e =
@@ -201,7 +198,7 @@ witnesses_found false n p q x bytes e =
     (record { parts = refl; at = omega arith }, refl)
 
 witnesses_only : (marked : Bool) (n : ℕ) (p q : Place) (x : List (List (List ℕ))) → Follow marked n x → Took p q (flat_map stack_bytes x) →
-    following marked n p ≡ Ok (x, q)
+    witnesses_if marked n p ≡ Ok (x, q)
 unfolding witnesses_at
 witnesses_only true n p q x fits took =
     let all = (many_reader (counted_at sized_at) stack_bytes IsStack stack_reader n).only p q x (fits.one_per_input, fits.each) took in
@@ -211,7 +208,7 @@ witnesses_only false n p q x fits took =
     let same : p ≡ q = same_place p q (omega (arith, nothing.at)) nothing.parts in
     rw (same, fits) refl
 
-witnesses_reader : (marked : Bool) (n : ℕ) → IsReader (following marked n) (flat_map stack_bytes) (Follow marked n)
+witnesses_reader : (marked : Bool) (n : ℕ) → IsReader (witnesses_if marked n) (flat_map stack_bytes) (Follow marked n)
 witnesses_reader marked n = record { found = witnesses_found marked n; only = witnesses_only marked n }
 
 -- ---- transactions
@@ -252,19 +249,19 @@ unfolding tx_at
 tx_found p q t bytes e =
     bind_case (number_at w32 p)
     (λ version. opening_at version.1 >>= λ opening. many_at input_at opening.0.1 opening.1 >>= λ inputs. counted_at output_at inputs.1 >>= λ outputs.
-    following opening.0.0 opening.0.1 outputs.1 >>= λ witnesses. number_at w32 witnesses.1 >>= λ lock_time.
+    witnesses_if opening.0.0 opening.0.1 outputs.1 >>= λ witnesses. number_at w32 witnesses.1 >>= λ lock_time.
     Ok (record { version = version.0; inputs = inputs.0; outputs = outputs.0; witnesses = witnesses.0; lock_time = lock_time.0 }, lock_time.1)) (t, q) e (λ version step1 rest1.
     bind_case (opening_at version.1)
     (λ opening. many_at input_at opening.0.1 opening.1 >>= λ inputs. counted_at output_at inputs.1 >>= λ outputs.
-    following opening.0.0 opening.0.1 outputs.1 >>= λ witnesses. number_at w32 witnesses.1 >>= λ lock_time.
+    witnesses_if opening.0.0 opening.0.1 outputs.1 >>= λ witnesses. number_at w32 witnesses.1 >>= λ lock_time.
     Ok (record { version = version.0; inputs = inputs.0; outputs = outputs.0; witnesses = witnesses.0; lock_time = lock_time.0 }, lock_time.1)) (t, q) rest1 (λ opening step2 rest2.
     bind_case (many_at input_at opening.0.1 opening.1)
-    (λ inputs. counted_at output_at inputs.1 >>= λ outputs. following opening.0.0 opening.0.1 outputs.1 >>= λ witnesses. number_at w32 witnesses.1 >>= λ lock_time.
+    (λ inputs. counted_at output_at inputs.1 >>= λ outputs. witnesses_if opening.0.0 opening.0.1 outputs.1 >>= λ witnesses. number_at w32 witnesses.1 >>= λ lock_time.
     Ok (record { version = version.0; inputs = inputs.0; outputs = outputs.0; witnesses = witnesses.0; lock_time = lock_time.0 }, lock_time.1)) (t, q) rest2 (λ inputs step3 rest3.
     bind_case (counted_at output_at inputs.1)
-    (λ outputs. following opening.0.0 opening.0.1 outputs.1 >>= λ witnesses. number_at w32 witnesses.1 >>= λ lock_time.
+    (λ outputs. witnesses_if opening.0.0 opening.0.1 outputs.1 >>= λ witnesses. number_at w32 witnesses.1 >>= λ lock_time.
     Ok (record { version = version.0; inputs = inputs.0; outputs = outputs.0; witnesses = witnesses.0; lock_time = lock_time.0 }, lock_time.1)) (t, q) rest3 (λ outputs step4 rest4.
-    bind_case (following opening.0.0 opening.0.1 outputs.1)
+    bind_case (witnesses_if opening.0.0 opening.0.1 outputs.1)
     (λ witnesses. number_at w32 witnesses.1 >>= λ lock_time.
     Ok (record { version = version.0; inputs = inputs.0; outputs = outputs.0; witnesses = witnesses.0; lock_time = lock_time.0 }, lock_time.1)) (t, q) rest4 (λ witnesses step5 rest5.
     bind_case (number_at w32 witnesses.1)
@@ -331,7 +328,7 @@ tx_only marked p q t is took =
     (many_reader input_at input_bytes IsInput input_reader n).only m2 m3 t.inputs (refl, is.each_input) (Took-second p m3 (b0 ++ b1) b2 to3) in
     let r3 : counted_at output_at m3 ≡ Ok (t.outputs, m4) =
     (counted_reader output_at output_bytes IsOutput output_reader).only m3 m4 t.outputs (is.outputs, is.each_output) (Took-second p m4 (b0 ++ b1 ++ b2) b3 to4) in
-    let r4 : following marked n m4 ≡ Ok (t.witnesses, m5) = (witnesses_reader marked n).only m4 m5 t.witnesses is.witnesses (Took-second p m5 (b0 ++ b1 ++ b2 ++ b3) b4 to5) in
+    let r4 : witnesses_if marked n m4 ≡ Ok (t.witnesses, m5) = (witnesses_reader marked n).only m4 m5 t.witnesses is.witnesses (Took-second p m5 (b0 ++ b1 ++ b2 ++ b3) b4 to5) in
     let r5 : number_at w32 m5 ≡ Ok (t.lock_time, q) = number32.only m5 q t.lock_time is.lock_time (Took-second p q (b0 ++ b1 ++ b2 ++ b3 ++ b4) b5 took) in
     rw (r0, r1, r2, r3, r4, r5) refl
 
@@ -434,3 +431,23 @@ one_tx a b bytes first second = ok_is a b (sym (tx_again bytes a first) ∙ tx_a
 pub is_found : (bytes : List ℕ) (r : Result Tx TxError) → AreBytes bytes → Answers r (tx_of bytes) → IfOk r (λ tx. TxOf tx bytes)
 is_found bytes (Ok tx) fits given = tx_takes bytes tx fits given
 is_found bytes (Err e) fits given = tt
+
+-- what was read is written as it was
+pub read_then_written : (t : Tx) (bytes : List ℕ) → AreBytes bytes → tx_of bytes ≡ Ok t → written t ≡ bytes
+read_then_written t bytes fits e = sym (tx_takes bytes t fits e).form
+
+-- what is written is read again
+pub written_then_read : (t : Tx) → IsTx t → tx_of (written t) ≡ Ok t
+written_then_read t is = tx_again (written t) t (record { is_tx = is; form = refl })
+
+-- what follows a transaction is counted
+pub trailing_law : (t : Tx) (front rest : List ℕ) → TxOf t front → 0 < length rest → tx_of (front ++ rest) ≡ Err (Trailing (length rest))
+unfolding tx_of
+trailing_law t front rest is some =
+    let form = readable t is.is_tx in
+    let last : Place = record { at = length front; left = rest } in
+    let text : front ≡ fields form.0 t = is.form ∙ sym form.2 in
+    let took : Took (record { at = 0; left = front ++ rest }) last (fields form.0 t) =
+    record { parts = ap (λ (x : List ℕ). x ++ rest) text; at = omega (arith, ap length text) } in
+    let more : eqb (length rest) 0 ≡ false = ne_eqb _ _ (λ none. absurd (omega arith)) in
+    rw (tx_only form.0 (record { at = 0; left = front ++ rest }) last t form.1 took, more) refl

@@ -76,12 +76,12 @@ output_shorter p q x e =
 
 -- ---- the loop
 
-empty_read : (n : ℕ) (p : Place) → length p.left ≡ 0 → outputs_within n p ≡ Ok []
+pub empty_read : (n : ℕ) (p : Place) → length p.left ≡ 0 → outputs_within n p ≡ Ok []
 unfolding outputs_within
 empty_read zero p empty = refl
 empty_read (suc n) p empty = rw (eq-eqb (length p.left) 0 empty) refl
 
-more_read : (n : ℕ) (p : Place) → 0 < length p.left → outputs_within (suc n) p ≡ and_more (output_at p) p.at (λ after. outputs_within n after)
+pub more_read : (n : ℕ) (p : Place) → 0 < length p.left → outputs_within (suc n) p ≡ and_more (output_at p) p.at (λ after. outputs_within n after)
 unfolding outputs_within
 more_read n p some = rw (ne_eqb (length p.left) 0 (λ none. absurd (omega arith))) refl
 

@@ -40,20 +40,23 @@ with_witness t = to_le_bytes w32 t.version ++ (0 ∷ 1 ∷ []) ++ body t ++ flat
 abbrev pub written : Tx → List ℕ
 written t = if length t.witnesses == 0 then without_witness t else with_witness t
 
--- what an input, an output, a witness and its items may be
+-- what an input may be
 pub record IsInput (i : TxIn) : Type 0 where
   pub previous : length i.previous ≡ 32
   pub index : i.index < 2 ^ 32
   pub script : length i.script < 2 ^ 64
   pub sequence : i.sequence < 2 ^ 32
 
+-- what an output may be
 pub record IsOutput (o : TxOut) : Type 0 where
   pub value : o.value < 2 ^ 64
   pub script : length o.script < 2 ^ 64
 
+-- what a witness item may be
 abbrev pub IsItem : List ℕ → Type 0
 IsItem item = length item < 2 ^ 64
 
+-- what the witness of one input may be
 pub record IsStack (items : List (List ℕ)) : Type 0 where
   pub count : length items < 2 ^ 64
   pub each : AllByRecursion IsItem items
@@ -62,13 +65,13 @@ pub record IsStack (items : List (List ℕ)) : Type 0 where
 abbrev pub has_item : List (List (List ℕ)) → Bool
 has_item stacks = list_any (λ items. not (length items == 0)) stacks
 
--- no witnesses, or one for each input and an item in at least one of them (BIP 144)
+-- one for each input, and an item in at least one of them (BIP 144)
 pub record IsWitness (inputs : ℕ) (stacks : List (List (List ℕ))) : Type 0 where
   pub each : AllByRecursion IsStack stacks
   pub one_per_input : length stacks ≡ inputs
   pub some : IsTrue (has_item stacks)
 
--- a transaction: at least one input, and numbers in their ranges
+-- a transaction: at least one input, numbers in their ranges, and witnesses or none
 pub record IsTx (t : Tx) : Type 0 where
   pub version : t.version < 2 ^ 32
   pub some_input : 0 < length t.inputs

@@ -11,3 +11,4 @@ pub mod States
 pub mod Steps
 pub mod Custom
 pub mod CustomRecipes
+pub mod CoinTx

@@ -1,10 +1,14 @@
 -- The outputs that a coinbase is to have, as one list of bytes.
-use Rattle.std.specs.Prelude.{◌≡◌, ◌≢◌, ℕ, zero, suc, ◌<◌, Bool, false, ◌==◌, if◌then◌else◌, List, [], ◌∷◌, ◌++◌, length, take, drop, Result, Ok, Err, nat_eq}
+use Rattle.std.specs.Prelude.{◌≡◌, ◌≢◌, ℕ, zero, suc, ◌<◌, Bool, false, ◌==◌, if◌then◌else◌, List, [], ◌∷◌, ◌++◌, length, take, drop, slice_index, Result, Ok, Err, nat_eq}
 use Rattle.std.specs.List.{flat_map, list_any, starts_with, AllByRecursion}
 use Rattle.coinbase.specs.declared.error.TxError.{TxError}
 use Rattle.coinbase.specs.declared.tx.TxOut.{TxOut}
 use Rattle.coinbase.specs.Form.{output_bytes, IsOutput}
 use Rattle.coinbase.specs.Reading.{Place, output_at}
+
+-- each is a byte
+abbrev pub AreBytes : List ℕ → Type 0
+AreBytes bytes = (i : ℕ) → slice_index bytes i < 256
 
 -- the bytes are these outputs, one after the other
 pub record AreOutputs (outputs : List TxOut) (bytes : List ℕ) : Type 0 where

@@ -59,6 +59,7 @@ counted_at read p = do
   count ← compact_at p
   many_at read count.0 count.1
 
+-- an input: what it spends, its script, its sequence
 unfoldable pub input_at : Place → Result (TxIn × Place) TxError
 input_at p = do
   previous ← bytes_at 32 p
@@ -67,6 +68,7 @@ input_at p = do
   sequence ← number_at w32 script.1
   Ok (record { previous = previous.0; index = index.0; script = script.0; sequence = sequence.0 }, sequence.1)
 
+-- an output: its value, its script
 unfoldable pub output_at : Place → Result (TxOut × Place) TxError
 output_at p = do
   value ← number_at w64 p
@@ -99,13 +101,18 @@ witnesses_at inputs p = do
   stacks ← many_at (counted_at sized_at) inputs p
   if has_item stacks.0 then Ok stacks else Err EmptyWitness
 
+-- the same where they follow, and else none
+abbrev pub witnesses_if : Bool → ℕ → Place → Result (List (List (List ℕ)) × Place) TxError
+witnesses_if follow inputs p = if follow then witnesses_at inputs p else Ok ([], p)
+
+-- a transaction, with witnesses where there is a marker
 unfoldable pub tx_at : Place → Result (Tx × Place) TxError
 tx_at p = do
   version ← number_at w32 p
   opening ← opening_at version.1
   inputs ← many_at input_at opening.0.1 opening.1
   outputs ← counted_at output_at inputs.1
-  witnesses ← if opening.0.0 then witnesses_at opening.0.1 outputs.1 else Ok ([], outputs.1)
+  witnesses ← witnesses_if opening.0.0 opening.0.1 outputs.1
   lock_time ← number_at w32 witnesses.1
   Ok (record { version = version.0; inputs = inputs.0; outputs = outputs.0; witnesses = witnesses.0; lock_time = lock_time.0 }, lock_time.1)
 

@@ -1,6 +1,7 @@
 //! The coinbase of a job, which lacks its twelve bytes of extranonce.
 
-ghost use Rattle.std.specs.Prelude.{◌≡◌, ◌≤◌, length, position, Ok, IfOk, MatchResult};
+ghost use Rattle.std.specs.Prelude.{◌≡◌, ◌≤◌, ◌++◌, length, position, Ok, IfOk, MatchResult};
+ghost use Rattle.coinbase.specs.Form.{output_bytes};
 ghost use Rattle.std.specs.List.{list_any};
 ghost use Rattle.coinbase.specs.Coin as coin;
 ghost use Rattle.coinbase.specs.Custom as custom;
@@ -90,7 +91,9 @@ impl Assembly {
             return Err(AssemblyError::RewardTooLarge(recipe.reward));
         }
         let prefix = prefix_of(alloc, recipe.tx_version, recipe.prefix)?;
-        let suffix = template_suffix(alloc, recipe, script)?;
+        let paid = paid_outputs(alloc, recipe, script)?;
+        let count = 1 + recipe.outputs_count as usize;
+        let suffix = suffix_of(alloc, recipe.sequence, count, &paid, recipe.lock_time)?;
         let assembly = joined(prefix, suffix, has_commitment(&outputs));
         let length = assembly.whole_len();
         if length > 65_535 {
@@ -118,7 +121,14 @@ impl Assembly {
             return Err(OutputsError::RewardTooLarge(reward));
         }
         let prefix = prefix_of(alloc, recipe.tx_version, recipe.prefix)?;
-        let suffix = custom_suffix(alloc, recipe, outputs.len())?;
+        let count = outputs.len();
+        let suffix = suffix_of(
+            alloc,
+            recipe.sequence,
+            count,
+            recipe.outputs,
+            recipe.lock_time,
+        )?;
         let assembly = joined(prefix, suffix, has_commitment(&outputs));
         Ok((assembly, reward as u64))
     }
@@ -214,17 +224,32 @@ fn prefix_of(alloc: Global, version: u32, prefix: &[u8]) -> Result<Vec<u8>, Allo
     Ok(text)
 }
 
-// What stands after the extranonce in a template's coinbase.
-fn template_suffix(alloc: Global, recipe: &Recipe, script: &[u8]) -> Result<Vec<u8>, AllocError>
-    ensures { IfOk result (λ v. v.items ≡ (coin.parts_of (terms_of recipe.now) script.now).suffix) }
+// What stands after the extranonce.
+fn suffix_of(
+    alloc: Global,
+    sequence: u32,
+    count: usize,
+    outputs: &[u8],
+    lock_time: u32,
+) -> Result<Vec<u8>, AllocError>
+    ensures { IfOk result (λ v. v.items ≡ parts.suffix_of sequence count outputs.now lock_time) }
 {
     let mut text = Vec::new(alloc);
-    text.extend_from_slice(&recipe.sequence.to_le_bytes())?;
-    put_compact(&mut text, 1 + recipe.outputs_count as usize)?;
+    text.extend_from_slice(&sequence.to_le_bytes())?;
+    put_compact(&mut text, count)?;
+    text.extend_from_slice(outputs)?;
+    text.extend_from_slice(&lock_time.to_le_bytes())?;
+    Ok(text)
+}
+
+// The pool's output, and then the template's.
+fn paid_outputs(alloc: Global, recipe: &Recipe, script: &[u8]) -> Result<Vec<u8>, AllocError>
+    ensures { IfOk result (λ v. v.items ≡ output_bytes (coin.pool_output recipe.now.reward script.now) ++ recipe.now.outputs.now) }
+{
+    let mut text = Vec::new(alloc);
     text.extend_from_slice(&recipe.reward.to_le_bytes())?;
     put_sized(&mut text, script)?;
     text.extend_from_slice(recipe.outputs)?;
-    text.extend_from_slice(&recipe.lock_time.to_le_bytes())?;
     Ok(text)
 }
 
@@ -258,18 +283,6 @@ fn is_commitment(output: &TxOut) -> bool
         .script
         .bytes()
         .starts_with(&[0x6a, 0x24, 0xaa, 0x21, 0xa9, 0xed])
-}
-
-// What stands after the extranonce in the coinbase of a miner's job.
-fn custom_suffix(alloc: Global, recipe: &CustomRecipe, count: usize) -> Result<Vec<u8>, AllocError>
-    ensures { IfOk result (λ v. v.items ≡ (custom.custom_parts (custom_terms_of recipe.now) count).suffix) }
-{
-    let mut text = Vec::new(alloc);
-    text.extend_from_slice(&recipe.sequence.to_le_bytes())?;
-    put_compact(&mut text, count)?;
-    text.extend_from_slice(recipe.outputs)?;
-    text.extend_from_slice(&recipe.lock_time.to_le_bytes())?;
-    Ok(text)
 }
 
 // A miner's outputs, all of which pay to the pool's script.

@@ -13,5 +13,12 @@ mod writing;
 
 pub use assembly::{Assembly, CustomRecipe, Recipe};
 pub use error::{AssemblyError, OutputsError, TxError};
-pub use laws::{bytes_are_one_transaction, reading_and_writing_agree};
+pub use laws::{
+    bytes_are_one_transaction, custom_jobs_make_transactions, outputs_are_broken_where_told,
+    outputs_are_read_where_whole, reading_and_writing_agree, templates_make_transactions,
+    trailing_bytes_are_counted,
+};
 pub use tx::{Stack, Tx, TxIn, TxIns, TxOut, TxOuts, Witnesses};
+
+#[cfg(test)]
+mod tests;
