@@ -1,5 +1,6 @@
 pub mod Accounts
 pub mod Answering
+pub mod ByPlaces
 pub mod Calls
 pub mod Channels
 pub mod Crediting

@@ -1,0 +1,84 @@
+-- The states of jobs and the class at a job once more, by places over the history from its front. The law
+-- `jobs_by_places` says that these words and the recursions over the past are the same.
+use Rattle.std.specs.Prelude.{◌≡◌, ℕ, ◌+◌, Bool, true, false, not, Option, None, Some, List, [], ◌∷◌, ◌++◌, filter, take, nat_lt}
+use Rattle.std.specs.Option.{option_map}
+use Rattle.pool_history.specs.declared.events.Event.{Event}
+use Rattle.pool_history.specs.declared.events.Event.TheVariants as event
+use Rattle.pool_history.specs.declared.templates.TipData.{TipData}
+use Rattle.pool_history.specs.Jobs.{Job, Source, FromTemplate, FromMiner, Standing, future_in, is_own, jobs_of, last, made_live}
+use Rattle.pool_history.specs.Sessions.{past_of}
+
+-- the jobs from a place and a number on: the Template and Custom events in their order
+abbrev pub jobs_from : ℕ → ℕ → List Event → List Job
+jobs_from at number [] = []
+jobs_from at number (event.Template session template ∷ more) =
+    record { number = number; session = session; live_at = at; source = FromTemplate template } ∷ jobs_from (at + 1) (number + 1) more
+jobs_from at number (event.Custom session custom ∷ more) =
+    record { number = number; session = 0; live_at = at; source = FromMiner custom } ∷ jobs_from (at + 1) (number + 1) more
+jobs_from at number (event ∷ more) = jobs_from (at + 1) number more
+
+-- job j is the j-th Template or Custom event, counted from 1
+abbrev pub jobs_in : List Event → List Job
+jobs_in history = jobs_from 0 1 history
+
+-- a tip and its place
+pub record TipAt : Type 0 where
+  pub at : ℕ
+  pub tip : TipData
+
+-- the last tip from a place on, or the one before
+abbrev pub last_tip : ℕ → Option TipAt → List Event → Option TipAt
+last_tip at before [] = before
+last_tip at before (event.Tip session tip ∷ more) = last_tip (at + 1) (Some (record { at = at; tip = tip })) more
+last_tip at before (event ∷ more) = last_tip (at + 1) before more
+
+-- the last tip of a history
+abbrev pub tip_in : List Event → Option TipAt
+tip_in history = last_tip 0 None history
+
+-- a job is late where it comes after the tip; all are where there is none
+abbrev pub is_late : Option TipAt → Job → Bool
+is_late None job = true
+is_late (Some tipped) job = nat_lt tipped.at job.live_at
+
+-- the late jobs
+abbrev pub late : List Event → List Job
+late history = filter (is_late (tip_in history)) (jobs_in history)
+
+-- a template's job that is future, and one that isn't
+abbrev pub is_future : Source → Bool
+is_future (FromTemplate template) = template.future_template
+is_future (FromMiner custom) = false
+
+abbrev pub is_ready : Source → Bool
+is_ready (FromTemplate template) = not template.future_template
+is_ready (FromMiner custom) = false
+
+-- the future jobs: the last 16 of the late templates that are future
+abbrev pub future_jobs : List Event → List Job
+future_jobs history = last 16 (filter (λ job. is_future job.source) (late history))
+
+-- the job that a tip made live: the future job of the history before it that has its template
+abbrev pub tip_job : List Event → Option TipAt → List Job
+tip_job history None = []
+tip_job history (Some tipped) = made_live tipped.at (future_in (future_jobs (take tipped.at history)) tipped.tip.template_id)
+
+-- the live jobs of templates: the last 64 of the last tip's job and the late templates that aren't future
+abbrev pub live_jobs : List Event → List Job
+live_jobs history = last 64 (tip_job history (tip_in history) ++ filter (λ job. is_ready job.source) (late history))
+
+-- a channel's own live jobs: the last 16 late ones
+abbrev pub own_jobs : List Event → ℕ → List Job
+own_jobs history channel = last 16 (filter (λ job. is_own channel job.source) (late history))
+
+-- these are the jobs of the history
+pub record AreJobsOf (history : List Event) (standing : Standing) : Type 0 where
+  pub all : standing.all ≡ jobs_in history
+  pub future : standing.future ≡ future_jobs history
+  pub live : standing.live ≡ live_jobs history
+  pub custom : (channel : ℕ) → filter (λ job. is_own channel job.source) standing.custom ≡ own_jobs history channel
+  pub tip : standing.tip ≡ option_map (λ tipped. tipped.tip) (tip_in history)
+
+-- the recursion over the past gives the jobs that the words say
+abbrev pub JobsByPlaces : Type 0
+JobsByPlaces = (history : List Event) → AreJobsOf history (jobs_of (past_of history))
