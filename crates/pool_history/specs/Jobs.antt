@@ -1,6 +1,6 @@
 -- The states of jobs (Stratum V2, "NewTemplate" and "SetNewPrevHash"; how many are kept is this project's own), told
 -- by templates, tips and miners' own jobs with their places.
-use Rattle.std.specs.Prelude.{ℕ, ◌+◌, ◌-◌, ◌==◌, ◌||◌, Bool, true, false, if◌then◌else◌, Option, None, Some, List, [], ◌∷◌, ◌++◌, length, drop, find, count_by, nat_lt}
+use Rattle.std.specs.Prelude.{ℕ, ◌+◌, ◌-◌, ◌==◌, ◌||◌, Bool, true, false, if◌then◌else◌, Option, None, Some, List, [], ◌∷◌, ◌++◌, length, drop, find, nat_lt, filter}
 use Rattle.std.specs.List.{list_any}
 use Rattle.pool_history.specs.declared.events.Event.{Event}
 use Rattle.pool_history.specs.declared.events.Event.TheVariants as event
@@ -72,7 +72,7 @@ without_first channel (job ∷ jobs) = if is_own channel job.source then jobs el
 
 -- a channel keeps its last sixteen
 abbrev pub at_most_sixteen : ℕ → List Job → List Job
-at_most_sixteen channel jobs = if nat_lt 16 (count_by (λ job. is_own channel job.source) jobs) then without_first channel jobs else jobs
+at_most_sixteen channel jobs = if nat_lt 16 (length (filter (λ job. is_own channel job.source) jobs)) then without_first channel jobs else jobs
 
 -- a template's job, which is future or live at once
 abbrev pub with_template : Job → Bool → Standing → Standing

@@ -52,4 +52,3 @@ fn causes_print_as_an_auditor_says_them(rt: HostRuntime) -> Result<(), Fail> {
     }
     Ok(())
 }
-
