@@ -1,10 +1,12 @@
--- The states of jobs and the class at a job once more, by places over the history from its front. The law
--- `jobs_by_places` says that these words and the recursions over the past are the same.
-use Rattle.std.specs.Prelude.{◌≡◌, ℕ, ◌+◌, Bool, true, false, not, Option, None, Some, List, [], ◌∷◌, ◌++◌, filter, take, nat_lt}
+-- The states of jobs and the class at a job once more, by places over the history from its front. The laws
+-- `jobs_by_places` and `classes_by_places` say that these words and the recursions over the past are the same.
+use Rattle.std.specs.Prelude.{◌≡◌, ℕ, ◌+◌, ◌==◌, ◌&&◌, Bool, true, false, not, if◌then◌else◌, Option, None, Some, List, [], ◌∷◌, ◌++◌, filter, take, nat_le, nat_lt}
+use Rattle.std.specs.List.{AllByRecursion}
 use Rattle.std.specs.Option.{option_map}
 use Rattle.pool_history.specs.declared.events.Event.{Event}
 use Rattle.pool_history.specs.declared.events.Event.TheVariants as event
 use Rattle.pool_history.specs.declared.templates.TipData.{TipData}
+use Rattle.pool_history.specs.Channels.{ClassSet, OpenChannel, channels_of, class_at}
 use Rattle.pool_history.specs.Jobs.{Job, Source, FromTemplate, FromMiner, Standing, future_in, is_own, jobs_of, last, made_live}
 use Rattle.pool_history.specs.Sessions.{past_of}
 
@@ -82,3 +84,42 @@ pub record AreJobsOf (history : List Event) (standing : Standing) : Type 0 where
 -- the recursion over the past gives the jobs that the words say
 abbrev pub JobsByPlaces : Type 0
 JobsByPlaces = (history : List Event) → AreJobsOf history (jobs_of (past_of history))
+
+-- how many channels were opened
+abbrev pub opens_in : List Event → ℕ
+opens_in [] = 0
+opens_in (event.Open session kind account class lead ∷ more) = opens_in more + 1
+opens_in (event ∷ more) = opens_in more
+
+-- the classes that were set to a channel from a place on: its Class events after its opening
+abbrev pub sets_from : ℕ → ℕ → ℕ → List Event → List ClassSet
+sets_from at opened id [] = []
+sets_from at opened id (event.Open session kind account class lead ∷ more) = sets_from (at + 1) (opened + 1) id more
+sets_from at opened id (event.Class session channel class ∷ more) =
+    (if id == channel && nat_le id opened then record { at = at; class = class } ∷ [] else []) ++ sets_from (at + 1) opened id more
+sets_from at opened id (event ∷ more) = sets_from (at + 1) opened id more
+
+-- the class of a channel's opening: channel c is the c-th that was opened
+abbrev pub opening_class_from : ℕ → ℕ → List Event → Option ℕ
+opening_class_from opened id [] = None
+opening_class_from opened id (event.Open session kind account class lead ∷ more) =
+    if opened + 1 == id then Some class else opening_class_from (opened + 1) id more
+opening_class_from opened id (event ∷ more) = opening_class_from opened id more
+
+-- the class of the last set, or else that of the opening
+abbrev pub class_of_last : List ClassSet → ℕ → ℕ
+class_of_last [] opening = opening
+class_of_last (set ∷ more) opening = class_of_last more set.class
+
+-- the class of a channel before a place: that of its last Class event before it, or else of its opening
+abbrev pub class_at_place : List Event → ℕ → ℕ → ℕ → ℕ
+class_at_place history id live_at opening = class_of_last (filter (λ set. nat_lt set.at live_at) (sets_from 0 0 id history)) opening
+
+-- an open channel has the class of its opening, and at each place the class that the words say
+pub record HasClasses (history : List Event) (channel : OpenChannel) : Type 0 where
+  pub opening : opening_class_from 0 channel.id history ≡ Some channel.opening_class
+  pub class : (live_at : ℕ) → class_at channel live_at ≡ class_at_place history channel.id live_at channel.opening_class
+
+-- so has each open channel of a history
+abbrev pub ClassesByPlaces : Type 0
+ClassesByPlaces = (history : List Event) → AllByRecursion (HasClasses history) (channels_of (past_of history))
