@@ -1,3 +1,4 @@
+pub mod Edges
 pub mod Forms
 pub mod Numbers
 pub mod Running

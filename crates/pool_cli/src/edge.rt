@@ -1,11 +1,12 @@
-// The edge: standard input and output as a source and a sink. Nothing is known of what they bring or hold.
+// The edge: standard input and output as a source and a sink. The real ones tell nothing of what they bring or hold.
 ghost use Rattle.std.specs.Prelude.{◌≡◌};
 
 use pool_io::{Host, HostError, Shelf, Sink, SinkFailed, Source, Took};
 use std::alloc::Global;
 use std::io::{ErrorKind, Read, Write};
 
-/// A reader as a source. A read that was interrupted or would block is Idle; any other error is counted.
+/// A reader as a source, which tells no turns. A read that was interrupted or would block is Idle; any other
+/// error is counted.
 #[derive(Drop)]
 pub struct ReadSource<R: Read + Drop> {
     reader: R,
@@ -21,13 +22,25 @@ impl<R: Read + Drop> ReadSource<R> {
 }
 
 impl<R: Read + Drop> Source for ReadSource<R> {
-    ghost use Rattle.std.specs.Prelude.{None};
+    ghost use Rattle.std.specs.Prelude.{None, ◌<◌, ◌≤◌, length};
+    ghost use Rattle.pool_base.specs.Counts.{Rose};
+    ghost use Rattle.pool_io.specs.Outside.{IsWithin, Takes};
+    ghost use Rattle.pool_cli.specs.Edges.{ReadsOn};
 
     ghost faults = { λ s. s.faults };
 
     ghost left = { λ _. None };
 
-    fn take(&mut self, buffer: &mut [u8]) -> Took {
+    fn take(&mut self, buffer: &mut [u8]) -> Took
+        requires { 0 < length buffer.old }
+        ensures bound { IsWithin result (length buffer.new) }
+        ensures turns { Takes None None result buffer.new }
+        ensures later { self.old.faults ≤ self.new.faults }
+        ensures cause { result ≡ Took.Failed → Rose self.old.faults self.new.faults }
+
+        // Where the reader tells its bytes, they are those that come.
+        ensures reads { ReadsOn (R.remaining self.old.reader) (R.remaining self.new.reader) result buffer.new }
+    {
         match self.reader.read(buffer) {
             Ok(0) => Took::End,
             Ok(count) => Took::Bytes(count),
@@ -58,13 +71,26 @@ impl<W: Write + Drop> WriteSink<W> {
 }
 
 impl<W: Write + Drop> Sink for WriteSink<W> {
-    ghost use Rattle.std.specs.Prelude.{None};
+    ghost use Rattle.std.specs.Prelude.{None, ◌<◌, ◌≤◌, length, take, IfOk};
+    ghost use Rattle.std.specs.Io.KnownBytes.{Appends};
+    ghost use Rattle.pool_base.specs.Counts.{Rose};
+    ghost use Rattle.pool_io.specs.Outside.{Adds};
 
     ghost faults = { λ s. s.faults };
 
     ghost held = { λ _. None };
 
-    fn put(&mut self, piece: &[u8]) -> Result<usize, SinkFailed> {
+    fn put(&mut self, piece: &[u8]) -> Result<usize, SinkFailed>
+        requires { 0 < length piece.now }
+        ensures some { IfOk result (λ n. 0 < n) }
+        ensures bound { IfOk result (λ n. n ≤ length piece.now) }
+        ensures taken { IfOk result (λ n. Adds None None (take n piece.now)) }
+        ensures later { self.old.faults ≤ self.new.faults }
+        ensures cause { result ≡ Err SinkFailed.Failed → Rose self.old.faults self.new.faults }
+
+        // Where the writer tells its bytes, it has those that were taken.
+        ensures writes { IfOk result (λ n. Appends (W.contents self.old.writer) (W.contents self.new.writer) (take n piece.now)) }
+    {
         match self.writer.write(piece) {
             Ok(count) if count > 0 => Ok(count),
             _ => {
