@@ -1,5 +1,5 @@
 -- Worked examples of channels, leads, jobs and shares, as far as no hash decides.
-use Rattle.std.proofs.Common.{◌≡◌, ℕ, ◌+◌, ◌++◌, Bool, true, false, Option, None, Some, Result, Ok, Err, List, [], ◌∷◌, refl, zero, suc}
+use Rattle.std.proofs.Common.{map, ◌≡◌, ℕ, ◌+◌, ◌++◌, Bool, true, false, Option, None, Some, Result, Ok, Err, List, [], ◌∷◌, refl, zero, suc}
 use Rattle.std.specs.Prelude.{replicate}
 use Rattle.std.specs.Option.{option_map}
 use Rattle.block_header.specs.Target.{first_class}
@@ -15,12 +15,12 @@ use Rattle.pool_history.specs.declared.refusals.JobError.TheVariants as job
 use Rattle.pool_history.specs.declared.refusals.OpenError.TheVariants as open_error
 use Rattle.coinbase.specs.declared.error.AssemblyError.TheVariants as assembly
 use Rattle.pool_history.specs.Channels.{OpenChannel, channel_in, channels_of, class_at, class_of}
-use Rattle.pool_history.specs.Crediting.{first_failed}
+use Rattle.pool_history.specs.Crediting.{booked, first_failed}
 use Rattle.pool_history.specs.Jobs.{Job, jobs_of, live_job, state_of}
 use Rattle.pool_history.specs.Judging.{Admitted, admitted}
 use Rattle.pool_history.specs.Refusing.{class_of_target, lead_for, open_refusal, template_refusal}
 use Rattle.pool_history.specs.Spaces.{first_free, lowest}
-use Rattle.pool_history.proofs.Given.{rules, template_of, tip_of, opened, templated, tipped, share}
+use Rattle.pool_history.proofs.Given.{credits, tips, rules, template_of, tip_of, opened, templated, tipped, share}
 
 -- the strings of one byte below a number, the last first
 abbrev pub bytes_below : ℕ → List (List ℕ)
@@ -111,6 +111,19 @@ class_at_old_job = refl
 
 pub class_at_next_job : class_for next_job 2 ≡ Some 60
 class_at_next_job = refl
+
+-- a job becomes live by its tip: a class that was set between the template and the tip counts, also for the work
+abbrev pub set_before_tip : List Event
+set_before_tip = tips ∷ event.Class 0 1 5 ∷ templated
+
+pub class_set_before_tip : class_for set_before_tip 1 ≡ Some 5
+class_set_before_tip = refl
+
+pub work_set_before_tip : map (λ credit. credit.work) (booked (credits ∷ set_before_tip)) ≡ 32 ∷ []
+work_set_before_tip = refl
+
+pub work_by_old_class : map (λ credit. credit.work) (booked (credits ∷ next_job)) ≡ 1 ∷ []
+work_by_old_class = refl
 
 -- job 1 is future, live, and stale after the next tip; a number that no job has is unknown
 abbrev pub after_next_tip : List Event

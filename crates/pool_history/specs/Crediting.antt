@@ -13,7 +13,7 @@ use Rattle.pool_history.specs.declared.refusals.Failed.{Failed}
 use Rattle.pool_history.specs.declared.refusals.Failed.TheVariants as failed
 use Rattle.pool_history.specs.declared.settings.Rules.{Rules}
 use Rattle.pool_history.specs.Channels.{channel_in, channels_of, class_at}
-use Rattle.pool_history.specs.Jobs.{Source, FromTemplate, FromMiner, jobs_of, numbered}
+use Rattle.pool_history.specs.Jobs.{Source, FromTemplate, FromMiner, jobs_of, live_job}
 use Rattle.pool_history.specs.Judging.{Share, Admitted, admitted, found, is_standard, outputs_in, rebuilt}
 use Rattle.pool_history.specs.Sessions.{credits, script_of}
 
@@ -37,11 +37,11 @@ credit_share where_booked channel job nonce ntime version extranonce = record {
   extranonce = extranonce;
 }
 
--- the channel, the job and the tip of a credit, by the events before it
+-- the channel, the live job and the tip of a credit, by the events before it
 abbrev pub booked_with : List Event → ℕ → ℕ → Result Admitted Failed
 booked_with past channel job = do
   there ← found failed.Channel (channel_in (channels_of past) channel)
-  source ← found failed.Job (numbered job (jobs_of past).all)
+  source ← found failed.Stale (live_job (jobs_of past) job)
   tip ← found failed.Stale (jobs_of past).tip
   Ok (record { channel = there; job = source; tip = tip })
 

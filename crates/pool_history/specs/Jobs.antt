@@ -29,7 +29,7 @@ pub record Job : Type 0 where
   pub live_at : ℕ
   pub source : Source
 
--- all jobs in their order, those of templates that are future or live, the miners' own that are live, and the last tip
+-- all jobs as they came, those of templates that are future or live, the miners' own that are live, and the last tip
 pub record Standing : Type 0 where
   pub all : List Job
   pub future : List Job

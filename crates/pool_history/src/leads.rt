@@ -23,3 +23,39 @@ impl Model for Lead {
 
     ghost inverse = { λ bytes. record { len = length bytes; bytes = bytes ++ replicate (4 - length bytes) 0 } };
 }
+
+impl Lead {
+    ghost use Rattle.std.specs.Prelude.{◌≡◌, ◌-◌, ◌++◌, ◌≤◌, length, take, replicate};
+
+    /// The first `len` of four bytes, the others being 0.
+    pub fn of(len: u8, bytes: [u8; 4]) -> Lead
+        requires some { 1 ≤ len }
+        requires most { len ≤ 4 }
+        requires padded { take len bytes ++ replicate (4 - len) 0 ≡ bytes }
+        ensures { result ≡ take len bytes }
+    {
+        Lead { len, bytes }
+    }
+
+    /// How many bytes it has: 1 to 4.
+    pub fn len(&self) -> u8
+        ensures value { result ≡ length self.now }
+        ensures some { 1 ≤ result }
+        ensures most { result ≤ 4 }
+    {
+        self.len
+    }
+
+    pub fn bytes(&self) -> &[u8]
+        ensures { result.now ≡ self.now }
+    {
+        &self.bytes[..usize::from(self.len)]
+    }
+
+    /// The bytes with zeros behind them, as they stand at the front of an extranonce.
+    pub fn padded(&self) -> &[u8; 4]
+        ensures { result.now ≡ self.now ++ replicate (4 - length self.now) 0 }
+    {
+        &self.bytes
+    }
+}
