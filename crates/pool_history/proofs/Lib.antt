@@ -3,6 +3,7 @@ pub mod IllegalEvents
 pub mod OwnJobs
 pub mod PlacesOfClasses
 pub mod PlacesOfJobs
+pub mod PlacesOfStates
 pub mod Rows
 pub mod SessionS
 pub mod Settlements

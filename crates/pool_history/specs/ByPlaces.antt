@@ -1,13 +1,15 @@
 -- The states of jobs and the class at a job once more, by places over the history from its front. The laws
--- `jobs_by_places` and `classes_by_places` say that these words and the recursions over the past are the same.
-use Rattle.std.specs.Prelude.{◌≡◌, ℕ, ◌+◌, ◌==◌, ◌&&◌, Bool, true, false, not, if◌then◌else◌, Option, None, Some, List, [], ◌∷◌, ◌++◌, filter, take, nat_le, nat_lt}
+-- `jobs_by_places`, `states_by_places` and `classes_by_places` say that these words and the recursions over the past are the same.
+use Rattle.std.specs.Prelude.{◌≡◌, ◌≤◌, ◌⊎◌, IsTrue, length, ℕ, ◌+◌, ◌==◌, ◌&&◌, Bool, true, false, not, if◌then◌else◌, Option, None, Some, List, [], ◌∷◌, ◌++◌, filter, take, nat_le, nat_lt}
 use Rattle.std.specs.List.{AllByRecursion}
 use Rattle.std.specs.Option.{option_map}
 use Rattle.pool_history.specs.declared.events.Event.{Event}
 use Rattle.pool_history.specs.declared.events.Event.TheVariants as event
+use Rattle.pool_history.specs.declared.events.JobState.{JobState}
+use Rattle.pool_history.specs.declared.events.JobState.TheVariants as state
 use Rattle.pool_history.specs.declared.templates.TipData.{TipData}
 use Rattle.pool_history.specs.Channels.{ClassSet, OpenChannel, channels_of, class_at}
-use Rattle.pool_history.specs.Jobs.{Job, Source, FromTemplate, FromMiner, Standing, future_in, is_own, jobs_of, last, made_live}
+use Rattle.pool_history.specs.Jobs.{Job, Source, FromTemplate, FromMiner, Standing, future_in, has_number, is_own, jobs_of, last, made_live, state_of}
 use Rattle.pool_history.specs.Sessions.{past_of}
 
 -- the jobs from a place and a number on: the Template and Custom events in their order
@@ -123,3 +125,29 @@ pub record HasClasses (history : List Event) (channel : OpenChannel) : Type 0 wh
 -- so has each open channel of a history
 abbrev pub ClassesByPlaces : Type 0
 ClassesByPlaces = (history : List Event) → AllByRecursion (HasClasses history) (channels_of (past_of history))
+
+-- a number is that of a live job of a miner's own: among the last 16 late ones of some channel
+abbrev pub IsOwnLive : List Event → ℕ → Type 0
+IsOwnLive history number = (channel : ℕ) × IsTrue (has_number number (own_jobs history channel))
+
+-- a number is that of a live job
+abbrev pub IsLive : List Event → ℕ → Type 0
+IsLive history number = IsTrue (has_number number (live_jobs history)) ⊎ IsOwnLive history number
+
+-- a number is that of a future job
+abbrev pub IsFuture : List Event → ℕ → Type 0
+IsFuture history number = IsTrue (has_number number (future_jobs history))
+
+-- the state of a number: a job from 1 to as many as came that is neither future nor live is stale, and every other
+-- number is unknown
+abbrev pub IsState : JobState → List Event → ℕ → Type 0
+IsState state.Future history number = IsFuture history number
+IsState state.Live history number = ¬ (IsFuture history number) × IsLive history number
+IsState state.Stale history number =
+    ¬ (IsFuture history number) × ¬ (IsLive history number) × (1 ≤ number) × (number ≤ length (jobs_in history))
+IsState state.Unknown history number =
+    ¬ (IsFuture history number) × ¬ (IsLive history number) × ¬ ((1 ≤ number) × (number ≤ length (jobs_in history)))
+
+-- the state that the recursion gives is the one that the words say
+abbrev pub StatesByPlaces : Type 0
+StatesByPlaces = (history : List Event) (number : ℕ) → IsState (state_of (jobs_of (past_of history)) number) history number

@@ -17,7 +17,7 @@ mod templates;
 pub use asking::{OpenAsk, Request};
 pub use causes::Cause;
 pub use events::{Event, JobState, Kind, Role};
-pub use laws::{classes_by_places, jobs_by_places};
+pub use laws::{classes_by_places, jobs_by_places, states_by_places};
 pub use leads::Lead;
 pub use refusals::{CustomError, Failed, GrantError, JobError, NameError, OpenError, UpdateError};
 pub use replies::{Class, Opened, Reply, Script, SessionNumber};
