@@ -1,5 +1,6 @@
 pub mod Given
 pub mod IllegalEvents
+pub mod LedgerLengths
 pub mod OwnJobs
 pub mod PlacesOfClasses
 pub mod PlacesOfJobs
