@@ -1,0 +1,36 @@
+//! What each block and each history keep of their rewards.
+
+ghost use Rattle.payout_laws.specs.Blocks.{BalancesAreRewards, BlocksAreCredits, SettlementsAreOfBlocks};
+ghost use Rattle.payout_laws.specs.Conservation.{RewardsAreConserved};
+ghost use Rattle.payout_laws.specs.Payouts.{BalancesAreSums, PayoutsAreQuotients};
+
+/// Each block of a legal history: its reward is its payouts plus the pool's part. The part beyond the fee is
+/// less than one satoshi for each account with a weight, and each payout is its exact share, rounded down.
+pub fn rewards_are_conserved()
+    ensures { RewardsAreConserved }
+{}
+
+/// An account is paid the quotient of its weight by all weights, and nothing without a weight.
+pub fn payouts_are_quotients()
+    ensures { PayoutsAreQuotients }
+{}
+
+/// The blocks are the credits with a reward, each with the credits up to it, and no others.
+pub fn blocks_are_credits()
+    ensures { BlocksAreCredits }
+{}
+
+/// The settlements are those of the blocks, one for each, in their order.
+pub fn settlements_are_of_blocks()
+    ensures { SettlementsAreOfBlocks }
+{}
+
+/// An account's balance is the sum of what it is due of all blocks.
+pub fn balances_are_sums()
+    ensures { BalancesAreSums }
+{}
+
+/// The balances of all accounts and what the pool has are together the rewards of all blocks.
+pub fn balances_are_rewards()
+    ensures { BalancesAreRewards }
+{}
