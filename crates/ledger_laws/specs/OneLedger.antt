@@ -1,0 +1,39 @@
+-- A record has one spelling and a ledger is of one history (this project's own).
+use Rattle.std.specs.Prelude.{◌≡◌, ℕ, List, [], ◌++◌}
+use Rattle.std.specs.List.{AllByRecursion}
+use Rattle.pool_history.specs.declared.events.Event.{Event}
+use Rattle.pool_history.specs.Ledger.{ledger_text, ledger_text_1, record_of}
+use Rattle.ledger_laws.specs.WellFormed.{CanBeKept}
+
+-- the same event was read, and the same bytes follow
+pub record ReadsTheSame (one other : Event) (behind_one behind_other : List ℕ) : Type 0 where
+  pub events : one ≡ other
+  pub behind : behind_one ≡ behind_other
+
+-- a record is read back from its spelling, whatever follows
+abbrev pub RecordsAreReadBack : Type 0
+RecordsAreReadBack =
+    (one other : Event) (behind_one behind_other : List ℕ) → CanBeKept one → CanBeKept other
+    → record_of one ++ behind_one ≡ record_of other ++ behind_other → ReadsTheSame one other behind_one behind_other
+
+-- two events with the same record are one
+abbrev pub RecordsAreOfOneEvent : Type 0
+RecordsAreOfOneEvent = (one other : Event) → CanBeKept one → CanBeKept other → record_of one ≡ record_of other → one ≡ other
+
+-- no record begins another
+abbrev pub NoRecordBeginsAnother : Type 0
+NoRecordBeginsAnother =
+    (one other : Event) (more : List ℕ) → CanBeKept one → CanBeKept other → record_of one ++ more ≡ record_of other → more ≡ []
+
+-- each event of the history can be kept
+abbrev pub AllCanBeKept : List Event → Type 0
+AllCanBeKept history = AllByRecursion CanBeKept history
+
+-- two histories with the same ledger are one, in format 2 and in format 1
+abbrev pub LedgersAreOfOneHistory : Type 0
+LedgersAreOfOneHistory =
+    (one other : List Event) → AllCanBeKept one → AllCanBeKept other → ledger_text one ≡ ledger_text other → one ≡ other
+
+abbrev pub OldLedgersAreOfOneHistory : Type 0
+OldLedgersAreOfOneHistory =
+    (one other : List Event) → AllCanBeKept one → AllCanBeKept other → ledger_text_1 one ≡ ledger_text_1 other → one ≡ other

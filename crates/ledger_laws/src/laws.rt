@@ -1,0 +1,39 @@
+//! What the bytes of a ledger say, and how it grows.
+
+ghost use Rattle.ledger_laws.specs.Growing.{LedgersGrow, PiecesGrow};
+ghost use Rattle.ledger_laws.specs.OneLedger.{LedgersAreOfOneHistory, NoRecordBeginsAnother, OldLedgersAreOfOneHistory, RecordsAreOfOneEvent, RecordsAreReadBack};
+
+/// Bytes that begin with a record begin with that of no other event, and what follows it is the same.
+pub fn records_are_read_back()
+    ensures { RecordsAreReadBack }
+{}
+
+/// Two events with the same record are one.
+pub fn records_are_of_one_event()
+    ensures { RecordsAreOfOneEvent }
+{}
+
+/// No record begins another.
+pub fn no_record_begins_another()
+    ensures { NoRecordBeginsAnother }
+{}
+
+/// Two histories with the same ledger of format 2 are one.
+pub fn ledgers_are_of_one_history()
+    ensures { LedgersAreOfOneHistory }
+{}
+
+/// Two histories with the same ledger of format 1 are one.
+pub fn old_ledgers_are_of_one_history()
+    ensures { OldLedgersAreOfOneHistory }
+{}
+
+/// One more event adds its record, and in format 2 the hash over all records behind it.
+pub fn ledgers_grow()
+    ensures { LedgersGrow }
+{}
+
+/// A ledger in pieces gets one piece more for each event after the first.
+pub fn pieces_grow()
+    ensures { PiecesGrow }
+{}

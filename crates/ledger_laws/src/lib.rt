@@ -1,0 +1,16 @@
+//! The laws of ledgers: a record is read back whatever follows, a ledger is of one history, and what one more
+//! event adds to it. It writes and reads no ledger: the definitions of `pool_history` say its bytes, and each
+//! law is the contract of a function with nothing to compute.
+#![tactic(auto)]
+
+mod kinds;
+mod laws;
+
+pub use kinds::record_kind;
+pub use laws::{
+    ledgers_are_of_one_history, ledgers_grow, no_record_begins_another,
+    old_ledgers_are_of_one_history, pieces_grow, records_are_of_one_event, records_are_read_back,
+};
+
+#[cfg(test)]
+mod tests;
