@@ -12,7 +12,7 @@ use Rattle.pool_history.specs.declared.templates.TemplateData.{TemplateData}
 use Rattle.pool_history.specs.declared.templates.TipData.{TipData}
 use Rattle.pool_history.specs.Ledger.{CustomFits, GrantFits, RulesFit, TemplateFits, kind_number, record_body, record_kind, role_number, spelled_rule, spelled_rules, spelled_users}
 use Rattle.ledger_laws.specs.WellFormed.{AreRules, CanBeKept, IsBrought, IsClass, IsClose, IsCredit, IsCustom, IsEnter, IsGrant, IsName, IsOffer, IsOpen, IsTemplate, IsTip, IsTipped, IsU32}
-use Rattle.ledger_laws.proofs.Fields.{AreOf, fields_agree, same_fields, written, written_after-is}
+use Rattle.ledger_laws.proofs.FieldByField.{AreOf, fields_agree, same_fields, written, written_after-is}
 use Rattle.ledger_laws.proofs.Kept.{apart, kind-small, role-small, rule-small, rule_number, same_custom, same_kind, same_role, same_rules, same_template, same_tip, same_window, spelled_rule-numbers, users_agree, window-small, window_number}
 
 -- the fields of rules but the accounts

@@ -1,6 +1,6 @@
 pub mod Bodies
 pub mod Examples
-pub mod Fields
+pub mod FieldByField
 pub mod Growth
 pub mod Kept
 pub mod Records

@@ -3,12 +3,13 @@ use Rattle.std.proofs.Common.{◌≡◌, ℕ, ◌<◌, ◌≤◌, ◌^◌, List,
 use Rattle.std.proofs.lemmas.List.{append_cancel_left}
 use Rattle.sha2.specs.Sha256.{sha256}
 use Rattle.sv2_types.specs.Fields.{B0_16M, Bytes, Number, U8}
+use Rattle.pool_base.specs.Lists.{Begins}
 use Rattle.pool_history.specs.declared.events.Event.{Event}
 use Rattle.pool_history.specs.declared.events.Event.TheVariants as event
-use Rattle.pool_history.specs.Ledger.{chain, chained, magic_2, record_body, record_kind, record_of, with_magic}
-use Rattle.ledger_laws.specs.OneLedger.{AllCanBeKept, LedgersAreOfOneHistory, NoRecordBeginsAnother, OldLedgersAreOfOneHistory, ReadsTheSame, RecordsAreOfOneEvent, RecordsAreReadBack}
+use Rattle.pool_history.specs.Ledger.{chain, chained, magic_1, magic_2, record_body, record_kind, record_of, with_magic}
+use Rattle.ledger_laws.specs.OneLedger.{AllCanBeKept, LedgersAreOfOneHistory, LedgersBeginAlike, NoRecordBeginsAnother, OldLedgersAreOfOneHistory, OldLedgersBeginAlike, ReadsTheSame, RecordsAreOfOneEvent, RecordsAreReadBack}
 use Rattle.ledger_laws.proofs.Bodies.{bodies_agree}
-use Rattle.ledger_laws.proofs.Fields.{fields_agree}
+use Rattle.ledger_laws.proofs.FieldByField.{fields_agree}
 
 -- a kind is a byte
 pub kind_is_byte : (one : Event) → record_kind one < 2 ^ 8
@@ -90,3 +91,50 @@ pub ledgers : LedgersAreOfOneHistory
 ledgers one other p q e =
     pieces_agree (sha256 magic_2) one other p q
     (ap (drop 8) (sym (text_pieces (chained (sha256 magic_2) one)) ∙ e ∙ text_pieces (chained (sha256 magic_2) other)))
+
+-- a history that begins another, with one event more before both
+begins_more : (a b : Event) (one other : List Event) → a ≡ b → Begins one other → Begins (a ∷ one) (b ∷ other)
+begins_more a b one other same begins = (begins.0, ap₂ (λ event history. event ∷ history) same begins.1)
+
+-- records that begin alike
+pub records_begin : (one other : List Event) (x y : List ℕ) → AllCanBeKept one → AllCanBeKept other → length one ≤ length other
+    → flat_map record_of one ++ x ≡ flat_map record_of other ++ y → Begins one other
+records_begin [] other x y p q n e = (other, refl)
+records_begin (a ∷ one) [] x y p q n e = absurd (omega (arith, n))
+records_begin (a ∷ one) (b ∷ other) x y p q n e =
+    let first : ReadsTheSame a b (flat_map record_of one ++ x) (flat_map record_of other ++ y) =
+    read_back a b (flat_map record_of one ++ x) (flat_map record_of other ++ y) p.0 q.0
+    (sym (append_assoc (record_of a) (flat_map record_of one) x) ∙ e ∙ append_assoc (record_of b) (flat_map record_of other) y) in
+    begins_more a b one other first.events (records_begin one other x y p.1 q.1 (omega (arith, n)) first.behind)
+
+pub old_ledgers_begin : OldLedgersBeginAlike
+old_ledgers_begin one other x y p q n e =
+    records_begin one other x y p q n
+    (ap (drop 8) (sym (append_assoc magic_1 (flat_map record_of one) x) ∙ e ∙ append_assoc magic_1 (flat_map record_of other) y))
+
+-- pieces that begin alike
+pub pieces_begin : (before : List ℕ) (one other : List Event) (x y : List ℕ) → AllCanBeKept one → AllCanBeKept other → length one ≤ length other
+    → joined (chained before one) ++ x ≡ joined (chained before other) ++ y → Begins one other
+pieces_begin before [] other x y p q n e = (other, refl)
+pieces_begin before (a ∷ one) [] x y p q n e = absurd (omega (arith, n))
+pieces_begin before (a ∷ one) (b ∷ other) x y p q n e =
+    let hash : Event → List ℕ = λ (z : Event). chain before (record_of z) in
+    let rest : Event → List Event → List ℕ = λ (z : Event) (h : List Event). joined (chained (chain before (record_of z)) h) in
+    let first : ReadsTheSame a b (hash a ++ (rest a one ++ x)) (hash b ++ (rest b other ++ y)) =
+    read_back a b (hash a ++ (rest a one ++ x)) (hash b ++ (rest b other ++ y)) p.0 q.0
+    (sym (spread (record_of a) (hash a) (rest a one) x) ∙ e ∙ spread (record_of b) (hash b) (rest b other) y) in
+    let others : hash a ++ (rest a one ++ x) ≡ hash a ++ (rest a other ++ y) =
+    first.behind ∙ ap (λ z. hash z ++ (rest z other ++ y)) (sym first.events) in
+    begins_more a b one other first.events
+    (pieces_begin (chain before (record_of a)) one other x y p.1 q.1 (omega (arith, n)) (append_cancel_left (hash a) (rest a one ++ x) (rest a other ++ y) others))
+  where
+    spread : (r h j z : List ℕ) → ((r ++ h) ++ j) ++ z ≡ r ++ (h ++ (j ++ z))
+    spread r h j z = simp append_assoc
+
+pub ledgers_begin : LedgersBeginAlike
+ledgers_begin one other x y p q n e =
+    pieces_begin (sha256 magic_2) one other x y p q n
+    (ap (drop 8) (sym (behind_magic (chained (sha256 magic_2) one) x) ∙ e ∙ behind_magic (chained (sha256 magic_2) other) y))
+  where
+    behind_magic : (pieces : List (List ℕ)) (z : List ℕ) → joined (with_magic pieces) ++ z ≡ magic_2 ++ (joined pieces ++ z)
+    behind_magic pieces z = ap (λ bytes. bytes ++ z) (text_pieces pieces) ∙ append_assoc magic_2 (joined pieces) z

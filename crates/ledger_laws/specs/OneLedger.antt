@@ -1,6 +1,7 @@
 -- A record has one spelling and a ledger is of one history (this project's own).
-use Rattle.std.specs.Prelude.{◌≡◌, ℕ, List, [], ◌++◌}
+use Rattle.std.specs.Prelude.{◌≡◌, ℕ, ◌≤◌, List, [], ◌++◌, length}
 use Rattle.std.specs.List.{AllByRecursion}
+use Rattle.pool_base.specs.Lists.{Begins}
 use Rattle.pool_history.specs.declared.events.Event.{Event}
 use Rattle.pool_history.specs.Ledger.{ledger_text, ledger_text_1, record_of}
 use Rattle.ledger_laws.specs.WellFormed.{CanBeKept}
@@ -37,3 +38,14 @@ LedgersAreOfOneHistory =
 abbrev pub OldLedgersAreOfOneHistory : Type 0
 OldLedgersAreOfOneHistory =
     (one other : List Event) → AllCanBeKept one → AllCanBeKept other → ledger_text_1 one ≡ ledger_text_1 other → one ≡ other
+
+-- where the same bytes begin with the ledgers of two histories, one of the histories begins the other
+abbrev pub LedgersBeginAlike : Type 0
+LedgersBeginAlike =
+    (one other : List Event) (behind_one behind_other : List ℕ) → AllCanBeKept one → AllCanBeKept other → length one ≤ length other
+    → ledger_text one ++ behind_one ≡ ledger_text other ++ behind_other → Begins one other
+
+abbrev pub OldLedgersBeginAlike : Type 0
+OldLedgersBeginAlike =
+    (one other : List Event) (behind_one behind_other : List ℕ) → AllCanBeKept one → AllCanBeKept other → length one ≤ length other
+    → ledger_text_1 one ++ behind_one ≡ ledger_text_1 other ++ behind_other → Begins one other

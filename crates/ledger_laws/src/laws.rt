@@ -1,7 +1,7 @@
 //! What the bytes of a ledger say, and how it grows.
 
 ghost use Rattle.ledger_laws.specs.Growing.{LedgersGrow, PiecesGrow};
-ghost use Rattle.ledger_laws.specs.OneLedger.{LedgersAreOfOneHistory, NoRecordBeginsAnother, OldLedgersAreOfOneHistory, RecordsAreOfOneEvent, RecordsAreReadBack};
+ghost use Rattle.ledger_laws.specs.OneLedger.{LedgersAreOfOneHistory, LedgersBeginAlike, NoRecordBeginsAnother, OldLedgersAreOfOneHistory, OldLedgersBeginAlike, RecordsAreOfOneEvent, RecordsAreReadBack};
 
 /// Bytes that begin with a record begin with that of no other event, and what follows it is the same.
 pub fn records_are_read_back()
@@ -26,6 +26,16 @@ pub fn ledgers_are_of_one_history()
 /// Two histories with the same ledger of format 1 are one.
 pub fn old_ledgers_are_of_one_history()
     ensures { OldLedgersAreOfOneHistory }
+{}
+
+/// Where the same bytes begin with the ledgers of format 2 of two histories, one history begins the other.
+pub fn ledgers_begin_alike()
+    ensures { LedgersBeginAlike }
+{}
+
+/// Where the same bytes begin with the ledgers of format 1 of two histories, one history begins the other.
+pub fn old_ledgers_begin_alike()
+    ensures { OldLedgersBeginAlike }
 {}
 
 /// One more event adds its record, and in format 2 the hash over all records behind it.

@@ -3,13 +3,16 @@
 //! law is the contract of a function with nothing to compute.
 #![tactic(auto)]
 
+mod fields;
 mod kinds;
 mod laws;
 
+pub use fields::fields_fit;
 pub use kinds::record_kind;
 pub use laws::{
-    ledgers_are_of_one_history, ledgers_grow, no_record_begins_another,
-    old_ledgers_are_of_one_history, pieces_grow, records_are_of_one_event, records_are_read_back,
+    ledgers_are_of_one_history, ledgers_begin_alike, ledgers_grow, no_record_begins_another,
+    old_ledgers_are_of_one_history, old_ledgers_begin_alike, pieces_grow, records_are_of_one_event,
+    records_are_read_back,
 };
 
 #[cfg(test)]
