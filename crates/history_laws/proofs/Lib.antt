@@ -1,0 +1,10 @@
+pub mod Answering
+pub mod Causes
+pub mod Entrances
+pub mod Fronts
+pub mod Holding
+pub mod Judged
+pub mod Legalities
+pub mod Ranges
+pub mod Served
+pub mod Stepping

@@ -1,0 +1,72 @@
+-- Answers keep a history legal, and credit a share exactly where no condition fails (this project's own).
+use Rattle.std.specs.Prelude.{◌≡◌, ◌↔◌, ℕ, None, Some, Ok, Err, List, [], ◌∷◌, ◌++◌}
+use Rattle.pool_history.specs.declared.asking.Request.{Request}
+use Rattle.pool_history.specs.declared.asking.Request.TheVariants as request
+use Rattle.pool_history.specs.declared.events.Event.{Event}
+use Rattle.pool_history.specs.declared.events.Event.TheVariants as event
+use Rattle.pool_history.specs.declared.refusals.Failed.{Failed}
+use Rattle.pool_history.specs.declared.replies.Reply.{Reply}
+use Rattle.pool_history.specs.declared.replies.Reply.TheVariants as reply
+use Rattle.pool_history.specs.declared.settings.Rules.{Rules}
+use Rattle.pool_history.specs.declared.shares.Checked.{Checked}
+use Rattle.pool_history.specs.declared.shares.Submission.{Submission}
+use Rattle.pool_history.specs.Answering.{Answer}
+use Rattle.pool_history.specs.Crediting.{first_failed, work_of}
+use Rattle.pool_history.specs.Judging.{Admitted, Share, admitted, briefing_of, share_of}
+use Rattle.pool_history.specs.Legal.{Legal, mining}
+use Rattle.pool_history.specs.Sessions.{Entrance, entrance, past_of, present, rules_of}
+use Rattle.std.specs.Prelude.{IsTrue}
+
+-- the events of an answer keep a legal history legal
+abbrev pub AnswersKeepLegality : Type 0
+AnswersKeepLegality =
+    (history : List Event) (worker : ℕ) (asked : Request) (events : List Event) (answer : Reply) → Legal history → Answer history worker asked events answer
+    → Legal (history ++ events)
+
+-- a worker has a present session that may submit shares
+pub record MaySubmit (history : List Event) (worker : ℕ) : Type 0 where
+  pub rules : Rules
+  pub session : ℕ
+  pub entered : Entrance
+  pub are_rules : rules_of (past_of history) ≡ Some rules
+  pub is_present : present (past_of history) worker ≡ Some session
+  pub is_entered : entrance (past_of history) session ≡ Some entered
+  pub mines : IsTrue (mining entered)
+
+-- the event of a share that is booked
+abbrev pub credit_of : ℕ → Share → Event
+credit_of session share = event.Credit session share.channel share.job share.nonce share.ntime share.version share.extranonce
+
+-- a share that is to be booked is credited, with its work, exactly where none of the nine conditions fails, and else
+-- refused by the first that fails, without event
+pub record IsJudged (history : List Event) (worker : ℕ) (may : MaySubmit history worker) (share : Share) (events : List Event) (answer : Reply) : Type 0 where
+  pub credited : (events ≡ credit_of may.session share ∷ []) ↔ (first_failed may.rules (past_of history) may.session share ≡ None)
+  pub work : (with : Admitted) → admitted may.rules (past_of history) may.session share ≡ Ok with
+      → first_failed may.rules (past_of history) may.session share ≡ None → answer ≡ reply.Credited (work_of with)
+  pub refused : (failed : Failed) → first_failed may.rules (past_of history) may.session share ≡ Some failed
+      → (events ≡ []) × (answer ≡ reply.Refused failed)
+
+abbrev pub SharesAreJudged : Type 0
+SharesAreJudged =
+    (history : List Event) (worker : ℕ) (may : MaySubmit history worker) (checked : Checked) (events : List Event) (answer : Reply)
+    → Answer history worker (request.Commit checked) events answer → IsJudged history worker may (share_of checked.sub) events answer
+
+-- a share whose header is still to be computed makes no event; it is refused by the first condition that fails where
+-- that is one of the first six, and else told what its header is made of
+pub record IsBriefed (history : List Event) (worker : ℕ) (may : MaySubmit history worker) (share : Share) (events : List Event) (answer : Reply) : Type 0 where
+  pub none : events ≡ []
+  pub refused : (failed : Failed) → admitted may.rules (past_of history) may.session share ≡ Err failed
+      → (answer ≡ reply.Refused failed) × (first_failed may.rules (past_of history) may.session share ≡ Some failed)
+  pub told : (with : Admitted) → admitted may.rules (past_of history) may.session share ≡ Ok with
+      → answer ≡ reply.Brief (briefing_of may.rules.pool_script with.channel with.job.source with.tip)
+
+abbrev pub SharesAreBriefed : Type 0
+SharesAreBriefed =
+    (history : List Event) (worker : ℕ) (may : MaySubmit history worker) (sub : Submission) (events : List Event) (answer : Reply)
+    → Answer history worker (request.Brief sub) events answer → IsBriefed history worker may (share_of sub) events answer
+
+-- a Credit is made by no other request
+abbrev pub CreditsAreCommitted : Type 0
+CreditsAreCommitted =
+    (history : List Event) (worker : ℕ) (asked : Request) (answer : Reply) (session : ℕ) (share : Share)
+    → Answer history worker asked (credit_of session share ∷ []) answer → (checked : Checked) × (asked ≡ request.Commit checked)

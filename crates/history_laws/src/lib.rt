@@ -1,0 +1,22 @@
+//! Laws of the pool's histories: what legality is, what one more event does, what stays as it is, that open
+//! extranonce spaces are disjoint, and that answers keep a history legal. Each is the contract of a function that
+//! computes nothing; the layers above call it to have its statement.
+#![tactic(auto)]
+
+mod answers;
+mod legality;
+mod one_more;
+mod spaces;
+
+pub use answers::{
+    answers_keep_legality, credits_are_committed, shares_are_briefed, shares_are_judged,
+};
+pub use legality::{
+    empty_is_legal, first_illegal_is_one, legal_histories_start, legality_by_places,
+    legality_is_decided, one_more_is_legal, prefixes_are_legal, start_is_legal,
+};
+pub use one_more::{
+    channels_one_more, counts_one_more, credits_one_more, entrances_one_more, grants_one_more,
+    headers_one_more, jobs_one_more, present_one_more, rules_one_more, spending_one_more,
+};
+pub use spaces::{are_apart, spaces_are_disjoint};

@@ -1,0 +1,22 @@
+//! When extranonces can't meet.
+
+ghost use Rattle.std.specs.Prelude.{IsTrue, ◌↔◌};
+ghost use Rattle.history_laws.specs.Apart.{ShareNone, SpacesAreDisjoint};
+
+use pool_history::Lead;
+
+/// Whether no extranonce begins with both leads: neither of them begins the other.
+pub fn are_apart(a: &Lead, b: &Lead) -> bool
+    ensures { IsTrue result ↔ ShareNone a.now b.now }
+{
+    if a.len() <= b.len() {
+        !b.bytes().starts_with(a.bytes())
+    } else {
+        !a.bytes().starts_with(b.bytes())
+    }
+}
+
+/// After each event of a legal history the spaces of two different open channels are disjoint.
+pub fn spaces_are_disjoint()
+    ensures { SpacesAreDisjoint }
+{}
