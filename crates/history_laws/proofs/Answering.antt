@@ -1,6 +1,6 @@
 -- What answers do to a legal history.
-use Rattle.std.proofs.Common.{◌≡◌, ◌↔◌, ◌^◌, ℕ, ◌+◌, ◌<◌, ◌≤◌, Bool, true, false, cond, ◌&&◌, not, Option, None, Some, Result, Ok, Err, List, [], ◌∷◌, ◌++◌, length, refl, ap, subst, sym, ◌∙◌, arith}
-use Rattle.std.proofs.lemmas.Bool.{and_from, and_parts, cases_Bool, cond_both, eq-eqb, false≢true, leb-true, ltb-false, not-false, not-true, not_from_false, not_from_true}
+use Rattle.std.proofs.Common.{◌≡◌, ◌^◌, ℕ, ◌+◌, ◌≤◌, Bool, true, false, cond, ◌&&◌, not, Option, None, Some, Result, Ok, Err, List, [], ◌∷◌, ◌++◌, length, refl, ap, subst, sym, ◌∙◌}
+use Rattle.std.proofs.lemmas.Bool.{and_from, and_parts, cond_both, eq-eqb, false≢true, ltb-false, not-false, not_from_false}
 use Rattle.std.proofs.lemmas.Nat.{and_assoc}
 use Rattle.std.specs.Int.Bits.{and_self}
 use Rattle.std.proofs.lemmas.List.{append-nil}
@@ -18,7 +18,6 @@ use Rattle.pool_history.specs.declared.events.Kind.TheVariants as kind
 use Rattle.pool_history.specs.declared.events.Role.{Role}
 use Rattle.pool_history.specs.declared.refusals.Failed.{Failed}
 use Rattle.pool_history.specs.declared.refusals.Failed.TheVariants as failed
-use Rattle.pool_history.specs.declared.refusals.NameError.{NameError}
 use Rattle.pool_history.specs.declared.refusals.NameError.TheVariants as name
 use Rattle.pool_history.specs.declared.refusals.OpenError.{OpenError}
 use Rattle.pool_history.specs.declared.refusals.OpenError.TheVariants as open_error
@@ -35,8 +34,7 @@ use Rattle.pool_history.specs.Refusing.{class_for, class_of_target, custom_refus
 use Rattle.pool_history.specs.Sessions.{Entrance, enters, entrance, past_of, present, rules_of}
 use Rattle.pool_history.specs.Spaces.{lowest}
 use Rattle.history_laws.specs.Answered.{AnswersKeepLegality}
-use Rattle.history_laws.proofs.Causes.{IsUncaused}
-use Rattle.history_laws.proofs.Entrances.{none-some, some-same, within-holds}
+use Rattle.history_laws.proofs.Entrances.{none-some, within-holds}
 use Rattle.history_laws.proofs.Holding.{bytes_eq-self, first_free-length}
 use Rattle.history_laws.proofs.Legalities.{one_more_legal, some-none}
 use Rattle.history_laws.proofs.Ranges.{class-fits, lead-fits, least-range, legal-rules}
@@ -161,11 +159,11 @@ name-legal rules past worker session entered id account p may (Some c) found n =
     (peel (not (is_known rules account)) name.UnknownUser (cond (has_other account c) (Some name.OtherAccount) None) n).0 in
     cond_both (is_empty c.account) (kept (event.Name session id account) reply.Named) (told reply.Named) (λ s. NoCause rules past s.event)
     (λ empty.
-      permitted mining (provided (may_get rules account (own_channel past session id)) cause.BadName None) p may
-      ∙ ap (λ o. provided (may_get rules account o) cause.BadName None) found
-      ∙ provided-so (Rattle.pool_history.specs.Legal.is_nameless c.kind c.account && is_known rules account) cause.BadName None
-      (and_from (Rattle.pool_history.specs.Legal.is_nameless c.kind c.account) (is_known rules account)
-        (nameless c (own-served past session id c p.legal found) empty) known))
+    permitted mining (provided (may_get rules account (own_channel past session id)) cause.BadName None) p may
+    ∙ ap (λ o. provided (may_get rules account o) cause.BadName None) found
+    ∙ provided-so (Rattle.pool_history.specs.Legal.is_nameless c.kind c.account && is_known rules account) cause.BadName None
+    (and_from (Rattle.pool_history.specs.Legal.is_nameless c.kind c.account) (is_known rules account)
+    (nameless c (own-served past session id c p.legal found) empty) known))
     (λ has. tt)
 
 -- a channel gets its class
@@ -183,11 +181,11 @@ class-legal rules past worker session entered id target p may (Some c) found n =
     (λ s. NoCause rules past s.event)
     (λ same. tt)
     (λ other.
-      permitted mining (provided (may_become rules class (own_channel past session id)) cause.BadClass None) p may
-      ∙ ap (λ o. provided (may_become rules class o) cause.BadClass None) found
-      ∙ provided-so (is_class rules class && not (nat_eq class (class_of c))) cause.BadClass None
-      (and_from (is_class rules class) (not (nat_eq class (class_of c))) (class-fits rules target least few)
-        (not_from_false (nat_eq class (class_of c)) other)))
+    permitted mining (provided (may_become rules class (own_channel past session id)) cause.BadClass None) p may
+    ∙ ap (λ o. provided (may_become rules class o) cause.BadClass None) found
+    ∙ provided-so (is_class rules class && not (nat_eq class (class_of c))) cause.BadClass None
+    (and_from (is_class rules class) (not (nat_eq class (class_of c))) (class-fits rules target least few)
+    (not_from_false (nat_eq class (class_of c)) other)))
 
 -- a channel is closed
 pub close-legal : (rules : Rules) (past : List Event) (worker session : ℕ) (entered : Entrance) (id : ℕ) → Present rules past worker session entered
@@ -249,7 +247,7 @@ standard-agrees past session share c =
     ap Rattle.pool_history.specs.Legal.is_standard_in c.is_open
     ∙ channel-agrees (Rattle.pool_history.specs.Judging.is_standard c.channel.kind) share.is_standard
     (and_parts (nat_eq c.channel.session session && Rattle.pool_history.specs.Judging.has_account c.channel)
-      (Rattle.pool_history.specs.Judging.agree (Rattle.pool_history.specs.Judging.is_standard c.channel.kind) share.is_standard) c.serves).1
+    (Rattle.pool_history.specs.Judging.agree (Rattle.pool_history.specs.Judging.is_standard c.channel.kind) share.is_standard) c.serves).1
 
 pub commit-legal : (rules : Rules) (past : List Event) (worker session : ℕ) (entered : Entrance) (share : Share) → Present rules past worker session entered
     → mining entered ≡ true → (r : Result Admitted Failed) → admitted rules past session share ≡ r → NoCause rules past (committing rules past session share r).event
@@ -258,10 +256,10 @@ commit-legal rules past worker session entered share p may (Ok with) is =
     let b : Bool = Rattle.pool_history.specs.Legal.is_standard_in (Rattle.pool_history.specs.Channels.channel_in (Rattle.pool_history.specs.Channels.channels_of past) share.channel) in
     unless-event (NoCause rules past) reply.Refused (last_failed rules past share (Ok with)) (crediting session share with) tt
     (λ n.
-      permitted mining (failed_as (first_failed rules past session (record share { is_standard = b }))) p may
-      ∙ ap (λ t. failed_as (first_failed rules past session (record share { is_standard = t })))
-      (standard-agrees past session share (admitted-channel rules past session share with is))
-      ∙ ap (λ r. failed_as (last_failed rules past share r)) is ∙ ap failed_as n)
+    permitted mining (failed_as (first_failed rules past session (record share { is_standard = b }))) p may
+    ∙ ap (λ t. failed_as (first_failed rules past session (record share { is_standard = t })))
+    (standard-agrees past session share (admitted-channel rules past session share with is))
+    ∙ ap (λ r. failed_as (last_failed rules past share r)) is ∙ ap failed_as n)
 
 -- a token is granted
 pub grant-legal : (rules : Rules) (past : List Event) (worker session : ℕ) (entered : Entrance) (account : List ℕ) (path : Option (List (List ℕ)))
@@ -288,7 +286,7 @@ step_in-legal rules past worker session entered (request.Template template) p ma
 step_in-legal rules past worker session entered (request.Tip tip) p may =
     unless-event (NoCause rules past) reply.TemplateRefused (tip_refusal past tip)
     (kept (event.Tip session tip)
-      (reply.Job (Rattle.pool_history.specs.Answering.number_of (Rattle.pool_history.specs.Jobs.future_of (Rattle.pool_history.specs.Jobs.jobs_of past) tip.template_id)))) tt
+    (reply.Job (Rattle.pool_history.specs.Answering.number_of (Rattle.pool_history.specs.Jobs.future_of (Rattle.pool_history.specs.Jobs.jobs_of past) tip.template_id)))) tt
     (λ n. permitted feeding (refused_as cause.BadTip (tip_refusal past tip)) p may ∙ ap (refused_as cause.BadTip) n)
 step_in-legal rules past worker session entered (request.Open ask) p may =
     unless-event (NoCause rules past) reply.OpenRefused (open_refusal rules past session ask) (opening rules past session ask (lead_for past ask)) tt
@@ -342,9 +340,9 @@ enter-legal rules past worker role flags =
     (kept (event.Enter worker role (bit_and flags (allowed_flags rules))) (reply.Entered (enters past))) (told (reply.PoolFull most_enters))
     (λ s. NoCause rules past s.event)
     (λ few.
-      provided-so (nat_lt (enters past) most_enters) cause.PoolFull
-      (provided (are_acceptable rules (bit_and flags (allowed_flags rules))) cause.BadFlags None) few
-      ∙ provided-so (are_acceptable rules (bit_and flags (allowed_flags rules))) cause.BadFlags None (masked-twice flags (allowed_flags rules)))
+    provided-so (nat_lt (enters past) most_enters) cause.PoolFull
+    (provided (are_acceptable rules (bit_and flags (allowed_flags rules))) cause.BadFlags None) few
+    ∙ provided-so (are_acceptable rules (bit_and flags (allowed_flags rules))) cause.BadFlags None (masked-twice flags (allowed_flags rules)))
     (λ full. tt)
 
 pub step_by-legal : (rules : Rules) (past : List Event) (worker : ℕ) (asked : Request) → LegalPast past → rules_of past ≡ Some rules

@@ -1,5 +1,5 @@
 -- A present session was entered by its worker.
-use Rattle.std.proofs.Common.{◌≡◌, ℕ, ◌+◌, ◌<◌, Bool, true, false, cond, Option, None, Some, List, [], ◌∷◌, refl, ap, subst, sym, ◌∙◌, arith}
+use Rattle.std.proofs.Common.{◌≡◌, ℕ, ◌+◌, ◌<◌, Bool, true, false, cond, Option, None, Some, List, [], ◌∷◌, refl, ap, subst, ◌∙◌, arith}
 use Rattle.std.proofs.Math.Dec.{eqb}
 use Rattle.std.proofs.lemmas.Bool.{cond_both, eqb-true, eq-eqb, ne_eqb}
 use Rattle.pool_history.specs.declared.causes.Cause.{Cause}
@@ -65,8 +65,8 @@ present-entered (event.Enter entering role flags ∷ older) worker session is =
     cond_both (eqb entering worker) (Some (enters older)) (present older worker)
     (λ found. found ≡ Some session → IsEnteredBy (event.Enter entering role flags ∷ older) worker session)
     (λ same found.
-      subst (λ w. IsEnteredBy (event.Enter entering role flags ∷ older) w session) (eqb-true entering worker same)
-      (entered-now older entering role flags session (some-same found)))
+    subst (λ w. IsEnteredBy (event.Enter entering role flags ∷ older) w session) (eqb-true entering worker same)
+    (entered-now older entering role flags session (some-same found)))
     (λ other found. entered-before older entering role flags worker session (present-entered older worker session found)) is
 present-entered (event.Leave left ∷ older) worker session is =
     let e : IsEnteredBy older worker session = present-entered older worker session (still_there left (present older worker) session is) in

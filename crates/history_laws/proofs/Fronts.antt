@@ -1,5 +1,5 @@
 -- Leads that no extranonce begins with together.
-use Rattle.std.proofs.Common.{◌≡◌, ℕ, ◌+◌, ◌-◌, ◌≤◌, Bool, true, false, ◌&&◌, not, List, [], ◌∷◌, ◌++◌, length, take, drop, refl, ap, subst, sym, ◌∙◌, arith, append_assoc, length-append}
+use Rattle.std.proofs.Common.{◌≡◌, ℕ, ◌+◌, ◌-◌, ◌≤◌, Bool, true, false, ◌&&◌, not, List, [], ◌∷◌, ◌++◌, length, take, drop, refl, ap, sym, ◌∙◌, arith, append_assoc, length-append}
 use Rattle.std.proofs.Math.Dec.{eqb}
 use Rattle.std.proofs.lemmas.Bool.{eq-eqb, false≢true}
 use Rattle.std.proofs.lemmas.List.{length-replicate, take-append-drop}
@@ -37,14 +37,15 @@ pub apart-decided : (a b : List ℕ) (r : Bool) → length a ≤ length b → le
     → (IsTrue (not r) → ShareNone a b) × (ShareNone a b → IsTrue (not r))
 apart-decided a b true few long is = (
   λ h. absurd (false≢true h),
-  λ none. absurd (none (b ++ replicate (12 - length b) 0) (twelve b long)
-    (drop (length a) b ++ replicate (12 - length b) 0,
-      sym (append_assoc a (drop (length a) b) (replicate (12 - length b) 0)) ∙ ap (λ front. front ++ replicate (12 - length b) 0) (begins-rest a b (sym is)))
-    (replicate (12 - length b) 0, refl))
+  λ none. absurd (none (b ++ replicate (12 - length b) 0) (twelve b long) (
+    drop (length a) b ++ replicate (12 - length b) 0,
+    sym (append_assoc a (drop (length a) b) (replicate (12 - length b) 0)) ∙ ap (λ front. front ++ replicate (12 - length b) 0) (begins-rest a b (sym is)),
+  )
+      (replicate (12 - length b) 0, refl)),
 )
 apart-decided a b false few long is = (
   λ h x whole p q. false≢true (is ∙ front-begins a b p.0 q.0 few (p.1 ∙ sym q.1)),
-  λ none. refl
+  λ none. refl,
 )
 
 pub share-none-comm : (a b : List ℕ) → ShareNone a b → ShareNone b a

@@ -1,5 +1,5 @@
 -- The leads that open channels hold.
-use Rattle.std.proofs.Common.{◌⊎◌, inl, inr, ◌≡◌, ℕ, zero, suc, ◌+◌, ◌<◌, ◌≤◌, ◌^◌, Bool, true, false, cond, ◌&&◌, ◌||◌, not, Option, None, Some, List, [], ◌∷◌, ◌++◌, length, map, take, refl, ap, subst, sym, ◌∙◌, arith, append_assoc}
+use Rattle.std.proofs.Common.{◌⊎◌, inl, inr, ◌≡◌, ℕ, zero, suc, ◌+◌, ◌^◌, Bool, true, false, cond, ◌&&◌, ◌||◌, not, Option, None, Some, List, [], ◌∷◌, ◌++◌, length, map, take, refl, ap, subst, sym, ◌∙◌, append_assoc}
 use Rattle.std.proofs.Math.Dec.{eqb}
 use Rattle.std.proofs.lemmas.Bool.{and_parts, cond_both, eq-eqb, eqb-true, false≢true, ne_eqb, not-true, or_left, or_parts, or_right}
 use Rattle.std.proofs.lemmas.List.{append-nil}
@@ -12,14 +12,14 @@ use Rattle.pool_history.specs.declared.events.Event.TheVariants as event
 use Rattle.pool_history.specs.declared.events.Kind.{Kind}
 use Rattle.pool_history.specs.declared.events.Kind.TheVariants as kind
 use Rattle.pool_history.specs.declared.settings.Rules.{Rules}
-use Rattle.pool_history.specs.Channels.{ClassSet, OpenChannel, account_or, channel_in, channel_moves, channels_of, named, opened, reclassed}
+use Rattle.pool_history.specs.Channels.{OpenChannel, account_or, channel_in, channel_moves, channels_of, named, opened, reclassed}
 use Rattle.pool_history.specs.Headers.{extranonce_prefix}
-use Rattle.pool_history.specs.Legal.{Legal, LegalPast, cause_of, is_just, is_lead_length, is_next_lead}
+use Rattle.pool_history.specs.Legal.{LegalPast, is_just, is_lead_length, is_next_lead}
 use Rattle.pool_history.specs.Refusing.{held_leads}
 use Rattle.pool_history.specs.Sessions.{past_of}
 use Rattle.pool_history.specs.Spaces.{InSpace, first_free, is_free, lowest, overlap, string_at}
 use Rattle.pool_history.proofs.PlacesOfClasses.{all-end, all-filter, all-map, all-weaken}
-use Rattle.history_laws.specs.Apart.{AreDisjoint, SpacesAreApart, SpacesAreDisjoint}
+use Rattle.history_laws.specs.Apart.{AreDisjoint, SpacesAreDisjoint}
 use Rattle.history_laws.proofs.Causes.{IsOpening, legal_opening}
 use Rattle.history_laws.proofs.Entrances.{none-some, some-same}
 use Rattle.history_laws.proofs.Legalities.{prefixes_legal}
@@ -61,10 +61,12 @@ fronts-overlap a b r s same = by_length a b r s same where
       both (shorter a b r s (cc)) where
         heads : x ≡ y
         heads = cc
+
         both : (starts_with nat_eq b a ≡ true) ⊎ (starts_with nat_eq a b ≡ true)
             → (starts_with nat_eq (y ∷ b) (x ∷ a) ≡ true) ⊎ (starts_with nat_eq (x ∷ a) (y ∷ b) ≡ true)
         both (inl t) = inl (ap (λ e. e && starts_with nat_eq b a) (eq-eqb x y heads) ∙ t)
         both (inr t) = inr (ap (λ e. e && starts_with nat_eq a b) (eq-eqb y x (sym heads)) ∙ t)
+
   by_length : (a b r s : List ℕ) → a ++ r ≡ b ++ s → overlap a b ≡ true
   by_length a b r s same = joined (shorter a b r s same) where
     joined : (starts_with nat_eq b a ≡ true) ⊎ (starts_with nat_eq a b ≡ true) → overlap a b ≡ true
@@ -89,29 +91,34 @@ apart-disjoint a b apart x in-a in-b =
     let q : (rest : List ℕ) × (x ≡ b.lead ++ rest) = space-lead b.kind b.lead x in-b in
     false≢true (sym apart ∙ fronts-overlap a.lead b.lead p.0 q.0 (sym p.1 ∙ q.1))
 
+-- a relation holds between each element and each later one
+abbrev pub Pairwise : {X : Type 0} → (X → X → Type 0) → List X → Type 0
+Pairwise R [] = Unit {0}
+Pairwise R (x ∷ xs) = AllByRecursion (R x) xs × Pairwise R xs
+
+pub pairwise-end : {X : Type 0} (R : X → X → Type 0) (xs : List X) (new : X) → AllByRecursion (λ x. R x new) xs → Pairwise R xs → Pairwise R (xs ++ new ∷ [])
+pairwise-end R [] new f a = (tt, tt)
+pairwise-end R (x ∷ xs) new f a = (all-end (R x) xs new a.0 f.0, pairwise-end R xs new f.1 a.1)
+
+pub pairwise-map : {X : Type 0} (R : X → X → Type 0) (f : X → X) → ((x y : X) → R x y → R (f x) (f y)) → (xs : List X) → Pairwise R xs → Pairwise R (map f xs)
+pairwise-map R f kept [] a = tt
+pairwise-map R f kept (x ∷ xs) a = (all-map (R x) (R (f x)) f (kept x) xs a.0, pairwise-map R f kept xs a.1)
+
+pub pairwise-filter : {X : Type 0} (R : X → X → Type 0) (p : X → Bool) (xs : List X) → Pairwise R xs → Pairwise R (filter p xs)
+pairwise-filter R p [] a = tt
+pairwise-filter R p (x ∷ xs) a =
+    cond_both (p x) (x ∷ filter p xs) (filter p xs) (Pairwise R) (λ t. (all-filter (R x) p xs a.0, pairwise-filter R p xs a.1)) (λ f. pairwise-filter R p xs a.1)
+
+-- the leads of two channels don't overlap
+abbrev pub IsApart : OpenChannel → OpenChannel → Type 0
+IsApart c d = overlap c.lead d.lead ≡ false
+
 -- no lead of the channels overlaps a later one
 abbrev pub Apart : List OpenChannel → Type 0
-Apart [] = Unit {0}
-Apart (c ∷ cs) = AllByRecursion (λ d. overlap c.lead d.lead ≡ false) cs × Apart cs
+Apart cs = Pairwise IsApart cs
 
-pub apart-end : (cs : List OpenChannel) (new : OpenChannel) → AllByRecursion (λ c. overlap new.lead c.lead ≡ false) cs → Apart cs → Apart (cs ++ new ∷ [])
-apart-end [] new f a = (tt, tt)
-apart-end (c ∷ cs) new f a =
-    (all-end (λ d. overlap c.lead d.lead ≡ false) cs new a.0 (overlap-comm c.lead new.lead ∙ f.0), apart-end cs new f.1 a.1)
-
-pub apart-map : (f : OpenChannel → OpenChannel) → ((c : OpenChannel) → (f c).lead ≡ c.lead) → (cs : List OpenChannel) → Apart cs → Apart (map f cs)
-apart-map f kept [] a = tt
-apart-map f kept (c ∷ cs) a = (
-  all-map (λ d. overlap c.lead d.lead ≡ false) (λ d. overlap (f c).lead d.lead ≡ false) f
-  (λ d h. ap (λ l. overlap l (f d).lead) (kept c) ∙ ap (λ l. overlap c.lead l) (kept d) ∙ h) cs a.0,
-  apart-map f kept cs a.1
-)
-
-pub apart-filter : (p : OpenChannel → Bool) (cs : List OpenChannel) → Apart cs → Apart (filter p cs)
-apart-filter p [] a = tt
-apart-filter p (c ∷ cs) a =
-    cond_both (p c) (c ∷ filter p cs) (filter p cs) Apart
-    (λ t. (all-filter (λ d. overlap c.lead d.lead ≡ false) p cs a.0, apart-filter p cs a.1)) (λ f. apart-filter p cs a.1)
+pub apart-kept : (f : OpenChannel → OpenChannel) → ((c : OpenChannel) → (f c).lead ≡ c.lead) → (c d : OpenChannel) → IsApart c d → IsApart (f c) (f d)
+apart-kept f kept c d h = ap (λ l. overlap l (f d).lead) (kept c) ∙ ap (λ l. overlap c.lead l) (kept d) ∙ h
 
 -- a name and a class leave the lead
 pub named-lead : (id : ℕ) (account : List ℕ) (c : OpenChannel) → (named id account c).lead ≡ c.lead
@@ -175,14 +182,19 @@ pub channels-apart : (past : List Event) → LegalPast past → Apart (channels_
 channels-apart [] l = tt
 channels-apart (event.Open session k account class lead ∷ older) l =
     let o : (rules : Rules) × IsOpening rules older session k account class lead = legal_opening older session k account class lead l.1 in
-    apart-end (channels_of older)
-    (record { id = opened (channel_moves older) + 1; session = session; kind = k; account = account; lead = lead; opening_class = class; sets = [] })
-    (free-apart (channels_of older) lead (next-free older k lead o.1.next)) (channels-apart older l.0)
-channels-apart (event.Name session id account ∷ older) l = apart-map (named id account) (named-lead id account) (channels_of older) (channels-apart older l.0)
+    let new : OpenChannel =
+    record { id = opened (channel_moves older) + 1; session = session; kind = k; account = account; lead = lead; opening_class = class; sets = [] } in
+    pairwise-end IsApart (channels_of older) new
+    (all-weaken (λ c. overlap lead c.lead ≡ false) (λ c. IsApart c new) (λ c h. overlap-comm c.lead lead ∙ h) (channels_of older)
+    (free-apart (channels_of older) lead (next-free older k lead o.1.next)))
+    (channels-apart older l.0)
+channels-apart (event.Name session id account ∷ older) l =
+    pairwise-map IsApart (named id account) (apart-kept (named id account) (named-lead id account)) (channels_of older) (channels-apart older l.0)
 channels-apart (event.Class session id class ∷ older) l =
-    apart-map (reclassed (length older) id class) (reclassed-lead (length older) id class) (channels_of older) (channels-apart older l.0)
-channels-apart (event.Close session id ∷ older) l = apart-filter (λ c. not (eqb c.id id)) (channels_of older) (channels-apart older l.0)
-channels-apart (event.Leave session ∷ older) l = apart-filter (λ c. not (eqb c.session session)) (channels_of older) (channels-apart older l.0)
+    pairwise-map IsApart (reclassed (length older) id class) (apart-kept (reclassed (length older) id class) (reclassed-lead (length older) id class))
+    (channels_of older) (channels-apart older l.0)
+channels-apart (event.Close session id ∷ older) l = pairwise-filter IsApart (λ c. not (eqb c.id id)) (channels_of older) (channels-apart older l.0)
+channels-apart (event.Leave session ∷ older) l = pairwise-filter IsApart (λ c. not (eqb c.session session)) (channels_of older) (channels-apart older l.0)
 channels-apart (e ∷ older) l = channels-apart older l.0
 
 -- two that were found under different ids are apart
@@ -193,9 +205,9 @@ found-apart (c ∷ cs) apart i j a b f g other =
     cond_both (eqb c.id i) (Some c) (channel_in cs i) (λ o. o ≡ Some a → overlap a.lead b.lead ≡ false)
     (λ is-i f. first_is i j a b is-i f g other)
     (λ not-i f. cond_both (eqb c.id j) (Some c) (channel_in cs j) (λ o. o ≡ Some b → overlap a.lead b.lead ≡ false)
-      (λ is-j g. overlap-comm a.lead b.lead ∙ subst (λ d. overlap d.lead a.lead ≡ false) (some-same g)
-        (all-find (λ d. overlap c.lead d.lead ≡ false) (λ d. eqb d.id i) cs a apart.0 f))
-      (λ not-j g. found-apart cs apart.1 i j a b f g other) g)
+    (λ is-j g. overlap-comm a.lead b.lead ∙ subst (λ d. overlap d.lead a.lead ≡ false) (some-same g)
+    (all-find (λ d. overlap c.lead d.lead ≡ false) (λ d. eqb d.id i) cs a apart.0 f))
+    (λ not-j g. found-apart cs apart.1 i j a b f g other) g)
     f where
       first_is : (i j : ℕ) (a b : OpenChannel) → eqb c.id i ≡ true → Some c ≡ Some a → channel_in (c ∷ cs) j ≡ Some b → ¬ (i ≡ j) → overlap a.lead b.lead ≡ false
       first_is i j a b is-i f g other =

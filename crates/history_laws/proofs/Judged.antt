@@ -1,13 +1,11 @@
 -- How answers judge shares.
-use Rattle.std.proofs.Common.{◌⊎◌, inl, inr, ◌≡◌, ◌↔◌, ℕ, ◌+◌, length, Bool, true, false, cond, Option, None, Some, Result, Ok, Err, List, [], ◌∷◌, refl, ap, subst, sym, ◌∙◌}
+use Rattle.std.proofs.Common.{◌⊎◌, inl, inr, ◌≡◌, ℕ, ◌+◌, length, true, false, cond, Option, None, Some, Result, Ok, Err, List, [], ◌∷◌, refl, ap, subst, sym, ◌∙◌}
 use Rattle.std.proofs.lemmas.Bool.{cond_both}
 use Rattle.std.specs.Option.{option_to_list}
-use Rattle.pool_history.specs.declared.asking.OpenAsk.{OpenAsk}
 use Rattle.pool_history.specs.declared.asking.Request.{Request}
 use Rattle.pool_history.specs.declared.asking.Request.TheVariants as request
 use Rattle.pool_history.specs.declared.events.Event.{Event}
 use Rattle.pool_history.specs.declared.events.Event.TheVariants as event
-use Rattle.pool_history.specs.declared.events.Role.{Role}
 use Rattle.pool_history.specs.declared.refusals.Failed.{Failed}
 use Rattle.pool_history.specs.declared.replies.Reply.{Reply}
 use Rattle.pool_history.specs.declared.replies.Reply.TheVariants as reply
@@ -18,12 +16,12 @@ use Rattle.pool_history.specs.Accounts.{account_of, is_empty}
 use Rattle.pool_history.specs.Answering.{Answer, Step, briefing, classing, closing, committing, crediting, entering, granting, kept, naming, opening, permits, step, step_as, step_by, step_for, step_in, step_under, told, unless_refused}
 use Rattle.pool_history.specs.Channels.{OpenChannel, class_of}
 use Rattle.pool_history.specs.Crediting.{first_failed, last_failed, work_of}
-use Rattle.pool_history.specs.Judging.{Admitted, Share, admitted, briefing_of, share_of}
+use Rattle.pool_history.specs.Judging.{Admitted, Share, admitted, share_of}
 use Rattle.pool_history.specs.Legal.{allowed_flags}
 use Rattle.pool_history.specs.Refusing.{class_for, custom_refusal, grant_refusal, lead_for, most_enters, name_refusal, open_refusal, own_channel, template_refusal, tip_refusal, update_refusal}
 use Rattle.pool_history.specs.Sessions.{Entrance, enters, entrance, past_of, present, rules_of}
 use Rattle.std.specs.Prelude.{bit_and, nat_eq, nat_lt}
-use Rattle.history_laws.specs.Answered.{CreditsAreCommitted, IsBriefed, IsJudged, MaySubmit, SharesAreBriefed, SharesAreJudged, credit_of}
+use Rattle.history_laws.specs.Answered.{CreditsAreCommitted, IsJudged, MaySubmit, SharesAreBriefed, SharesAreJudged, credit_of}
 use Rattle.history_laws.proofs.Legalities.{some-none}
 use Rattle.history_laws.proofs.Entrances.{none-some, some-same}
 
@@ -94,18 +92,18 @@ judged h worker may checked events answer a =
       judged-by h worker may share s events answer made replied (inl b) = record {
         credited = (λ e. b.none, λ n. made ∙ ap (λ t. option_to_list t.event) b.step_is);
         work = λ with is n.
-          replied ∙ ap (λ t. t.reply) b.step_is ∙ ap (λ w. reply.Credited (work_of w)) (ok-same (sym b.is_admitted ∙ is));
+            replied ∙ ap (λ t. t.reply) b.step_is ∙ ap (λ w. reply.Credited (work_of w)) (ok-same (sym b.is_admitted ∙ is));
         refused = λ code failed. absurd (none-some (sym b.none ∙ failed));
       }
       judged-by h worker may share s events answer made replied (inr r) = record {
         credited = (
           λ e. absurd (cons-nil (sym e ∙ made ∙ ap (λ t. option_to_list t.event) r.step_is)),
-          λ n. absurd (some-none (sym r.failed ∙ n))
+          λ n. absurd (some-none (sym r.failed ∙ n)),
         );
         work = λ with is n. absurd (some-none (sym r.failed ∙ n));
         refused = λ code failed. (
           made ∙ ap (λ t. option_to_list t.event) r.step_is,
-          replied ∙ ap (λ t. t.reply) r.step_is ∙ ap reply.Refused (some-same (sym r.failed ∙ failed))
+          replied ∙ ap (λ t. t.reply) r.step_is ∙ ap reply.Refused (some-same (sym r.failed ∙ failed)),
         );
       }
 
@@ -144,11 +142,11 @@ step_in-credits rules past session (request.Enter role flags) = inr tt
 step_in-credits rules past session request.Leave = inr tt
 step_in-credits rules past session (request.Template template) =
     inr (not-credited reply.TemplateRefused (template_refusal rules.pool_script past template)
-      (kept (event.Template session template) (reply.Job (length (Rattle.pool_history.specs.Jobs.jobs_of past).all + 1))) tt)
+    (kept (event.Template session template) (reply.Job (length (Rattle.pool_history.specs.Jobs.jobs_of past).all + 1))) tt)
 step_in-credits rules past session (request.Tip tip) =
     inr (not-credited reply.TemplateRefused (tip_refusal past tip)
-      (kept (event.Tip session tip)
-        (reply.Job (Rattle.pool_history.specs.Answering.number_of (Rattle.pool_history.specs.Jobs.future_of (Rattle.pool_history.specs.Jobs.jobs_of past) tip.template_id)))) tt)
+    (kept (event.Tip session tip)
+    (reply.Job (Rattle.pool_history.specs.Answering.number_of (Rattle.pool_history.specs.Jobs.future_of (Rattle.pool_history.specs.Jobs.jobs_of past) tip.template_id)))) tt)
 step_in-credits rules past session (request.Open ask) =
     inr (not-credited reply.OpenRefused (open_refusal rules past session ask) (opening rules past session ask (lead_for past ask)) (by_lead (lead_for past ask))) where
       by_lead : (o : Option (List ℕ)) → NoCredit (opening rules past session ask o).event
@@ -156,20 +154,20 @@ step_in-credits rules past session (request.Open ask) =
       by_lead (Some lead) = tt
 step_in-credits rules past session (request.Name id identity) =
     inr (not-credited reply.NameRefused (name_refusal rules (account_of identity) (own_channel past session id))
-      (naming session id (account_of identity) (own_channel past session id)) (by_channel (own_channel past session id))) where
-        by_channel : (o : Option OpenChannel) → NoCredit (naming session id (account_of identity) o).event
-        by_channel None = tt
-        by_channel (Some c) =
-            cond_both (is_empty c.account) (kept (event.Name session id (account_of identity)) reply.Named) (told reply.Named) (λ s. NoCredit s.event)
-            (λ t. tt) (λ f. tt)
+    (naming session id (account_of identity) (own_channel past session id)) (by_channel (own_channel past session id))) where
+      by_channel : (o : Option OpenChannel) → NoCredit (naming session id (account_of identity) o).event
+      by_channel None = tt
+      by_channel (Some c) =
+          cond_both (is_empty c.account) (kept (event.Name session id (account_of identity)) reply.Named) (told reply.Named) (λ s. NoCredit s.event)
+          (λ t. tt) (λ f. tt)
 step_in-credits rules past session (request.Update id target) =
     inr (not-credited reply.UpdateRefused (update_refusal target (own_channel past session id))
-      (classing session id (class_for rules target) (own_channel past session id)) (by_channel (own_channel past session id))) where
-        by_channel : (o : Option OpenChannel) → NoCredit (classing session id (class_for rules target) o).event
-        by_channel None = tt
-        by_channel (Some c) =
-            cond_both (nat_eq (class_for rules target) (class_of c)) (told (reply.Target id (class_for rules target)))
-            (kept (event.Class session id (class_for rules target)) (reply.Target id (class_for rules target))) (λ s. NoCredit s.event) (λ t. tt) (λ f. tt)
+    (classing session id (class_for rules target) (own_channel past session id)) (by_channel (own_channel past session id))) where
+      by_channel : (o : Option OpenChannel) → NoCredit (classing session id (class_for rules target) o).event
+      by_channel None = tt
+      by_channel (Some c) =
+          cond_both (nat_eq (class_for rules target) (class_of c)) (told (reply.Target id (class_for rules target)))
+          (kept (event.Class session id (class_for rules target)) (reply.Target id (class_for rules target))) (λ s. NoCredit s.event) (λ t. tt) (λ f. tt)
 step_in-credits rules past session (request.Close id) = inr (by_channel (own_channel past session id)) where
   by_channel : (o : Option OpenChannel) → NoCredit (closing session id o).event
   by_channel None = tt
@@ -182,13 +180,13 @@ step_in-credits rules past session (request.Commit checked) = inl (checked, refl
 step_in-credits rules past session (request.Poll from) = inr tt
 step_in-credits rules past session (request.Grant identity None) =
     inr (not-credited reply.GrantRefused (grant_refusal rules past (account_of identity) [])
-      (kept (event.Grant session (account_of identity) false []) (reply.Granted (Rattle.pool_history.specs.Sessions.grants past + 1) rules.pool_script)) tt)
+    (kept (event.Grant session (account_of identity) false []) (reply.Granted (Rattle.pool_history.specs.Sessions.grants past + 1) rules.pool_script)) tt)
 step_in-credits rules past session (request.Grant identity (Some path)) =
     inr (not-credited reply.GrantRefused (grant_refusal rules past (account_of identity) path)
-      (kept (event.Grant session (account_of identity) true path) (reply.Granted (Rattle.pool_history.specs.Sessions.grants past + 1) rules.pool_script)) tt)
+    (kept (event.Grant session (account_of identity) true path) (reply.Granted (Rattle.pool_history.specs.Sessions.grants past + 1) rules.pool_script)) tt)
 step_in-credits rules past session (request.Custom custom) =
     inr (not-credited reply.CustomRefused (custom_refusal rules.pool_script past session custom)
-      (kept (event.Custom session custom) (reply.CustomJob (length (Rattle.pool_history.specs.Jobs.jobs_of past).all + 1))) tt)
+    (kept (event.Custom session custom) (reply.CustomJob (length (Rattle.pool_history.specs.Jobs.jobs_of past).all + 1))) tt)
 
 pub step_for-credits : (rules : Rules) (past : List Event) (asked : Request) (o : Option ℕ) → OnlyByCommit asked (step_for rules past asked o)
 step_for-credits rules past asked None = inr tt
@@ -202,7 +200,7 @@ step_for-credits rules past asked (Some session) = by_entrance (entrance past se
 pub step_by-credits : (rules : Rules) (past : List Event) (worker : ℕ) (asked : Request) → OnlyByCommit asked (step_by rules past worker asked)
 step_by-credits rules past worker (request.Enter role flags) =
     inr (cond_both (nat_lt (enters past) most_enters) (kept (event.Enter worker role (bit_and flags (allowed_flags rules))) (reply.Entered (enters past)))
-      (told (reply.PoolFull most_enters)) (λ s. NoCredit s.event) (λ t. tt) (λ f. tt))
+    (told (reply.PoolFull most_enters)) (λ s. NoCredit s.event) (λ t. tt) (λ f. tt))
 step_by-credits rules past worker asked = step_for-credits rules past asked (present past worker)
 
 pub step-credits : (past : List Event) (worker : ℕ) (asked : Request) (o : Option Rules) → OnlyByCommit asked (step_under o past worker asked)
@@ -216,6 +214,7 @@ credits-committed h worker asked answer session share a = by_made (step-credits 
   by_event (Some e') e n = subst (λ x. NoCredit (Some x)) (heads e) n where
     heads : {x y : Event} → x ∷ [] ≡ y ∷ [] → x ≡ y
     heads h = cc
+
   by_made : OnlyByCommit asked (step (past_of h) worker asked) → (checked : Checked) × (asked ≡ request.Commit checked)
   by_made (inl c) = c
   by_made (inr n) = absurd (by_event (step (past_of h) worker asked).event (sym a.events_are) n)

@@ -1,7 +1,6 @@
 -- Laws of legal histories.
-use Rattle.std.proofs.Common.{◌≡◌, ◌↔◌, ◌⊎◌, inl, inr, ℕ, ◌+◌, Bool, true, false, cond, Option, None, Some, List, [], ◌∷◌, ◌++◌, length, reverse, refl, ap, subst, sym, ◌∙◌, arith, append_assoc, length-append}
-use Rattle.std.proofs.lemmas.List.{append-nil, reverse-append, reverse-reverse}
-use Rattle.std.specs.Prelude.{IsTrue}
+use Rattle.std.proofs.Common.{◌≡◌, ◌⊎◌, inl, inr, Bool, true, false, cond, Option, None, Some, List, [], ◌∷◌, ◌++◌, length, reverse, refl, ap, subst, sym, ◌∙◌, append_assoc}
+use Rattle.std.proofs.lemmas.List.{reverse-append, reverse-reverse}
 use Rattle.pool_history.specs.declared.causes.Cause.{Cause}
 use Rattle.pool_history.specs.declared.causes.Cause.TheVariants as cause
 use Rattle.pool_history.specs.declared.events.Event.{Event}
@@ -10,7 +9,7 @@ use Rattle.pool_history.specs.declared.settings.Rules.{Rules}
 use Rattle.pool_history.specs.Accounts.{are_in_range}
 use Rattle.pool_history.specs.Legal.{Legal, LegalPast, cause_of}
 use Rattle.pool_history.specs.Sessions.{past_of, rules_of}
-use Rattle.history_laws.specs.Legality.{EmptyIsLegal, FirstIllegal, FirstIllegalIsOne, IsOnlyFirst, LegalHistoriesStart, LegalityByPlaces, LegalityIsDecided, NoneHasCause, OneMoreIsLegal, PrefixesAreLegal, StartIsLegal, Starts}
+use Rattle.history_laws.specs.Legality.{FirstIllegal, FirstIllegalIsOne, LegalHistoriesStart, LegalityByPlaces, LegalityIsDecided, NoneHasCause, OneMoreIsLegal, PrefixesAreLegal, StartIsLegal, Starts}
 
 -- the past of histories one after the other
 pub past-append : (a b : List Event) → past_of (a ++ b) ≡ past_of b ++ past_of a
@@ -52,8 +51,8 @@ pub legal_from_none : (past : List Event) → NoneHasCause (reverse past) → Le
 legal_from_none [] n = tt
 legal_from_none (e ∷ past) n = (
   legal_from_none past (λ before x after parts. n before x (after ++ e ∷ [])
-    (past-cons e past ∙ ap (λ h. h ++ e ∷ []) parts ∙ append_assoc before (x ∷ after) (e ∷ []))),
-  subst (λ p. cause_of p e ≡ None) (reverse-reverse past) (n (reverse past) e [] (past-cons e past))
+      (past-cons e past ∙ ap (λ h. h ++ e ∷ []) parts ∙ append_assoc before (x ∷ after) (e ∷ []))),
+  subst (λ p. cause_of p e ≡ None) (reverse-reverse past) (n (reverse past) e [] (past-cons e past)),
 )
 
 pub legality_placed : LegalityByPlaces
@@ -128,8 +127,8 @@ first_is_one h f = record {
   illegal = λ l. some-none (sym f.caused ∙ none_caused h l f.before f.event f.after f.parts);
   place = λ g. ap length (same_place h f g).0;
   cause = λ g.
-    let same : (g.before ≡ f.before) × (g.event ≡ f.event) = same_place h f g in
-    some-same (sym g.caused ∙ ap (λ b. cause_of (past_of b) g.event) same.0 ∙ ap (λ e. cause_of (past_of f.before) e) same.1 ∙ f.caused);
+      let same : (g.before ≡ f.before) × (g.event ≡ f.event) = same_place h f g in
+      some-same (sym g.caused ∙ ap (λ b. cause_of (past_of b) g.event) same.0 ∙ ap (λ e. cause_of (past_of f.before) e) same.1 ∙ f.caused);
 }
 
 -- the rules are those of the first event

@@ -1,10 +1,16 @@
 pub mod Answering
 pub mod Causes
+pub mod Crediting
 pub mod Entrances
 pub mod Fronts
 pub mod Holding
 pub mod Judged
+pub mod Keeping
 pub mod Legalities
+pub mod Living
+pub mod Opening
+pub mod Placing
 pub mod Ranges
 pub mod Served
 pub mod Stepping
+pub mod WrongLaws

@@ -1,7 +1,7 @@
 -- What a legal history's rules say of classes and leads.
-use Rattle.std.proofs.Common.{◌≡◌, ℕ, ◌≤◌, ◌-◌, Bool, true, false, ◌&&◌, Option, None, Some, List, [], ◌∷◌, length, max, min, refl, ap, subst, sym, ◌∙◌, arith}
+use Rattle.std.proofs.Common.{◌≡◌, ℕ, ◌≤◌, ◌-◌, Bool, true, ◌&&◌, Some, List, [], ◌∷◌, length, max, min, refl, subst, sym, ◌∙◌, arith}
 use Rattle.std.proofs.lemmas.Bool.{and_from, and_parts, leb-true, le-leb}
-use Rattle.std.specs.Prelude.{nat_le, nat_lt, not}
+use Rattle.std.specs.Prelude.{nat_le}
 use Rattle.std.specs.List.{list_all}
 use Rattle.pool_history.specs.declared.events.Event.{Event}
 use Rattle.pool_history.specs.declared.events.Event.TheVariants as event
@@ -10,7 +10,7 @@ use Rattle.pool_history.specs.declared.events.Kind.TheVariants as kind
 use Rattle.pool_history.specs.declared.settings.Rules.{Rules}
 use Rattle.pool_history.specs.declared.causes.Cause.TheVariants as cause
 use Rattle.pool_history.specs.Accounts.{are_distinct, are_in_range, is_user, is_window}
-use Rattle.pool_history.specs.Legal.{LegalPast, cause_of, is_class, is_lead_length}
+use Rattle.pool_history.specs.Legal.{LegalPast, is_class, is_lead_length}
 use Rattle.pool_history.specs.Refusing.{class_for, class_of_target, lead_length}
 use Rattle.pool_history.specs.Sessions.{rules_of}
 use Rattle.history_laws.proofs.Entrances.{none-some, some-same}

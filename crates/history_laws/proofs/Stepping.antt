@@ -1,18 +1,16 @@
 -- One event more.
-use Rattle.std.proofs.Common.{◌≡◌, ℕ, ◌+◌, Bool, true, false, cond, Option, None, Some, List, [], ◌∷◌, ◌++◌, length, refl, ap, subst, sym, ◌∙◌, arith}
-use Rattle.std.proofs.lemmas.Bool.{eq-eqb, ne_eqb}
+use Rattle.std.proofs.Common.{◌≡◌, ℕ, ◌+◌, cond, Some, List, [], ◌∷◌, ◌++◌, length, refl, ap, sym, ◌∙◌, arith}
+use Rattle.std.proofs.lemmas.Bool.{ne_eqb}
 use Rattle.std.proofs.lemmas.List.{length-reverse}
-use Rattle.std.proofs.Math.Dec.{eqb}
 use Rattle.pool_history.specs.declared.events.Event.{Event}
 use Rattle.pool_history.specs.declared.events.Event.TheVariants as event
-use Rattle.pool_history.specs.declared.settings.Rules.{Rules}
-use Rattle.pool_history.specs.Channels.{OpenChannel, channel_moves, channels_of, opened}
-use Rattle.pool_history.specs.Crediting.{Booked, booked, headers}
-use Rattle.pool_history.specs.Jobs.{Standing, jobs_of}
-use Rattle.pool_history.specs.Refusing.{Granted, grant_of, is_spent}
-use Rattle.pool_history.specs.Sessions.{Entrance, enters, entrance, grants, opens, past_of, present, rules_of, script_of}
-use Rattle.history_laws.specs.OneMore.{ChannelsOneMore, Counts, CountsOneMore, CreditsOneMore, EntrancesOneMore, GrantsOneMore, HeadersOneMore, JobsOneMore, PresentOneMore, RulesOneMore, Shows, SpendingOneMore, booked_after, channels_after, counts_after, counts_of, entrance_after, grant_after, headers_after, jobs_after, present_after, rules_after, spent_after}
-use Rattle.history_laws.proofs.Legalities.{past-one, rules-older}
+use Rattle.pool_history.specs.Channels.{channel_moves, channels_of, opened}
+use Rattle.pool_history.specs.Crediting.{booked, headers}
+use Rattle.pool_history.specs.Jobs.{jobs_of}
+use Rattle.pool_history.specs.Refusing.{grant_of, is_spent}
+use Rattle.pool_history.specs.Sessions.{enters, entrance, grants, opens, past_of, present, rules_of, script_of}
+use Rattle.history_laws.specs.OneMore.{ChannelsOneMore, CountsOneMore, CreditsOneMore, EntrancesOneMore, GrantsOneMore, HeadersOneMore, JobsOneMore, PresentOneMore, RulesOneMore, SpendingOneMore, booked_after, channels_after, counts_after, counts_of, entrance_after, grant_after, headers_after, jobs_after, present_after, rules_after, spent_after}
+use Rattle.history_laws.proofs.Legalities.{past-one}
 
 -- the length of a past
 pub past-length : (h : List Event) (at : ℕ) → length h ≡ at → length (past_of h) ≡ at

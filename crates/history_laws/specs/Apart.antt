@@ -2,7 +2,6 @@
 use Rattle.std.specs.Prelude.{◌≡◌, ℕ, Some, List, ◌++◌, length}
 use Rattle.pool_base.specs.Lists.{Begins}
 use Rattle.pool_history.specs.declared.events.Event.{Event}
-use Rattle.pool_history.specs.declared.events.Kind.{Kind}
 use Rattle.pool_history.specs.Channels.{OpenChannel, channel_in, channels_of}
 use Rattle.pool_history.specs.Legal.{Legal}
 use Rattle.pool_history.specs.Sessions.{past_of}

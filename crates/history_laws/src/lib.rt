@@ -4,13 +4,17 @@
 #![tactic(auto)]
 
 mod answers;
+mod credited;
 mod legality;
 mod one_more;
+mod places;
 mod spaces;
+mod staying;
 
 pub use answers::{
     answers_keep_legality, credits_are_committed, shares_are_briefed, shares_are_judged,
 };
+pub use credited::{credits_are_booked, no_share_twice};
 pub use legality::{
     empty_is_legal, first_illegal_is_one, legal_histories_start, legality_by_places,
     legality_is_decided, one_more_is_legal, prefixes_are_legal, start_is_legal,
@@ -19,4 +23,8 @@ pub use one_more::{
     channels_one_more, counts_one_more, credits_one_more, entrances_one_more, grants_one_more,
     headers_one_more, jobs_one_more, present_one_more, rules_one_more, spending_one_more,
 };
+pub use places::{
+    channels_by_places, entrances_by_places, present_by_places, present_is_some_workers,
+};
 pub use spaces::{are_apart, spaces_are_disjoint};
+pub use staying::{channels_are_numbered, channels_stay, classes_stay, credits_stay, jobs_stay};

@@ -1,0 +1,52 @@
+-- What the credits of a legal history are (this project's own).
+use Rattle.std.specs.Prelude.{◌≡◌, ℕ, Some, Ok, List, [], ◌∷◌, ◌++◌, length, IsTrue}
+use Rattle.block_header.specs.Hash.{dsha, meets}
+use Rattle.pool_history.specs.declared.events.Event.{Event}
+use Rattle.pool_history.specs.declared.events.Event.TheVariants as event
+use Rattle.pool_history.specs.declared.settings.Rules.{Rules}
+use Rattle.pool_history.specs.Accounts.{are_distinct}
+use Rattle.pool_history.specs.Channels.{channel_in, channels_of}
+use Rattle.pool_history.specs.Crediting.{booked, booked_with, booking, class_of_share, headers}
+use Rattle.pool_history.specs.Judging.{Admitted, Share, admitted, rebuilt}
+use Rattle.pool_history.specs.Legal.{Legal, is_standard_in}
+use Rattle.pool_history.specs.Sessions.{credits, past_of, rules_of}
+
+-- a credit as it is judged
+abbrev pub share_in : List Event → ℕ → ℕ → ℕ → ℕ → ℕ → List ℕ → Share
+share_in history channel job nonce ntime version extranonce = record {
+  is_standard = is_standard_in (channel_in (channels_of (past_of history)) channel);
+  channel = channel;
+  job = job;
+  nonce = nonce;
+  ntime = ntime;
+  version = version;
+  extranonce = extranonce;
+}
+
+-- a share that was booked after a history was admitted there, with what it is booked with; the hash of its header meets
+-- its class; its header is added to those of the earlier credits, and its account, work and reward to theirs
+pub record IsBookedAfter (history : List Event) (session : ℕ) (share : Share) (credit : Event) : Type 0 where
+  pub rules : Rules
+  pub with : Admitted
+  pub are_rules : rules_of (past_of history) ≡ Some rules
+  pub is_admitted : admitted rules (past_of history) session share ≡ Ok with
+  pub is_booked : booked_with (past_of history) share.channel share.job ≡ Ok with
+  pub meets_its_class : IsTrue (meets (dsha (rebuilt rules.pool_script with share)) (class_of_share with))
+  pub header : headers (past_of (history ++ credit ∷ [])) ≡ rebuilt rules.pool_script with share ∷ headers (past_of history)
+  pub counts : booked (past_of (history ++ credit ∷ [])) ≡ booking rules.pool_script share with ∷ booked (past_of history)
+
+abbrev pub CreditsAreBooked : Type 0
+CreditsAreBooked =
+    (history : List Event) (session channel job nonce ntime version : ℕ) (extranonce : List ℕ)
+    → Legal (history ++ event.Credit session channel job nonce ntime version extranonce ∷ [])
+    → IsBookedAfter history session (share_in history channel job nonce ntime version extranonce) (event.Credit session channel job nonce ntime version extranonce)
+
+-- in a legal history each credit has its header, its account, work and reward, and no header stands twice: a share is
+-- credited once
+pub record AreCounted (history : List Event) : Type 0 where
+  pub headers_counted : length (headers (past_of history)) ≡ credits (past_of history)
+  pub credits_counted : length (booked (past_of history)) ≡ credits (past_of history)
+  pub distinct : IsTrue (are_distinct (headers (past_of history)))
+
+abbrev pub NoShareTwice : Type 0
+NoShareTwice = (history : List Event) → Legal history → AreCounted history

@@ -1,0 +1,14 @@
+//! What the credits of a legal history are.
+
+ghost use Rattle.history_laws.specs.Credited.{CreditsAreBooked, NoShareTwice};
+
+/// A credit was admitted with the channel, the job and the tip that it is booked with, its hash meets its class,
+/// and its header and its work are added to those of the earlier ones.
+pub fn credits_are_booked()
+    ensures { CreditsAreBooked }
+{}
+
+/// In a legal history no header is credited twice.
+pub fn no_share_twice()
+    ensures { NoShareTwice }
+{}
