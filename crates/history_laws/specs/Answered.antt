@@ -1,5 +1,5 @@
 -- Answers keep a history legal, and credit a share exactly where no condition fails (this project's own).
-use Rattle.std.specs.Prelude.{◌≡◌, ◌↔◌, ℕ, None, Some, Ok, Err, List, [], ◌∷◌, ◌++◌}
+use Rattle.std.specs.Prelude.{IsTrue, ◌≡◌, ◌↔◌, ℕ, None, Some, Ok, Err, List, [], ◌∷◌, ◌++◌}
 use Rattle.pool_history.specs.declared.asking.Request.{Request}
 use Rattle.pool_history.specs.declared.asking.Request.TheVariants as request
 use Rattle.pool_history.specs.declared.events.Event.{Event}
@@ -15,7 +15,6 @@ use Rattle.pool_history.specs.Crediting.{first_failed, work_of}
 use Rattle.pool_history.specs.Judging.{Admitted, Share, admitted, briefing_of, share_of}
 use Rattle.pool_history.specs.Legal.{Legal, mining}
 use Rattle.pool_history.specs.Sessions.{Entrance, entrance, past_of, present, rules_of}
-use Rattle.std.specs.Prelude.{IsTrue}
 
 -- the events of an answer keep a legal history legal
 abbrev pub AnswersKeepLegality : Type 0
@@ -46,6 +45,7 @@ pub record IsJudged (history : List Event) (worker : ℕ) (may : MaySubmit histo
   pub refused : (failed : Failed) → first_failed may.rules (past_of history) may.session share ≡ Some failed
       → (events ≡ []) × (answer ≡ reply.Refused failed)
 
+-- so a Commit is answered
 abbrev pub SharesAreJudged : Type 0
 SharesAreJudged =
     (history : List Event) (worker : ℕ) (may : MaySubmit history worker) (checked : Checked) (events : List Event) (answer : Reply)
@@ -60,6 +60,7 @@ pub record IsBriefed (history : List Event) (worker : ℕ) (may : MaySubmit hist
   pub told : (with : Admitted) → admitted may.rules (past_of history) may.session share ≡ Ok with
       → answer ≡ reply.Brief (briefing_of may.rules.pool_script with.channel with.job.source with.tip)
 
+-- so a Brief is answered
 abbrev pub SharesAreBriefed : Type 0
 SharesAreBriefed =
     (history : List Event) (worker : ℕ) (may : MaySubmit history worker) (sub : Submission) (events : List Event) (answer : Reply)

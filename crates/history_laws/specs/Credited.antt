@@ -35,6 +35,7 @@ pub record IsBookedAfter (history : List Event) (session : ℕ) (share : Share) 
   pub header : headers (past_of (history ++ credit ∷ [])) ≡ rebuilt rules.pool_script with share ∷ headers (past_of history)
   pub counts : booked (past_of (history ++ credit ∷ [])) ≡ booking rules.pool_script share with ∷ booked (past_of history)
 
+-- so each credit of a legal history was
 abbrev pub CreditsAreBooked : Type 0
 CreditsAreBooked =
     (history : List Event) (session channel job nonce ntime version : ℕ) (extranonce : List ℕ)
@@ -48,5 +49,6 @@ pub record AreCounted (history : List Event) : Type 0 where
   pub credits_counted : length (booked (past_of history)) ≡ credits (past_of history)
   pub distinct : IsTrue (are_distinct (headers (past_of history)))
 
+-- so they are in each legal history
 abbrev pub NoShareTwice : Type 0
 NoShareTwice = (history : List Event) → Legal history → AreCounted history

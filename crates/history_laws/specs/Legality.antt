@@ -1,5 +1,5 @@
 -- Laws of legal histories (this project's own).
-use Rattle.std.specs.Prelude.{◌≡◌, ◌↔◌, ◌⊎◌, None, Some, List, [], ◌∷◌, ◌++◌, length}
+use Rattle.std.specs.Prelude.{IsTrue, ◌≡◌, ◌↔◌, ◌⊎◌, None, Some, List, [], ◌∷◌, ◌++◌, length}
 use Rattle.pool_history.specs.declared.causes.Cause.{Cause}
 use Rattle.pool_history.specs.declared.events.Event.{Event}
 use Rattle.pool_history.specs.declared.events.Event.TheVariants as event
@@ -7,7 +7,6 @@ use Rattle.pool_history.specs.declared.settings.Rules.{Rules}
 use Rattle.pool_history.specs.Accounts.{are_in_range}
 use Rattle.pool_history.specs.Legal.{Legal, cause_of}
 use Rattle.pool_history.specs.Sessions.{past_of, rules_of}
-use Rattle.std.specs.Prelude.{IsTrue}
 
 -- the history of no event is legal
 abbrev pub EmptyIsLegal : Type 0
@@ -54,6 +53,7 @@ pub record IsOnlyFirst (history : List Event) (first : FirstIllegal history) : T
   pub place : (other : FirstIllegal history) → length other.before ≡ length first.before
   pub cause : (other : FirstIllegal history) → other.cause ≡ first.cause
 
+-- so the first illegal event and its cause are determined
 abbrev pub FirstIllegalIsOne : Type 0
 FirstIllegalIsOne = (history : List Event) (first : FirstIllegal history) → IsOnlyFirst history first
 
@@ -65,5 +65,6 @@ pub record Starts (history : List Event) : Type 0 where
   pub are_rules : rules_of (past_of history) ≡ Some rules
   pub in_range : IsTrue (are_in_range rules)
 
+-- a legal history is empty or begins so
 abbrev pub LegalHistoriesStart : Type 0
 LegalHistoriesStart = (history : List Event) → Legal history → (history ≡ []) ⊎ Starts history

@@ -19,6 +19,7 @@ abbrev pub rules_after : ℕ → Event → Option Rules → Option Rules
 rules_after at (event.Start rules) seen = if at == 0 then Some rules else seen
 rules_after at event seen = seen
 
+-- the rules after one more event
 abbrev pub RulesOneMore : Type 0
 RulesOneMore =
     (history : List Event) (event : Event) (seen : Option Rules) (at : ℕ) → rules_of (past_of history) ≡ seen → length history ≡ at
@@ -32,9 +33,11 @@ pub record Counts : Type 0 where
   pub credited : ℕ
   pub granted : ℕ
 
+-- the counts of a history
 abbrev pub counts_of : List Event → Counts
 counts_of past = record { entered = enters past; opened = opens past; came = templates past; credited = credits past; granted = grants past }
 
+-- an event of a counted kind is one more
 abbrev pub counts_after : Event → Counts → Counts
 counts_after (event.Enter worker role flags) seen = record seen { entered = seen.entered + 1 }
 counts_after (event.Open session kind account class lead) seen = record seen { opened = seen.opened + 1 }
@@ -43,6 +46,7 @@ counts_after (event.Credit session channel job nonce ntime version extranonce) s
 counts_after (event.Grant session account fixed path) seen = record seen { granted = seen.granted + 1 }
 counts_after event seen = seen
 
+-- the counts after one more event
 abbrev pub CountsOneMore : Type 0
 CountsOneMore =
     (history : List Event) (event : Event) (seen : Counts) → counts_of (past_of history) ≡ seen
@@ -54,6 +58,7 @@ present_after (event.Enter entering role flags) entered worker seen = if enterin
 present_after (event.Leave session) entered worker seen = unless_left session seen
 present_after event entered worker seen = seen
 
+-- the present session after one more event
 abbrev pub PresentOneMore : Type 0
 PresentOneMore =
     (history : List Event) (event : Event) (entered worker : ℕ) (seen : Option ℕ) → enters (past_of history) ≡ entered → present (past_of history) worker ≡ seen
@@ -65,6 +70,7 @@ entrance_after (event.Enter worker role flags) entered session seen =
     if entered == session then Some (record { worker = worker; role = role; flags = flags }) else seen
 entrance_after event entered session seen = seen
 
+-- the entrance after one more event
 abbrev pub EntrancesOneMore : Type 0
 EntrancesOneMore =
     (history : List Event) (event : Event) (entered session : ℕ) (seen : Option Entrance) → enters (past_of history) ≡ entered
@@ -77,6 +83,7 @@ jobs_after at (event.Tip session tip) seen = moved (Tipped at tip) seen
 jobs_after at (event.Custom session custom) seen = moved (Brought at custom) seen
 jobs_after at event seen = seen
 
+-- the jobs after one more event
 abbrev pub JobsOneMore : Type 0
 JobsOneMore =
     (history : List Event) (event : Event) (seen : Standing) (at : ℕ) → jobs_of (past_of history) ≡ seen → length history ≡ at
@@ -92,6 +99,7 @@ channels_after at opened (event.Close session channel) seen = filter (λ c. not 
 channels_after at opened (event.Leave session) seen = filter (λ c. not (c.session == session)) seen
 channels_after at opened event seen = seen
 
+-- the open channels after one more event
 abbrev pub ChannelsOneMore : Type 0
 ChannelsOneMore =
     (history : List Event) (event : Event) (seen : List OpenChannel) (at opened : ℕ) → channels_of (past_of history) ≡ seen → length history ≡ at
@@ -117,6 +125,7 @@ pub record Shows (history : List Event) (script : List ℕ) (standing : Standing
   pub jobs_are : jobs_of (past_of history) ≡ standing
   pub channels_are : channels_of (past_of history) ≡ channels
 
+-- the headers after one more event
 abbrev pub HeadersOneMore : Type 0
 HeadersOneMore =
     (history : List Event) (event : Event) (script : List ℕ) (standing : Standing) (channels : List OpenChannel) (seen : List (List ℕ))
@@ -129,6 +138,7 @@ booked_after script standing channels (event.Credit session channel job nonce nt
     listed (λ with. booking script (credit_share with channel job nonce ntime version extranonce) with) (booked_in standing channels channel job) ++ seen
 booked_after script standing channels event seen = seen
 
+-- the credits after one more event
 abbrev pub CreditsOneMore : Type 0
 CreditsOneMore =
     (history : List Event) (event : Event) (script : List ℕ) (standing : Standing) (channels : List OpenChannel) (seen : List Booked)
@@ -141,6 +151,7 @@ grant_after (event.Grant session account fixed path) granted token seen =
     if bytes_eq token (token_of (granted + 1)) then Some (record { account = account; fixed = fixed; path = path }) else seen
 grant_after event granted token seen = seen
 
+-- the grant of a token after one more event
 abbrev pub GrantsOneMore : Type 0
 GrantsOneMore =
     (history : List Event) (event : Event) (granted : ℕ) (token : List ℕ) (seen : Option Granted) → grants (past_of history) ≡ granted
@@ -151,6 +162,7 @@ abbrev pub spent_after : Event → List ℕ → Bool → Bool
 spent_after (event.Custom session custom) token seen = bytes_eq token custom.token || seen
 spent_after event token seen = seen
 
+-- whether a token is spent after one more event
 abbrev pub SpendingOneMore : Type 0
 SpendingOneMore =
     (history : List Event) (event : Event) (token : List ℕ) (seen : Bool) → is_spent (past_of history) token ≡ seen

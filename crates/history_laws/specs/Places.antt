@@ -1,5 +1,5 @@
 -- Sessions and open channels once more, by places over the history from its front (this project's own).
-use Rattle.std.specs.Prelude.{◌≡◌, ◌↔◌, ℕ, ◌+◌, ◌==◌, Bool, false, if◌then◌else◌, Some, List, [], ◌∷◌, ◌++◌, reverse}
+use Rattle.std.specs.Prelude.{IsTrue, ◌≡◌, ◌↔◌, ℕ, ◌+◌, ◌==◌, Bool, false, if◌then◌else◌, Some, List, [], ◌∷◌, ◌++◌, reverse}
 use Rattle.std.specs.List.{AllByRecursion, list_any}
 use Rattle.pool_history.specs.declared.events.Event.{Event}
 use Rattle.pool_history.specs.declared.events.Event.TheVariants as event
@@ -7,7 +7,6 @@ use Rattle.pool_history.specs.declared.events.Role.{Role}
 use Rattle.pool_history.specs.ByPlaces.{sets_from}
 use Rattle.pool_history.specs.Channels.{OpenChannel, account_or, channels_of}
 use Rattle.pool_history.specs.Sessions.{Entrance, entrance, enters, is_present, past_of, present}
-use Rattle.std.specs.Prelude.{IsTrue}
 
 -- a later Enter of the worker, or the Leave of the session
 abbrev pub ends_session : ℕ → ℕ → Event → Bool

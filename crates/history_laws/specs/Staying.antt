@@ -18,20 +18,23 @@ pub record IsLater (place : ℕ) (before after : OpenChannel) : Type 0 where
   pub account : is_empty before.account ≡ false → after.account ≡ before.account
   pub class : (at : ℕ) → at ≤ place → class_at after at ≡ class_at before at
 
+-- a channel that is open now and later is so
 abbrev pub ChannelsStay : Type 0
 ChannelsStay =
     (history more : List Event) (id : ℕ) (before after : OpenChannel) → channel_in (channels_of (past_of history)) id ≡ Some before
     → channel_in (channels_of (past_of (history ++ more))) id ≡ Some after → IsLater (length history) before after
 
--- each channel comes before those with greater ids, and an id is at most the number of openings
+-- each channel comes before those with greater ids
 abbrev pub AreInOrder : List OpenChannel → Type 0
 AreInOrder [] = Unit {0}
 AreInOrder (channel ∷ later) = AllByRecursion (λ other. channel.id < other.id) later × AreInOrder later
 
+-- the channels of a history are in order, and their ids count the openings
 pub record AreNumbered (history : List Event) : Type 0 where
   pub in_order : AreInOrder (channels_of (past_of history))
   pub opened : AllByRecursion (λ channel. channel.id ≤ opens (past_of history)) (channels_of (past_of history))
 
+-- so they are in each history
 abbrev pub ChannelsAreNumbered : Type 0
 ChannelsAreNumbered = (history : List Event) → AreNumbered history
 
@@ -56,5 +59,6 @@ pub record CreditsStand (history more : List Event) : Type 0 where
   pub newer : List Booked
   pub credits_are : booked (past_of (history ++ more)) ≡ newer ++ booked (past_of history)
 
+-- so it is however a history grows
 abbrev pub CreditsStay : Type 0
 CreditsStay = (history more : List Event) → CreditsStand history more
