@@ -92,14 +92,8 @@ fn read_field(reader: &mut Reader<'_>, field: Field) -> Result<(), ReadError> {
     Ok(())
 }
 
-/// Reads the whole spelling, also with one byte more, and not where it is cut at any byte; of a very
-/// long one the last hundred cuts are tried.
-fn reads_whole_alone(
-    rt: &impl Abort,
-    alloc: Global,
-    field: Field,
-    spelled: &[u8],
-) -> Result<(), Fail> {
+/// Reads the whole spelling, also with one byte more.
+fn reads_whole(rt: &impl Abort, alloc: Global, field: Field, spelled: &[u8]) -> Result<(), Fail> {
     let mut reader = Reader::new(spelled);
     assert_eq!(rt; read_field(&mut reader, field), Ok(()), "{field:?}");
     assert_eq!(rt; reader.left(), 0, "{field:?}");
@@ -113,19 +107,20 @@ fn reads_whole_alone(
         "{field:?} with one byte more"
     );
     assert_eq!(rt; reader.left(), 1, "{field:?} with one byte more");
+    Ok(())
+}
 
-    let len = spelled.len();
-    let first = if len <= 132_000 { 0 } else { len - 100 };
-    for end in first..len {
-        let mut reader = Reader::new(&spelled[..end]);
+/// The spelling is short where it is cut at any byte from the first up to the end.
+fn is_short(rt: &impl Abort, field: Field, spelled: &[u8], first: usize, end: usize) {
+    for cut in first..end.min(spelled.len()) {
+        let mut reader = Reader::new(&spelled[..cut]);
         assert_eq!(rt;
             read_field(&mut reader, field),
             Err(ReadError::Short),
-            "{field:?} cut at {end}"
+            "{field:?} cut at {cut}"
         );
-        assert_eq!(rt; reader.at(), 0, "{field:?} cut at {end}");
+        assert_eq!(rt; reader.at(), 0, "{field:?} cut at {cut}");
     }
-    Ok(())
 }
 
 /// A head, and one byte so many times.
@@ -174,9 +169,10 @@ fn each_type_reads_its_least_and_greatest_spelling(rt: HostRuntime) -> Result<()
         (Field::SeqBytes, b"\x02\x00\x00\x00\x00\x01\x00\x00\x09"),
     ];
     for (field, spelled) in rows {
-        reads_whole_alone(&rt, rt.alloc(), field, spelled)?;
+        reads_whole(&rt, rt.alloc(), field, spelled)?;
+        is_short(&rt, field, spelled, 0, spelled.len());
     }
-    let rows: [(Field, &[u8], u8, usize); 9] = [
+    let rows: [(Field, &[u8], u8, usize); 8] = [
         (Field::Str255, b"\xff", b'a', 255),
         (Field::B255, b"\xff", 0xff, 255),
         (Field::B32, b"\x20", 0xff, 32),
@@ -185,12 +181,46 @@ fn each_type_reads_its_least_and_greatest_spelling(rt: HostRuntime) -> Result<()
         (Field::SeqU256, b"\xff", 0xff, 255 * 32),
         (Field::Seq64kU256, b"\xff\xff", 0xff, 65_535 * 32),
         (Field::SeqU16, b"\xff\xff", 0xff, 131_070),
-        (Field::SeqBytes, b"\xff\xff", 0, 65_535 * 3),
     ];
     for (field, head, byte, count) in rows {
         let spelled = behind(rt.alloc(), head, byte, count)?;
-        reads_whole_alone(&rt, rt.alloc(), field, spelled.as_slice())?;
+        let spelled = spelled.as_slice();
+        reads_whole(&rt, rt.alloc(), field, spelled)?;
+        is_short(&rt, field, spelled, 0, spelled.len());
     }
+    Ok(())
+}
+
+/// As many byte strings as can be, each empty. Reading them goes through their lengths, so cutting the
+/// spelling at each byte is shared among three tests.
+fn most_strings(alloc: Global) -> Result<Vec<u8>, Fail> {
+    behind(alloc, b"\xff\xff", 0, 65_535 * 3)
+}
+
+#[test]
+fn the_most_strings_are_read_whole_and_short_in_the_first_half(
+    rt: HostRuntime,
+) -> Result<(), Fail> {
+    let spelled = most_strings(rt.alloc())?;
+    let spelled = spelled.as_slice();
+    assert_eq!(rt; spelled.len(), 196_607);
+    reads_whole(&rt, rt.alloc(), Field::SeqBytes, spelled)?;
+    is_short(&rt, Field::SeqBytes, spelled, 0, 98_304);
+    Ok(())
+}
+
+#[test]
+fn the_most_strings_are_short_in_the_third_quarter(rt: HostRuntime) -> Result<(), Fail> {
+    let spelled = most_strings(rt.alloc())?;
+    is_short(&rt, Field::SeqBytes, spelled.as_slice(), 98_304, 147_456);
+    Ok(())
+}
+
+#[test]
+fn the_most_strings_are_short_in_the_last_quarter(rt: HostRuntime) -> Result<(), Fail> {
+    let spelled = most_strings(rt.alloc())?;
+    let spelled = spelled.as_slice();
+    is_short(&rt, Field::SeqBytes, spelled, 147_456, spelled.len());
     Ok(())
 }
 
