@@ -1,6 +1,9 @@
+pub mod AnswerRows
+pub mod CallRows
 pub mod Given
 pub mod IllegalEvents
 pub mod LedgerLengths
+pub mod NewsRows
 pub mod OwnJobs
 pub mod PlacesOfClasses
 pub mod PlacesOfJobs
@@ -8,3 +11,4 @@ pub mod PlacesOfStates
 pub mod Rows
 pub mod SessionS
 pub mod Settlements
+pub mod WrongDefinitions

@@ -1,5 +1,5 @@
 -- Worked examples of a miner's own job: its coinbase, its number and state, and what is refused.
-use Rattle.std.proofs.Common.{◌≡◌, ℕ, ◌++◌, true, false, None, Some, List, [], ◌∷◌, refl, lit≤}
+use Rattle.std.proofs.Common.{zero, suc, ◌≡◌, ℕ, ◌++◌, true, false, None, Some, List, [], ◌∷◌, refl, lit≤}
 use Rattle.std.specs.Prelude.{replicate}
 use Rattle.coinbase.specs.Compact.{compact}
 use Rattle.coinbase.specs.Outputs.{outputs_within}
@@ -175,3 +175,24 @@ cause_of-grant_unknown = refl
 pub cause_of-custom : cause_of granted brings ≡ None
 unfolding outputs_within output_at sized_at compact_at number_at compact
 cause_of-custom = refl
+
+-- so many jobs of one channel's own: the seventeenth makes the channel's oldest stale, and no other channel's
+abbrev pub with_own : ℕ → ℕ → List Event → List Event
+with_own channel zero past = past
+with_own channel (suc n) past = event.Custom 0 (record offer { channel_id = channel }) ∷ with_own channel n past
+
+pub own-sixteen : state_of (jobs_of (with_own 1 16 granted)) 2 ≡ state.Live
+own-sixteen = refl
+
+pub own-seventeen_oldest : state_of (jobs_of (with_own 1 17 granted)) 2 ≡ state.Stale
+own-seventeen_oldest = refl
+
+pub own-seventeen_second : state_of (jobs_of (with_own 1 17 granted)) 3 ≡ state.Live
+own-seventeen_second = refl
+
+pub own-of_another_channel : state_of (jobs_of (with_own 2 16 (with_own 1 16 granted))) 2 ≡ state.Live
+own-of_another_channel = refl
+
+-- and none of a template's
+pub own-beside_template : state_of (jobs_of (with_own 1 17 granted)) 1 ≡ state.Live
+own-beside_template = refl
