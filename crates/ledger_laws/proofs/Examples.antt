@@ -1,7 +1,11 @@
 -- What the laws aren't: statements that an example refutes. And that events can be kept at all.
-use Rattle.std.proofs.Common.{◌≡◌, ℕ, ◌<◌, ◌≤◌, ◌^◌, List, [], ◌∷◌, ◌++◌, refl, arith, lit≤, lit<}
+use Rattle.std.proofs.Common.{zero, suc, ◌≡◌, ℕ, ◌<◌, ◌≤◌, ◌^◌, false, List, [], ◌∷◌, ◌++◌, refl, sym, ◌∙◌, arith, lit≤, lit<}
+use Rattle.std.specs.Str.{IsAscii, chars, is_utf8}
+use Rattle.std.proofs.lemmas.Bool.{false≢true}
+use Rattle.std.proofs.lemmas.Str.{IsUtf8-from_ascii, is_utf8-from_IsUtf8}
 use Rattle.pool_history.specs.declared.events.Event.{Event}
 use Rattle.pool_history.specs.declared.events.Event.TheVariants as event
+use Rattle.pool_history.specs.declared.events.Kind.TheVariants as kind
 use Rattle.pool_history.specs.declared.events.Role.TheVariants as role
 use Rattle.pool_history.specs.Ledger.{HasRecord, record_body, record_of}
 use Rattle.pool_history.proofs.Given.{session}
@@ -18,13 +22,13 @@ sets = event.Class 0 0 0
 begins_is_kept : CanBeKept begins
 begins_is_kept = record {
   well_formed = record { worker_fits = omega arith; flags_fit = omega arith };
-  has_record = record { fits = tt; short = omega arith };
+  has_record = record { fits = tt; texts = tt; short = omega arith };
 }
 
 sets_is_kept : CanBeKept sets
 sets_is_kept = record {
   well_formed = record { session_fits = omega arith; channel_fits = omega arith; class_fits = omega arith };
-  has_record = record { fits = tt; short = omega arith };
+  has_record = record { fits = tt; texts = tt; short = omega arith };
 }
 
 two_events : begins ≡ sets → ⊥
@@ -50,7 +54,7 @@ number_of one = 0
 
 pub not_by_any_numbers : AnyRecordIsOfOneEvent → ⊥
 not_by_any_numbers law =
-    differ (law (event.Leave 0) (event.Leave (2 ^ 32)) (record { fits = tt; short = omega arith }) (record { fits = tt; short = omega arith }) refl)
+    differ (law (event.Leave 0) (event.Leave (2 ^ 32)) (record { fits = tt; texts = tt; short = omega arith }) (record { fits = tt; texts = tt; short = omega arith }) refl)
   where
     differ : event.Leave 0 ≡ event.Leave (2 ^ 32) → ⊥
     differ e = apart 0 (2 ^ 32) (omega arith) (Rattle.std.proofs.Common.ap number_of e)
@@ -58,17 +62,33 @@ not_by_any_numbers law =
         apart : (m n : ℕ) → m < n → m ≡ n → ⊥
         apart m n less same = omega (arith, less, same)
 
+-- an Open whose account is the byte ff has no record: that byte stands in no UTF-8 text
+abbrev pub opens_with_ff : Event
+opens_with_ff = event.Open 0 kind.Standard (0xff ∷ []) 0 []
+
+ff_is_no_text : is_utf8 (0xff ∷ []) ≡ false
+unfolding chars is_utf8
+ff_is_no_text = refl
+
+pub ff_has_no_record : HasRecord opens_with_ff → ⊥
+ff_has_no_record recorded = false≢true (sym ff_is_no_text ∙ is_utf8-from_IsUtf8 (0xff ∷ []) recorded.texts)
+
+-- the account of the worked session is a text
+a_is_ascii : IsAscii (0x61 ∷ [])
+a_is_ascii zero = omega arith
+a_is_ascii (suc i) = omega arith
+
 -- each event of the worked session can be kept
 pub session_is_kept : AllCanBeKept session
 session_is_kept = (
   record {
     well_formed = record { least_class = omega arith; fee = omega arith; window = tt; ntime_window = omega arith; credit_limit = omega arith; users = tt };
-    has_record = record { fits = record { script = omega arith; users = omega arith }; short = omega arith };
+    has_record = record { fits = record { script = omega arith; users = omega arith }; texts = tt; short = omega arith };
   },
   (
-    record { well_formed = record { worker_fits = omega arith; flags_fit = omega arith }; has_record = record { fits = tt; short = omega arith } },
+    record { well_formed = record { worker_fits = omega arith; flags_fit = omega arith }; has_record = record { fits = tt; texts = tt; short = omega arith } },
     (
-      record { well_formed = record { session_fits = omega arith; account_fits = omega arith; class_fits = omega arith }; has_record = record { fits = omega arith; short = omega arith } },
+      record { well_formed = record { session_fits = omega arith; account_fits = omega arith; class_fits = omega arith }; has_record = record { fits = omega arith; texts = IsUtf8-from_ascii (0x61 ∷ []) a_is_ascii; short = omega arith } },
       (
         record {
           well_formed = record {
@@ -84,7 +104,7 @@ session_is_kept = (
               merkle_path = tt;
             };
           };
-          has_record = record { fits = record { prefix = omega arith; outputs = omega arith; path = omega arith }; short = omega arith };
+          has_record = record { texts = tt; fits = record { prefix = omega arith; outputs = omega arith; path = omega arith }; short = omega arith };
         },
         (
           record {
@@ -92,7 +112,7 @@ session_is_kept = (
               session_fits = omega arith;
               tip_fits = record { template_id = omega arith; prev_hash = refl; header_timestamp = omega arith; nbits = omega arith; target = refl };
             };
-            has_record = record { fits = tt; short = omega arith };
+            has_record = record { fits = tt; texts = tt; short = omega arith };
           },
           (
             record {
@@ -104,9 +124,9 @@ session_is_kept = (
                 ntime_fits = omega arith;
                 version_fits = omega arith;
               };
-              has_record = record { fits = omega arith; short = omega arith };
+              has_record = record { fits = omega arith; texts = tt; short = omega arith };
             },
-            (record { well_formed = omega arith; has_record = record { fits = tt; short = omega arith } }, tt),
+            (record { well_formed = omega arith; has_record = record { fits = tt; texts = tt; short = omega arith } }, tt),
           ),
         ),
       ),

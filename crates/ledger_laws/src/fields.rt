@@ -1,6 +1,9 @@
-//! That each event which a program holds is well formed: what the types of its fields say, told to contracts.
+//! That each event which a program holds is well formed and has UTF-8 texts: what the types of its fields say, told
+//! to contracts.
 
 ghost use Rattle.std.specs.List.{AllByRecursion};
+ghost use Rattle.std.specs.Str.{IsUtf8};
+ghost use Rattle.pool_history.specs.Ledger.{TextsFit};
 ghost use Rattle.ledger_laws.specs.WellFormed.{AreHashes, AreRules, IsCustom, IsHash, IsTemplate, IsText, IsTip, IsU16, IsU32, IsU64, IsU8, IsWellFormed, IsWindow};
 
 use pool_history::{CustomData, Event, Rules, TemplateData, TipData};
@@ -87,6 +90,19 @@ pub fn fields_fit(event: &Event)
             u32_fits(*session);
             custom_fits(custom)
         }
+    }
+}
+
+/// Each text of an event is UTF-8: the account of an Open, a Name and a Grant, and each user of a Start.
+pub fn texts_are_utf8(event: &Event)
+    ensures { TextsFit event.now }
+{
+    match event {
+        Event::Start(rules) => accounts_are_utf8(rules.users.accounts()),
+        Event::Open { account, .. } => text_is_utf8(account),
+        Event::Name { account, .. } => text_is_utf8(account),
+        Event::Grant { account, .. } => text_is_utf8(account),
+        _ => {}
     }
 }
 
@@ -195,4 +211,18 @@ fn custom_fits(custom: &CustomData)
     u32_fits(custom.coinbase_tx_locktime);
     hash_fits(&custom.prev_hash);
     hashes_fit(&custom.merkle_path)
+}
+
+fn text_is_utf8(text: &Str255)
+    ensures { IsUtf8 text.now }
+{
+    let _text = text.text();
+}
+
+fn accounts_are_utf8(accounts: &[Str255])
+    ensures { AllByRecursion IsUtf8 accounts.now }
+{
+    for account in accounts {
+        text_is_utf8(account);
+    }
 }

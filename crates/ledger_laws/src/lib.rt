@@ -7,7 +7,7 @@ mod fields;
 mod kinds;
 mod laws;
 
-pub use fields::fields_fit;
+pub use fields::{fields_fit, texts_are_utf8};
 pub use kinds::record_kind;
 pub use laws::{
     ledgers_are_of_one_history, ledgers_begin_alike, ledgers_grow, no_record_begins_another,

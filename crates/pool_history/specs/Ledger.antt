@@ -1,6 +1,7 @@
 -- How a history is written as a ledger (this project's own; fields are spelled as in Stratum V2, "Data Types Mapping").
 use Rattle.std.specs.Prelude.{◌≡◌, ℕ, ◌<◌, ◌≤◌, ◌^◌, Bool, false, Option, None, Some, List, [], ◌∷◌, ◌++◌, length, codes}
-use Rattle.std.specs.List.{flat_map}
+use Rattle.std.specs.List.{AllByRecursion, flat_map}
+use Rattle.std.specs.Str.{IsUtf8}
 use Rattle.sha2.specs.Sha256.{sha256}
 use Rattle.sv2_types.specs.Spelling.{spelled_u8, spelled_u16, spelled_u32, spelled_u64, spelled_boolean, spelled_str255, spelled_b255, spelled_b64k, spelled_b16m, spelled_seq_u256}
 use Rattle.pool_history.specs.declared.events.Event.{Event}
@@ -165,7 +166,16 @@ EventFits (event.Grant session account fixed path) = GrantFits fixed path
 EventFits (event.Custom session custom) = CustomFits custom
 EventFits event = Unit {0}
 
--- an event has a record: its lists fit, and its body has at most 300,000 bytes
+-- the texts of an event are UTF-8
+abbrev pub TextsFit : Event → Type 0
+TextsFit (event.Start rules) = AllByRecursion IsUtf8 rules.users
+TextsFit (event.Open session kind account class lead) = IsUtf8 account
+TextsFit (event.Name session channel account) = IsUtf8 account
+TextsFit (event.Grant session account fixed path) = IsUtf8 account
+TextsFit event = Unit {0}
+
+-- an event has a record: its lists fit, its texts are UTF-8, and its body has at most 300,000 bytes
 pub record HasRecord (event : Event) : Type 0 where
   pub fits : EventFits event
+  pub texts : TextsFit event
   pub short : length (record_body event) ≤ 300000
