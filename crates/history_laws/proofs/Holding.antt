@@ -19,7 +19,7 @@ use Rattle.pool_history.specs.Refusing.{held_leads}
 use Rattle.pool_history.specs.Sessions.{past_of}
 use Rattle.pool_history.specs.Spaces.{InSpace, first_free, is_free, lowest, overlap, string_at}
 use Rattle.pool_history.proofs.PlacesOfClasses.{all-end, all-filter, all-map, all-weaken}
-use Rattle.history_laws.specs.Apart.{AreDisjoint, SpacesAreDisjoint}
+use Rattle.history_laws.specs.Apart.{AreApart, AreDisjoint, SpacesAreDisjoint}
 use Rattle.history_laws.proofs.Causes.{IsOpening, legal_opening}
 use Rattle.history_laws.proofs.Entrances.{none-some, some-same}
 use Rattle.history_laws.proofs.Legalities.{prefixes_legal}
@@ -215,6 +215,16 @@ found-apart (c ∷ cs) apart i j a b f g other =
           let later : channel_in cs j ≡ Some b = sym (ap (λ t. cond t (Some c) (channel_in cs j)) not-j) ∙ g in
           subst (λ d. overlap d.lead b.lead ≡ false) (some-same f) (all-find (λ d. overlap c.lead d.lead ≡ false) (λ d. eqb d.id j) cs b apart.0 later)
 
+-- so are all by their places
+pub apart-by_place : (cs : List OpenChannel) → Apart cs → AreApart cs
+apart-by_place [] apart = tt
+apart-by_place (c ∷ cs) apart =
+    (all-weaken (IsApart c) (AreDisjoint c) (λ d h. apart-disjoint c d h) cs apart.0, apart-by_place cs apart.1)
+
 pub spaces-disjoint : SpacesAreDisjoint
-spaces-disjoint before after l i j a b f g other =
-    apart-disjoint a b (found-apart (channels_of (past_of before)) (channels-apart (past_of before) (prefixes_legal before after l)) i j a b f g other)
+spaces-disjoint before after l =
+    let apart : Apart (channels_of (past_of before)) = channels-apart (past_of before) (prefixes_legal before after l) in
+    record {
+      by_place = apart-by_place (channels_of (past_of before)) apart;
+      by_id = λ i j a b f g other. apart-disjoint a b (found-apart (channels_of (past_of before)) apart i j a b f g other);
+    }

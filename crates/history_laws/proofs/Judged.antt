@@ -1,12 +1,18 @@
 -- How answers judge shares.
-use Rattle.std.proofs.Common.{◌⊎◌, inl, inr, ◌≡◌, ℕ, ◌+◌, length, true, false, cond, Option, None, Some, Result, Ok, Err, List, [], ◌∷◌, refl, ap, subst, sym, ◌∙◌}
-use Rattle.std.proofs.lemmas.Bool.{cond_both}
+use Rattle.std.proofs.Common.{◌⊎◌, inl, inr, ◌≡◌, ℕ, ◌+◌, length, Bool, true, false, cond, Option, None, Some, Result, Ok, Err, List, [], ◌∷◌, refl, ap, subst, sym, ◌∙◌}
+use Rattle.std.proofs.lemmas.Bool.{cond_both, false≢true}
 use Rattle.std.specs.Option.{option_to_list}
 use Rattle.pool_history.specs.declared.asking.Request.{Request}
 use Rattle.pool_history.specs.declared.asking.Request.TheVariants as request
 use Rattle.pool_history.specs.declared.events.Event.{Event}
 use Rattle.pool_history.specs.declared.events.Event.TheVariants as event
 use Rattle.pool_history.specs.declared.refusals.Failed.{Failed}
+use Rattle.pool_history.specs.declared.refusals.Failed.TheVariants as failed
+use Rattle.coinbase.specs.Steps.{◌>>=◌}
+use Rattle.block_header.specs.Hash.{dsha, meets}
+use Rattle.std.specs.List.{list_any}
+use Rattle.std.specs.Str.{bytes_eq}
+use Rattle.pool_history.specs.Headers.{rolled}
 use Rattle.pool_history.specs.declared.replies.Reply.{Reply}
 use Rattle.pool_history.specs.declared.replies.Reply.TheVariants as reply
 use Rattle.pool_history.specs.declared.settings.Rules.{Rules}
@@ -14,14 +20,15 @@ use Rattle.pool_history.specs.declared.shares.Checked.{Checked}
 use Rattle.pool_history.specs.declared.shares.Submission.{Submission}
 use Rattle.pool_history.specs.Accounts.{account_of, is_empty}
 use Rattle.pool_history.specs.Answering.{Answer, Step, briefing, classing, closing, committing, crediting, entering, granting, kept, naming, opening, permits, step, step_as, step_by, step_for, step_in, step_under, told, unless_refused}
-use Rattle.pool_history.specs.Channels.{OpenChannel, class_of}
-use Rattle.pool_history.specs.Crediting.{first_failed, last_failed, work_of}
-use Rattle.pool_history.specs.Judging.{Admitted, Share, admitted, share_of}
+use Rattle.pool_history.specs.Channels.{OpenChannel, channel_in, channels_of, class_of}
+use Rattle.pool_history.specs.Crediting.{class_of_share, first_failed, has_room, headers, is_new, last_failed, work_of}
+use Rattle.pool_history.specs.Jobs.{future_of, jobs_of, live_job}
+use Rattle.pool_history.specs.Judging.{Admitted, Share, admitted, briefing_of, found, is_in_time, is_known_job, is_version, provided, rebuilt, serves, share_of}
 use Rattle.pool_history.specs.Legal.{allowed_flags}
 use Rattle.pool_history.specs.Refusing.{class_for, custom_refusal, grant_refusal, lead_for, most_enters, name_refusal, open_refusal, own_channel, template_refusal, tip_refusal, update_refusal}
-use Rattle.pool_history.specs.Sessions.{Entrance, enters, entrance, past_of, present, rules_of}
+use Rattle.pool_history.specs.Sessions.{Entrance, credits, enters, entrance, past_of, present, rules_of}
 use Rattle.std.specs.Prelude.{bit_and, nat_eq, nat_lt}
-use Rattle.history_laws.specs.Answered.{CreditsAreCommitted, IsJudged, MaySubmit, SharesAreBriefed, SharesAreJudged, credit_of}
+use Rattle.history_laws.specs.Answered.{fails_early, is_early, CreditsAreCommitted, IsJudged, MaySubmit, SharesAreBriefed, SharesAreJudged, credit_of}
 use Rattle.history_laws.proofs.Legalities.{some-none}
 use Rattle.history_laws.proofs.Entrances.{none-some, some-same}
 
@@ -107,6 +114,68 @@ judged h worker may checked events answer a =
         );
       }
 
+-- a result whose refusal is by one of the first six conditions
+abbrev pub IsEarly : {X : Type 0} → Result X Failed → Type 0
+IsEarly (Ok x) = Unit {0}
+IsEarly (Err code) = is_early code ≡ true
+
+pub early-bind : {X Y : Type 0} (r : Result X Failed) (f : X → Result Y Failed) → IsEarly r → ((x : X) → IsEarly (f x)) → IsEarly (r >>= f)
+early-bind (Ok x) f first more = more x
+early-bind (Err code) f first more = first
+
+pub found-early : {X : Type 0} (code : Failed) (o : Option X) → is_early code ≡ true → IsEarly (found code o)
+found-early code None h = h
+found-early code (Some x) h = tt
+
+pub provided-early : {X : Type 0} (b : Bool) (code : Failed) (x : X) → is_early code ≡ true → IsEarly (provided b code x)
+provided-early true code x h = tt
+provided-early false code x h = h
+
+pub admitted-early : (rules : Rules) (past : List Event) (session : ℕ) (share : Share) → IsEarly (admitted rules past session share)
+admitted-early rules past session share =
+    early-bind (found failed.Channel (channel_in (channels_of past) share.channel)) _ (found-early failed.Channel (channel_in (channels_of past) share.channel) refl)
+    (λ there. early-bind (provided (serves session share there) failed.Channel there) _ (provided-early (serves session share there) failed.Channel there refl)
+    (λ channel. early-bind (provided (nat_eq (length share.extranonce) (rolled channel.kind channel.lead)) failed.ExtranonceSize channel) _
+    (provided-early (nat_eq (length share.extranonce) (rolled channel.kind channel.lead)) failed.ExtranonceSize channel refl)
+    (λ c. early-bind (provided (is_known_job (jobs_of past) share) failed.Job channel) _ (provided-early (is_known_job (jobs_of past) share) failed.Job channel refl)
+    (λ d. early-bind (found failed.Stale (live_job (jobs_of past) share.job)) _ (found-early failed.Stale (live_job (jobs_of past) share.job) refl)
+    (λ job. early-bind (found failed.Stale (jobs_of past).tip) _ (found-early failed.Stale (jobs_of past).tip refl)
+    (λ tip. early-bind (provided (is_version rules job.source share.version) failed.Version channel) _
+    (provided-early (is_version rules job.source share.version) failed.Version channel refl)
+    (λ e. early-bind (provided (is_in_time rules job.source tip share.ntime) failed.Ntime channel) _
+    (provided-early (is_in_time rules job.source tip share.ntime) failed.Ntime channel refl) (λ f. tt))))))))
+
+-- the last three conditions
+pub last-late : (rules : Rules) (past : List Event) (share : Share) (with : Admitted) → fails_early (last_failed rules past share (Ok with)) ≡ false
+last-late rules past share with =
+    let header : List ℕ = rebuilt rules.pool_script with share in
+    cond_both (meets (dsha header) (class_of_share with)) (is_new rules past header) (Some failed.Difficulty) (λ o. fails_early o ≡ false)
+    (λ t. cond_both (list_any (bytes_eq header) (headers past)) (Some failed.Duplicate) (has_room rules past) (λ o. fails_early o ≡ false) (λ u. refl)
+    (λ u. cond_both (nat_lt (credits past) rules.credit_limit) None (Some failed.Full) (λ o. fails_early o ≡ false) (λ v. refl) (λ v. refl)))
+    (λ f. refl)
+
+-- what a Brief is answered, by whether the share was admitted
+pub record Briefed (rules : Rules) (past : List Event) (session : ℕ) (share : Share) (answer : Reply) : Type 0 where
+  pub refused : (code : Failed) → first_failed rules past session share ≡ Some code → is_early code ≡ true → answer ≡ reply.Refused code
+  pub told : fails_early (first_failed rules past session share) ≡ false
+      → (with : Admitted) × (admitted rules past session share ≡ Ok with) × (answer ≡ reply.Brief (briefing_of rules.pool_script with.channel with.job.source with.tip))
+
+pub briefed-by : (rules : Rules) (past : List Event) (session : ℕ) (share : Share) (r : Result Admitted Failed) → admitted rules past session share ≡ r
+    → Briefed rules past session share (briefing rules r).reply
+briefed-by rules past session share (Err code) is =
+    let first : first_failed rules past session share ≡ Some code = ap (last_failed rules past share) is in
+    let early : is_early code ≡ true = subst IsEarly is (admitted-early rules past session share) in
+    record {
+      refused = λ other same h. ap reply.Refused (some-same (sym first ∙ same));
+      told = λ late. absurd (false≢true (sym late ∙ ap fails_early first ∙ early));
+    }
+briefed-by rules past session share (Ok with) is =
+    let first : first_failed rules past session share ≡ last_failed rules past share (Ok with) = ap (last_failed rules past share) is in
+    record {
+      refused = λ code same early. absurd (false≢true (sym (last-late rules past share with) ∙ ap fails_early (sym first ∙ same) ∙ early));
+      told = λ late. (with, is, refl);
+    }
+
 pub briefed : SharesAreBriefed
 briefed h worker may sub events answer a =
     let share : Share = share_of sub in
@@ -114,10 +183,12 @@ briefed h worker may sub events answer a =
     a.events_are ∙ ap (λ t. option_to_list t.event) (step-briefing h worker may sub) in
     let replied : answer ≡ (briefing may.rules (admitted may.rules (past_of h) may.session share)).reply =
     a.reply_is ∙ ap (λ t. t.reply) (step-briefing h worker may sub) in
+    let b : Briefed may.rules (past_of h) may.session share (briefing may.rules (admitted may.rules (past_of h) may.session share)).reply =
+    briefed-by may.rules (past_of h) may.session share (admitted may.rules (past_of h) may.session share) refl in
     record {
       none = made ∙ no_event may.rules (admitted may.rules (past_of h) may.session share);
-      refused = λ code is. (replied ∙ ap (λ r. (briefing may.rules r).reply) is, ap (last_failed may.rules (past_of h) share) is);
-      told = λ with is. replied ∙ ap (λ r. (briefing may.rules r).reply) is;
+      refused = λ code same early. replied ∙ b.refused code same early;
+      told = λ late. ((b.told late).0, (b.told late).1, replied ∙ (b.told late).2);
     } where
       no_event : (rules : Rules) (r : Result Admitted Failed) → option_to_list (briefing rules r).event ≡ []
       no_event rules (Ok with) = refl
@@ -142,11 +213,11 @@ step_in-credits rules past session (request.Enter role flags) = inr tt
 step_in-credits rules past session request.Leave = inr tt
 step_in-credits rules past session (request.Template template) =
     inr (not-credited reply.TemplateRefused (template_refusal rules.pool_script past template)
-    (kept (event.Template session template) (reply.Job (length (Rattle.pool_history.specs.Jobs.jobs_of past).all + 1))) tt)
+    (kept (event.Template session template) (reply.Job (length (jobs_of past).all + 1))) tt)
 step_in-credits rules past session (request.Tip tip) =
     inr (not-credited reply.TemplateRefused (tip_refusal past tip)
     (kept (event.Tip session tip)
-    (reply.Job (Rattle.pool_history.specs.Answering.number_of (Rattle.pool_history.specs.Jobs.future_of (Rattle.pool_history.specs.Jobs.jobs_of past) tip.template_id)))) tt)
+    (reply.Job (Rattle.pool_history.specs.Answering.number_of (future_of (jobs_of past) tip.template_id)))) tt)
 step_in-credits rules past session (request.Open ask) =
     inr (not-credited reply.OpenRefused (open_refusal rules past session ask) (opening rules past session ask (lead_for past ask)) (by_lead (lead_for past ask))) where
       by_lead : (o : Option (List ℕ)) → NoCredit (opening rules past session ask o).event
@@ -186,7 +257,7 @@ step_in-credits rules past session (request.Grant identity (Some path)) =
     (kept (event.Grant session (account_of identity) true path) (reply.Granted (Rattle.pool_history.specs.Sessions.grants past + 1) rules.pool_script)) tt)
 step_in-credits rules past session (request.Custom custom) =
     inr (not-credited reply.CustomRefused (custom_refusal rules.pool_script past session custom)
-    (kept (event.Custom session custom) (reply.CustomJob (length (Rattle.pool_history.specs.Jobs.jobs_of past).all + 1))) tt)
+    (kept (event.Custom session custom) (reply.CustomJob (length (jobs_of past).all + 1))) tt)
 
 pub step_for-credits : (rules : Rules) (past : List Event) (asked : Request) (o : Option ℕ) → OnlyByCommit asked (step_for rules past asked o)
 step_for-credits rules past asked None = inr tt

@@ -137,6 +137,7 @@ pub record WasFuture (s : Standing) (at : ℕ) (j : Job) : Type 0 where
   pub job : Job
   pub of_future : In job s.future
   pub number : j.number ≡ job.number
+  pub source : j.source ≡ job.source
   pub since : j.live_at ≡ at
 
 pub made-future : (s : Standing) (at id : ℕ) (j : Job) → In j (made_live at (future_in s.future id) ++ []) → WasFuture s at j
@@ -147,6 +148,7 @@ made-future s at id j i = by_job (future_in s.future id) refl i where
     job = f;
     of_future = find-in (λ job. has_template id job.source) s.future f is;
     number = ap (λ x. x.number) e;
+    source = ap (λ x. x.source) e;
     since = ap (λ x. x.live_at) e;
   }
   by_job (Some f) is (inr i) = elim i [ ]

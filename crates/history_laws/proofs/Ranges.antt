@@ -46,6 +46,28 @@ least-range rules h = leb-true rules.least_class 60 (
     (nat_le (length rules.users) 1000) (list_all is_user rules.users) (are_distinct rules.users) h
     )
 
+-- the first two of eleven
+first-two-of : (a b c d e f g h i j k : Bool) → a && b && c && d && e && f && g && h && i && j && k ≡ true → (a ≡ true) × (b ≡ true)
+first-two-of a b c d e f g h i j k all =
+    and_parts a b
+    (and-front (a && b) c
+    (and-front (a && b && c) d
+    (and-front (a && b && c && d) e
+    (and-front (a && b && c && d && e) f
+    (and-front (a && b && c && d && e && f) g
+    (and-front (a && b && c && d && e && f && g) h
+    (and-front (a && b && c && d && e && f && g && h) i
+    (and-front (a && b && c && d && e && f && g && h && i) j
+    (and-front (a && b && c && d && e && f && g && h && i && j) k all)))))))))
+
+pub script-range : (rules : Rules) → are_in_range rules ≡ true → (1 ≤ length rules.pool_script) × (length rules.pool_script ≤ 100)
+script-range rules h =
+    let both : (nat_le 1 (length rules.pool_script) ≡ true) × (nat_le (length rules.pool_script) 100 ≡ true) =
+    first-two-of (nat_le 1 (length rules.pool_script)) (nat_le (length rules.pool_script) 100) (nat_le rules.least_class 60) (nat_le rules.fee 10000)
+    (is_window rules.window) (nat_le rules.ntime_window 86400) (nat_le 1 rules.credit_limit) (nat_le rules.credit_limit 16777215)
+    (nat_le (length rules.users) 1000) (list_all is_user rules.users) (are_distinct rules.users) h in
+    (leb-true 1 (length rules.pool_script) both.0, leb-true (length rules.pool_script) 100 both.1)
+
 -- the class of a target that isn't over 60 is one that a channel may have
 pub class-fits : (rules : Rules) (target : List ℕ) → rules.least_class ≤ 60 → class_of_target target ≤ 60 → is_class rules (class_for rules target) ≡ true
 class-fits rules target least few = fits rules.least_class (class_of_target target) least few where

@@ -25,7 +25,7 @@ of_id id = record { id = id; session = 0; kind = kind.Extended; account = 0x61 �
 pub no_disjoint-without_legality : DisjointWithoutLegality → ⊥
 no_disjoint-without_legality law =
     let in-space : InSpace kind.Extended (replicate 4 0) (replicate 12 0) = record { whole = refl; rest = replicate 8 0; begins = refl } in
-    law (start ∷ enters ∷ opens ∷ opens ∷ []) 1 2 (of_id 1) (of_id 2) refl refl (λ same. omega arith) (replicate 12 0) in-space in-space
+    (law (start ∷ enters ∷ opens ∷ opens ∷ [])).by_id 1 2 (of_id 1) (of_id 2) refl refl (λ same. omega arith) (replicate 12 0) in-space in-space
 
 -- a lead that isn't the lowest: the first opening has to get 00, and gets 01
 abbrev pub opens_higher : Event

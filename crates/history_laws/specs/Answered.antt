@@ -1,10 +1,11 @@
 -- Answers keep a history legal, and credit a share exactly where no condition fails (this project's own).
-use Rattle.std.specs.Prelude.{IsTrue, ◌≡◌, ◌↔◌, ℕ, None, Some, Ok, Err, List, [], ◌∷◌, ◌++◌}
+use Rattle.std.specs.Prelude.{IsTrue, ◌≡◌, ◌↔◌, ℕ, None, Some, Ok, List, [], ◌∷◌, ◌++◌, Bool, true, false, Option}
 use Rattle.pool_history.specs.declared.asking.Request.{Request}
 use Rattle.pool_history.specs.declared.asking.Request.TheVariants as request
 use Rattle.pool_history.specs.declared.events.Event.{Event}
 use Rattle.pool_history.specs.declared.events.Event.TheVariants as event
 use Rattle.pool_history.specs.declared.refusals.Failed.{Failed}
+use Rattle.pool_history.specs.declared.refusals.Failed.TheVariants as failed
 use Rattle.pool_history.specs.declared.replies.Reply.{Reply}
 use Rattle.pool_history.specs.declared.replies.Reply.TheVariants as reply
 use Rattle.pool_history.specs.declared.settings.Rules.{Rules}
@@ -42,8 +43,8 @@ pub record IsJudged (history : List Event) (worker : ℕ) (may : MaySubmit histo
   pub credited : (events ≡ credit_of may.session share ∷ []) ↔ (first_failed may.rules (past_of history) may.session share ≡ None)
   pub work : (with : Admitted) → admitted may.rules (past_of history) may.session share ≡ Ok with
       → first_failed may.rules (past_of history) may.session share ≡ None → answer ≡ reply.Credited (work_of with)
-  pub refused : (failed : Failed) → first_failed may.rules (past_of history) may.session share ≡ Some failed
-      → (events ≡ []) × (answer ≡ reply.Refused failed)
+  pub refused : (code : Failed) → first_failed may.rules (past_of history) may.session share ≡ Some code
+      → (events ≡ []) × (answer ≡ reply.Refused code)
 
 -- so a Commit is answered
 abbrev pub SharesAreJudged : Type 0
@@ -51,14 +52,32 @@ SharesAreJudged =
     (history : List Event) (worker : ℕ) (may : MaySubmit history worker) (checked : Checked) (events : List Event) (answer : Reply)
     → Answer history worker (request.Commit checked) events answer → IsJudged history worker may (share_of checked.sub) events answer
 
+-- one of the first six conditions
+abbrev pub is_early : Failed → Bool
+is_early failed.Channel = true
+is_early failed.ExtranonceSize = true
+is_early failed.Job = true
+is_early failed.Stale = true
+is_early failed.Version = true
+is_early failed.Ntime = true
+is_early failed.Difficulty = false
+is_early failed.Duplicate = false
+is_early failed.Full = false
+
+-- the first condition that fails is one of those
+abbrev pub fails_early : Option Failed → Bool
+fails_early None = false
+fails_early (Some code) = is_early code
+
 -- a share whose header is still to be computed makes no event; it is refused by the first condition that fails where
 -- that is one of the first six, and else told what its header is made of
 pub record IsBriefed (history : List Event) (worker : ℕ) (may : MaySubmit history worker) (share : Share) (events : List Event) (answer : Reply) : Type 0 where
   pub none : events ≡ []
-  pub refused : (failed : Failed) → admitted may.rules (past_of history) may.session share ≡ Err failed
-      → (answer ≡ reply.Refused failed) × (first_failed may.rules (past_of history) may.session share ≡ Some failed)
-  pub told : (with : Admitted) → admitted may.rules (past_of history) may.session share ≡ Ok with
-      → answer ≡ reply.Brief (briefing_of may.rules.pool_script with.channel with.job.source with.tip)
+  pub refused : (code : Failed) → first_failed may.rules (past_of history) may.session share ≡ Some code → IsTrue (is_early code)
+      → answer ≡ reply.Refused code
+  pub told : fails_early (first_failed may.rules (past_of history) may.session share) ≡ false
+      → (with : Admitted) × (admitted may.rules (past_of history) may.session share ≡ Ok with)
+      × (answer ≡ reply.Brief (briefing_of may.rules.pool_script with.channel with.job.source with.tip))
 
 -- so a Brief is answered
 abbrev pub SharesAreBriefed : Type 0

@@ -1,5 +1,6 @@
 -- The spaces of extranonces are disjoint (Stratum V2, "Extranonces"; which lead a channel gets is this project's own).
-use Rattle.std.specs.Prelude.{◌≡◌, ℕ, Some, List, ◌++◌, length}
+use Rattle.std.specs.Prelude.{◌≡◌, ℕ, Some, List, [], ◌∷◌, ◌++◌, length}
+use Rattle.std.specs.List.{AllByRecursion}
 use Rattle.pool_base.specs.Lists.{Begins}
 use Rattle.pool_history.specs.declared.events.Event.{Event}
 use Rattle.pool_history.specs.Channels.{OpenChannel, channel_in, channels_of}
@@ -11,10 +12,16 @@ use Rattle.pool_history.specs.Spaces.{InSpace}
 abbrev pub AreDisjoint : OpenChannel → OpenChannel → Type 0
 AreDisjoint a b = (extranonce : List ℕ) → InSpace a.kind a.lead extranonce → InSpace b.kind b.lead extranonce → ⊥
 
--- the spaces of two different open channels of these are disjoint
-abbrev pub SpacesAreApart : List OpenChannel → Type 0
-SpacesAreApart channels =
-    (i j : ℕ) (a b : OpenChannel) → channel_in channels i ≡ Some a → channel_in channels j ≡ Some b → ¬ (i ≡ j) → AreDisjoint a b
+-- each channel's space is disjoint from those of all later ones
+abbrev pub AreApart : List OpenChannel → Type 0
+AreApart [] = Unit {0}
+AreApart (channel ∷ later) = AllByRecursion (AreDisjoint channel) later × AreApart later
+
+-- the spaces of two different open channels of these are disjoint, whether they are told apart by their places or by
+-- their ids
+pub record SpacesAreApart (channels : List OpenChannel) : Type 0 where
+  pub by_place : AreApart channels
+  pub by_id : (i j : ℕ) (a b : OpenChannel) → channel_in channels i ≡ Some a → channel_in channels j ≡ Some b → ¬ (i ≡ j) → AreDisjoint a b
 
 -- so they are after each event of a legal history
 abbrev pub SpacesAreDisjoint : Type 0

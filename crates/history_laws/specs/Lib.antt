@@ -1,7 +1,9 @@
 pub mod Answered
 pub mod Apart
 pub mod Credited
+pub mod Fitting
 pub mod Legality
 pub mod OneMore
 pub mod Places
+pub mod Serving
 pub mod Staying

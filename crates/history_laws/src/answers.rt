@@ -1,6 +1,7 @@
 //! What answers do to a legal history.
 
 ghost use Rattle.history_laws.specs.Answered.{AnswersKeepLegality, CreditsAreCommitted, SharesAreBriefed, SharesAreJudged};
+ghost use Rattle.history_laws.specs.Fitting.{AnswersFit};
 
 /// The events of an answer keep a legal history legal.
 pub fn answers_keep_legality()
@@ -22,4 +23,10 @@ pub fn shares_are_briefed()
 /// Only a share that is to be booked makes a Credit.
 pub fn credits_are_committed()
     ensures { CreditsAreCommitted }
+{}
+
+/// The answer to any request on a legal history can be told: classes, leads, sessions and scripts are in the ranges
+/// that their types keep, and each note of the news fits its message.
+pub fn answers_fit()
+    ensures { AnswersFit }
 {}

@@ -8,11 +8,13 @@ mod credited;
 mod legality;
 mod one_more;
 mod places;
+mod serving;
 mod spaces;
 mod staying;
 
 pub use answers::{
-    answers_keep_legality, credits_are_committed, shares_are_briefed, shares_are_judged,
+    answers_fit, answers_keep_legality, credits_are_committed, shares_are_briefed,
+    shares_are_judged,
 };
 pub use credited::{credits_are_booked, no_share_twice};
 pub use legality::{
@@ -26,5 +28,6 @@ pub use one_more::{
 pub use places::{
     channels_by_places, entrances_by_places, present_by_places, present_is_some_workers,
 };
+pub use serving::{calls_are_judged, calls_keep_legality};
 pub use spaces::{are_apart, spaces_are_disjoint};
 pub use staying::{channels_are_numbered, channels_stay, classes_stay, credits_stay, jobs_stay};

@@ -8,7 +8,7 @@ use Rattle.pool_history.specs.declared.events.Role.TheVariants as role
 use Rattle.pool_history.specs.declared.replies.Reply.TheVariants as reply
 use Rattle.pool_history.specs.Calls.{Call, Replied, Faulted, GoodCalls, PartsFrom}
 use Rattle.pool_history.specs.Spaces.{first_free}
-use Rattle.pool_history.proofs.Given.{start, enters, opens}
+use Rattle.pool_history.proofs.Given.{extended_rolls, start, enters, opens}
 
 -- the history that the calls made
 abbrev pub made : List Event
@@ -32,7 +32,7 @@ opening = record {
   front = 2;
   faults_before = 1;
   faults_after = 1;
-  asked = request.Open (record { kind = kind.Extended; identity = 0x61 ∷ []; max_target = replicate 32 0xff; min_size = 8 });
+  asked = request.Open (record { kind = kind.Extended; identity = 0x61 ∷ []; max_target = replicate 32 0xff; min_size = 8; standard_rolls_none = extended_rolls 8 });
   outcome = Replied (reply.Opened (record { channel = 1; class = 0; lead = replicate 4 0 }));
 }
 

@@ -1,5 +1,5 @@
 -- What the worked examples are made of: the rules, templates, tips and events of one session.
-use Rattle.std.proofs.Common.{ℕ, Bool, true, false, None, List, [], ◌∷◌, lit≤}
+use Rattle.std.proofs.Common.{◌≡◌, ℕ, Bool, true, false, None, List, [], ◌∷◌, lit≤}
 use Rattle.std.specs.Prelude.{replicate}
 use Rattle.pool_history.specs.declared.events.Event.{Event}
 use Rattle.pool_history.specs.declared.events.Event.TheVariants as event
@@ -92,3 +92,7 @@ share = record {
   version = 0x20000000;
   extranonce = replicate 8 0;
 }
+
+-- an extended channel may roll any number of bytes
+pub extended_rolls : (size : ℕ) → kind.Extended ≡ kind.Standard → size ≡ 0
+extended_rolls size e = cc

@@ -20,7 +20,7 @@ use Rattle.pool_history.specs.Jobs.{Job, jobs_of, live_job, state_of}
 use Rattle.pool_history.specs.Judging.{Admitted, admitted}
 use Rattle.pool_history.specs.Refusing.{class_of_target, lead_for, open_refusal, template_refusal}
 use Rattle.pool_history.specs.Spaces.{first_free, lowest}
-use Rattle.pool_history.proofs.Given.{credits, tips, rules, template_of, tip_of, opened, templated, tipped, share}
+use Rattle.pool_history.proofs.Given.{extended_rolls, credits, tips, rules, template_of, tip_of, opened, templated, tipped, share}
 
 -- the strings of one byte below a number, the last first
 abbrev pub bytes_below : ℕ → List (List ℕ)
@@ -55,7 +55,7 @@ lowest-given_back = refl
 
 -- an opening that asks for so many bytes, under the easiest target
 abbrev pub asks : ℕ → OpenAsk
-asks size = record { kind = kind.Extended; identity = 0x61 ∷ []; max_target = replicate 32 0xff; min_size = size }
+asks size = record { kind = kind.Extended; identity = 0x61 ∷ []; max_target = replicate 32 0xff; min_size = size; standard_rolls_none = extended_rolls size }
 
 -- a size of 11 leaves one byte to the lead, and 12 is too large
 pub lead_of_size_11 : lead_for opened (asks 11) ≡ Some (1 ∷ [])

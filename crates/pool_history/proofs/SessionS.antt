@@ -16,7 +16,7 @@ use Rattle.pool_history.specs.Ledger.{ledger_text_1, record_of}
 use Rattle.pool_history.specs.Legal.{cause_of}
 use Rattle.pool_history.specs.News.{news}
 use Rattle.pool_history.specs.Spaces.{first_free}
-use Rattle.pool_history.proofs.Given.{template_of, tip_of, start, enters, opens, comes, tips, credits, leaves, session, opened, templated, tipped}
+use Rattle.pool_history.proofs.Given.{extended_rolls, template_of, tip_of, start, enters, opens, comes, tips, credits, leaves, session, opened, templated, tipped}
 
 pub record_of-start : record_of start ≡ (0x00 ∷ 0x19 ∷ 0x00 ∷ 0x00 ∷ 0x01 ∷ 0x51 ∷ 0x00 ∷ 0x64 ∷ []) ++ replicate 10 0x00 ++ (0x58 ∷ 0x02 ∷ 0x00 ∷ 0x00 ∷ 0x03 ∷ 0x00 ∷ 0x00 ∷ 0x00 ∷ 0x01 ∷ 0x00 ∷ 0x00 ∷ [])
 record_of-start = refl
@@ -65,7 +65,7 @@ coinbase_suffix_length = refl
 pub step-enter : step (start ∷ []) 0 (request.Enter role.Solo 0) ≡ kept enters (reply.Entered 0)
 step-enter = refl
 
-pub step-open : step (enters ∷ start ∷ []) 0 (request.Open (record { kind = kind.Extended; identity = 0x61 ∷ []; max_target = replicate 32 0xff; min_size = 8 })) ≡ kept opens (reply.Opened (record { channel = 1; class = 0; lead = replicate 4 0 }))
+pub step-open : step (enters ∷ start ∷ []) 0 (request.Open (record { kind = kind.Extended; identity = 0x61 ∷ []; max_target = replicate 32 0xff; min_size = 8; standard_rolls_none = extended_rolls 8 })) ≡ kept opens (reply.Opened (record { channel = 1; class = 0; lead = replicate 4 0 }))
 unfolding first_class first_free
 step-open = refl
 

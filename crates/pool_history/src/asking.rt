@@ -1,5 +1,8 @@
 //! What a session may ask for.
 
+ghost use Rattle.std.specs.Prelude.{◌≡◌};
+ghost use Rattle.pool_history.specs.declared.events.Kind.TheVariants.{Standard};
+
 use crate::events::{Kind, Role};
 use crate::shares::{Checked, Submission};
 use crate::templates::{CustomData, TemplateData, TipData};
@@ -14,6 +17,7 @@ pub struct OpenAsk {
     pub max_target: U256,
     /// How many bytes the miner wants to roll, 0 for a standard channel.
     pub min_size: u16,
+    ghost standard_rolls_none: { kind ≡ Standard → min_size ≡ 0 },
 }
 
 /// One request of a worker.

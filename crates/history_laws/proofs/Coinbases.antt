@@ -1,0 +1,98 @@
+-- The coinbases of templates that aren't refused are short enough for their messages.
+use Rattle.std.proofs.Common.{◌≡◌, ℕ, ◌+◌, ◌-◌, ◌<◌, ◌≤◌, ◌^◌, Bool, true, false, cond, Result, Ok, Err, List, [], ◌∷◌, ◌++◌, length, take, drop, refl, ap, sym, ◌∙◌, arith, length-append}
+use Rattle.std.proofs.lemmas.Bool.{ltb-false}
+use Rattle.std.proofs.lemmas.List.{take-append-drop}
+use Rattle.std.specs.Prelude.{nat_lt, replicate}
+use Rattle.coinbase.specs.Coin.{Terms, assembled, outputs_said, parts_of, with_reward, within_length}
+use Rattle.coinbase.specs.Parts.{Parts, marked, reserved_value, whole, whole_len, witnessed}
+use Rattle.coinbase.specs.declared.error.AssemblyError.TheVariants.{RewardTooLarge, ScriptTooLong, TooLong}
+use Rattle.coinbase.specs.Steps.{◌>>=◌}
+
+-- how long a list of three parts is
+pub length-three : (a b c : List ℕ) → length (a ++ b ++ c) ≡ length a + length b + length c
+length-three a b c = length-append (a ++ b) c ∙ ap (λ n. n + length c) (length-append a b)
+
+-- the marked prefix and the witnessed suffix are longer
+pub length-cut : (n : ℕ) (xs : List ℕ) → length (take n xs) + length (drop n xs) ≡ length xs
+length-cut n xs = sym (length-append (take n xs) (drop n xs)) ∙ ap length (take-append-drop n xs)
+
+pub length-marked : (prefix : List ℕ) → length prefix ≤ length (marked prefix)
+length-marked prefix =
+    let three : length (marked prefix) ≡ length (take 4 prefix) + 2 + length (drop 4 prefix) = length-three (take 4 prefix) (0 ∷ 1 ∷ []) (drop 4 prefix) in
+    let cut : length (take 4 prefix) + length (drop 4 prefix) ≡ length prefix = length-cut 4 prefix in
+    omega (arith, three, cut)
+
+pub length-witnessed : (suffix : List ℕ) → length suffix ≤ length (witnessed suffix)
+length-witnessed suffix =
+    let at : ℕ = length suffix - 4 in
+    let three : length (witnessed suffix) ≡ length (take at suffix) + length reserved_value + length (drop at suffix) =
+    length-three (take at suffix) reserved_value (drop at suffix) in
+    let cut : length (take at suffix) + length (drop at suffix) ≡ length suffix = length-cut at suffix in
+    longer (length (witnessed suffix)) (length (take at suffix)) (length reserved_value) (length (drop at suffix)) (length suffix) three cut where
+      longer : (w a r d s : ℕ) → w ≡ a + r + d → a + d ≡ s → s ≤ w
+      longer w a r d s p q = omega arith
+
+-- the parts of a coinbase that isn't too long
+pub record PartsFit (parts : Parts) : Type 0 where
+  pub prefix : length parts.prefix < 2 ^ 16
+  pub suffix : length parts.suffix < 2 ^ 16
+  pub whole_fits : (extranonce : List ℕ) → length extranonce ≡ 12 → length (whole parts extranonce) < 2 ^ 16
+
+-- the whole form goes by the length of the extranonce alone
+pub whole-alike : (witness : Bool) (prefix suffix a b : List ℕ) → length a ≡ length b
+    → length (whole (record { prefix = prefix; suffix = suffix; witness = witness }) a) ≡ length (whole (record { prefix = prefix; suffix = suffix; witness = witness }) b)
+whole-alike true prefix suffix a b same =
+    length-three (marked prefix) a (witnessed suffix) ∙ ap (λ n. length (marked prefix) + n + length (witnessed suffix)) same
+    ∙ sym (length-three (marked prefix) b (witnessed suffix))
+whole-alike false prefix suffix a b same =
+    length-three prefix a suffix ∙ ap (λ n. length prefix + n + length suffix) same ∙ sym (length-three prefix b suffix)
+
+-- and is no shorter than the two parts
+pub whole-longer : (witness : Bool) (prefix suffix e : List ℕ) → length prefix + length suffix ≤ length (whole (record { prefix = prefix; suffix = suffix; witness = witness }) e)
+whole-longer true prefix suffix e =
+    let three : length (marked prefix ++ e ++ witnessed suffix) ≡ length (marked prefix) + length e + length (witnessed suffix) =
+    length-three (marked prefix) e (witnessed suffix) in
+    let p : length prefix ≤ length (marked prefix) = length-marked prefix in
+    let q : length suffix ≤ length (witnessed suffix) = length-witnessed suffix in
+    omega (arith, three, p, q)
+whole-longer false prefix suffix e =
+    let three : length (prefix ++ e ++ suffix) ≡ length prefix + length e + length suffix = length-three prefix e suffix in
+    omega (arith, three)
+
+pub parts-fit : (parts : Parts) → whole_len parts ≤ 65535 → PartsFit parts
+parts-fit parts few =
+    let zeros : List ℕ = replicate 12 0 in
+    let longer : length parts.prefix + length parts.suffix ≤ whole_len parts = whole-longer parts.witness parts.prefix parts.suffix zeros in
+    record {
+      prefix = omega (arith, longer, few);
+      suffix = omega (arith, longer, few);
+      whole_fits = λ e twelve.
+          let same : length (whole parts e) ≡ whole_len parts = whole-alike parts.witness parts.prefix parts.suffix e zeros twelve in
+          omega (arith, same, few);
+    }
+
+-- what assembling says where it doesn't refuse
+pub err-ok : {X E : Type 0} {e : E} {x : X} → ◌≡◌ {A = Result X E} (Err e) (Ok x) → ⊥
+err-ok h = cc
+
+pub second-ok : {X Y E : Type 0} (r : Result X E) (f : X → Result Y E) (y : Y) → (r >>= f) ≡ Ok y → (x : X) × (f x ≡ Ok y)
+second-ok (Ok x) f y h = (x, h)
+second-ok (Err e) f y h = absurd (err-ok h)
+
+pub not_refused : {X E : Type 0} (b : Bool) (e : E) (r : Result X E) (x : X) → cond b (Err e) r ≡ Ok x → (b ≡ false) × (r ≡ Ok x)
+not_refused true e r x h = absurd (err-ok h)
+not_refused false e r x h = (refl, h)
+
+pub kept_ok : {X E : Type 0} (b : Bool) (e : E) (r : Result X E) (x : X) → cond b r (Err e) ≡ Ok x → r ≡ Ok x
+kept_ok true e r x h = h
+kept_ok false e r x h = absurd (err-ok h)
+
+pub assembled-fits : (terms : Terms) (script : List ℕ) (parts : Parts) → assembled terms script ≡ Ok parts → PartsFit (parts_of terms script)
+assembled-fits terms script parts h =
+    let a : (nat_lt 88 (length terms.prefix) ≡ false) × ((outputs_said terms >>= λ outputs. with_reward terms script) ≡ Ok parts) =
+    not_refused (nat_lt 88 (length terms.prefix)) (ScriptTooLong (length terms.prefix)) (outputs_said terms >>= λ outputs. with_reward terms script) parts h in
+    let b = second-ok (outputs_said terms) (λ outputs. with_reward terms script) parts a.1 in
+    let c : within_length (parts_of terms script) ≡ Ok parts =
+    kept_ok (nat_lt terms.reward (2 ^ 40)) (RewardTooLarge terms.reward) (within_length (parts_of terms script)) parts b.1 in
+    let d = not_refused (nat_lt 65535 (whole_len (parts_of terms script))) (TooLong (whole_len (parts_of terms script))) (Ok (parts_of terms script)) parts c in
+    parts-fit (parts_of terms script) (ltb-false 65535 (whole_len (parts_of terms script)) d.0)

@@ -1,0 +1,132 @@
+-- What a legal history owes to its sessions can be told.
+use Rattle.std.proofs.Common.{◌⊎◌, inl, inr, ◌≡◌, ℕ, ◌+◌, Bool, true, false, cond, ◌&&◌, not, Option, None, Some, Result, Ok, Err, List, [], ◌∷◌, ◌++◌, length, refl, subst, sym, ◌∙◌}
+use Rattle.std.specs.Prelude.{is_none, nat_le}
+use Rattle.pool_history.specs.declared.causes.Cause.{Cause}
+use Rattle.pool_history.specs.declared.causes.Cause.TheVariants as cause
+use Rattle.pool_history.specs.declared.events.Event.{Event}
+use Rattle.pool_history.specs.declared.events.Event.TheVariants as event
+use Rattle.pool_history.specs.declared.refusals.JobError.{JobError}
+use Rattle.pool_history.specs.declared.refusals.JobError.TheVariants as job_error
+use Rattle.pool_history.specs.declared.settings.Rules.{Rules}
+use Rattle.pool_history.specs.declared.templates.TemplateData.{TemplateData}
+use Rattle.pool_history.specs.declared.templates.TipData.{TipData}
+use Rattle.coinbase.specs.Coin.{assembled, parts_of}
+use Rattle.coinbase.specs.Parts.{Parts}
+use Rattle.coinbase.specs.declared.error.AssemblyError.{AssemblyError}
+use Rattle.pool_history.specs.Jobs.{FromMiner, FromTemplate, Job, Source, Standing, future_in, jobs_of, made_live, with_custom, with_template, with_tip}
+use Rattle.pool_history.specs.Judging.{template_terms}
+use Rattle.pool_history.specs.Legal.{LegalPast, cause_of, feeding, refused_as}
+use Rattle.pool_history.specs.Refusing.{coinbase_refusal, is_template_known, most_templates, template_refusal}
+use Rattle.pool_history.specs.Sessions.{rules_of, templates}
+use Rattle.history_laws.proofs.Causes.{IsUncaused, uncaused, within-next}
+use Rattle.history_laws.proofs.Coinbases.{PartsFit, assembled-fits}
+use Rattle.history_laws.proofs.Entrances.{none-some, some-same}
+use Rattle.history_laws.proofs.Legalities.{rules-older, some-none}
+use Rattle.history_laws.proofs.Living.{In, WasFuture, in-end, in-last, in-left, in-sixteen, made-future}
+
+-- a template's coinbase is short enough
+abbrev pub TemplateFits : List ℕ → Source → Type 0
+TemplateFits script (FromTemplate template) = PartsFit (parts_of (template_terms template) script)
+TemplateFits script (FromMiner custom) = ⊥
+
+-- a miner's own
+abbrev pub IsMiners : Source → Type 0
+IsMiners (FromTemplate template) = ⊥
+IsMiners (FromMiner custom) = Unit {0}
+
+-- so are those of all jobs that are future or live
+pub record JobsFit (script : List ℕ) (s : Standing) : Type 0 where
+  pub future : (j : Job) → In j s.future → TemplateFits script j.source
+  pub live : (j : Job) → In j s.live → TemplateFits script j.source
+  pub custom : (j : Job) → In j s.custom → IsMiners j.source
+
+-- what an accepted template says
+pub dropped-both : {X : Type 0} (b : Bool) (x : X) (r : Option X) → cond b (Some x) r ≡ None → r ≡ None
+dropped-both true x r n = absurd (some-none n)
+dropped-both false x r n = n
+
+pub coinbase-ok : (r : Result Parts AssemblyError) → coinbase_refusal r ≡ None → (parts : Parts) × (r ≡ Ok parts)
+coinbase-ok (Ok parts) n = (parts, refl)
+coinbase-ok (Err e) n = absurd (some-none n)
+
+pub accepted-fits : (script : List ℕ) (past : List Event) (template : TemplateData) → template_refusal script past template ≡ None
+    → TemplateFits script (FromTemplate template)
+accepted-fits script past template n =
+    let last : Option JobError = coinbase_refusal (assembled (template_terms template) script) in
+    let third : Option JobError = cond (not template.future_template && is_none (jobs_of past).tip) (Some job_error.NoTip) last in
+    let second : Option JobError =
+    cond (is_template_known (jobs_of past) template.template_id) (Some (job_error.TemplateKnown template.template_id)) third in
+    let a : second ≡ None = dropped-both (nat_le most_templates (templates past)) (job_error.TooMany (templates past)) second n in
+    let b : third ≡ None =
+    dropped-both (is_template_known (jobs_of past) template.template_id) (job_error.TemplateKnown template.template_id) third a in
+    let c : last ≡ None = dropped-both (not template.future_template && is_none (jobs_of past).tip) job_error.NoTip last b in
+    let p : (parts : Parts) × (assembled (template_terms template) script ≡ Ok parts) = coinbase-ok (assembled (template_terms template) script) c in
+    assembled-fits (template_terms template) script p.0 p.1
+
+pub refused-none : {X : Type 0} (code : Cause) (o : Option X) → refused_as code o ≡ None → o ≡ None
+refused-none code None n = refl
+refused-none code (Some x) n = absurd (some-none n)
+
+pub legal-template : (past : List Event) (rules : Rules) (session : ℕ) (template : TemplateData) → rules_of past ≡ Some rules
+    → cause_of past (event.Template session template) ≡ None → TemplateFits rules.pool_script (FromTemplate template)
+legal-template past rules session template are n =
+    let u : IsUncaused past (event.Template session template) = uncaused past (event.Template session template) refl n in
+    let same : u.rules ≡ rules = some-same (sym u.are_rules ∙ are) in
+    let none : template_refusal u.rules.pool_script past template ≡ None =
+    refused-none cause.BadTemplate (template_refusal u.rules.pool_script past template)
+    (within-next feeding past session (refused_as cause.BadTemplate (template_refusal u.rules.pool_script past template)) u.none) in
+    accepted-fits rules.pool_script past template (subst (λ r. template_refusal r.pool_script past template ≡ None) same none)
+
+-- one more job
+pub fits-template : (script : List ℕ) (s : Standing) (job : Job) (future : Bool) → TemplateFits script job.source → JobsFit script s
+    → JobsFit script (with_template job future s)
+fits-template script s job true h f = record {
+  future = λ j i. of_end j (in-end j s.future job (in-last j 16 (s.future ++ job ∷ []) i));
+  live = f.live;
+  custom = f.custom;
+} where
+  of_end : (j : Job) → In j s.future ⊎ (j ≡ job) → TemplateFits script j.source
+  of_end j (inl i) = f.future j i
+  of_end j (inr e) = subst (λ x. TemplateFits script x.source) (sym e) h
+fits-template script s job false h f = record {
+  future = f.future;
+  live = λ j i. of_end j (in-end j s.live job (in-last j 64 (s.live ++ job ∷ []) i));
+  custom = f.custom;
+} where
+  of_end : (j : Job) → In j s.live ⊎ (j ≡ job) → TemplateFits script j.source
+  of_end j (inl i) = f.live j i
+  of_end j (inr e) = subst (λ x. TemplateFits script x.source) (sym e) h
+
+pub fits-tip : (script : List ℕ) (s : Standing) (tip : TipData) (at : ℕ) → JobsFit script s → JobsFit script (with_tip at tip s)
+fits-tip script s tip at f = record {
+  future = λ j i. elim i [ ];
+  live = λ j i.
+      let w : WasFuture s at j = made-future s at tip.template_id j (in-left j (made_live at (future_in s.future tip.template_id)) [] i) in
+      subst (TemplateFits script) (sym w.source) (f.future w.job w.of_future);
+  custom = λ j i. elim i [ ];
+}
+
+pub fits-custom : (script : List ℕ) (s : Standing) (job : Job) (channel : ℕ) → IsMiners job.source → JobsFit script s → JobsFit script (with_custom job channel s)
+fits-custom script s job channel h f = record {
+  future = f.future;
+  live = f.live;
+  custom = λ j i. of_end j (in-end j s.custom job (in-sixteen j channel (s.custom ++ job ∷ []) i));
+} where
+  of_end : (j : Job) → In j s.custom ⊎ (j ≡ job) → IsMiners j.source
+  of_end j (inl i) = f.custom j i
+  of_end j (inr e) = subst (λ x. IsMiners x.source) (sym e) h
+
+pub jobs-fit : (past : List Event) (rules : Rules) → LegalPast past → rules_of past ≡ Some rules → JobsFit rules.pool_script (jobs_of past)
+jobs-fit [] rules l are = absurd (none-some are)
+jobs-fit (event.Start first ∷ []) rules l are = record { future = λ j i. elim i [ ]; live = λ j i. elim i [ ]; custom = λ j i. elim i [ ] }
+jobs-fit (event.Start first ∷ x ∷ older) rules l are = jobs-fit (x ∷ older) rules l.0 (sym (rules-older (event.Start first) x older) ∙ are)
+jobs-fit (event.Template session template ∷ older) rules l are =
+    let s : Standing = jobs_of older in
+    fits-template rules.pool_script s (record { number = length s.all + 1; session = session; live_at = length older; source = FromTemplate template })
+    template.future_template (legal-template older rules session template are l.1) (jobs-fit older rules l.0 are)
+jobs-fit (event.Tip session tip ∷ older) rules l are = fits-tip rules.pool_script (jobs_of older) tip (length older) (jobs-fit older rules l.0 are)
+jobs-fit (event.Custom session custom ∷ older) rules l are =
+    let s : Standing = jobs_of older in
+    fits-custom rules.pool_script s (record { number = length s.all + 1; session = 0; live_at = length older; source = FromMiner custom }) custom.channel_id tt
+    (jobs-fit older rules l.0 are)
+jobs-fit (e ∷ older) rules l are = jobs-fit older rules l.0 are
