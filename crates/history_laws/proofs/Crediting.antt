@@ -68,6 +68,7 @@ pub record IsGood (rules : Rules) (past : List Event) (session : ℕ) (share : S
   pub is_admitted : admitted rules past session share ≡ Ok with
   pub meets_class : meets (dsha (rebuilt rules.pool_script with share)) (class_of_share with) ≡ true
   pub header_new : list_any (bytes_eq (rebuilt rules.pool_script with share)) (headers past) ≡ false
+  pub room : has_room rules past ≡ None
 
 pub good_by : (rules : Rules) (past : List Event) (session : ℕ) (share : Share) (r : Result Admitted Failed) → admitted rules past session share ≡ r
     → last_failed rules past share r ≡ None → IsGood rules past session share
@@ -78,7 +79,7 @@ good_by rules past session share (Ok with) is n =
     kept-both (meets (dsha header) (class_of_share with)) (is_new rules past header) failed.Difficulty n in
     let b : (list_any (bytes_eq header) (headers past) ≡ false) × (has_room rules past ≡ None) =
     dropped-both (list_any (bytes_eq header) (headers past)) failed.Duplicate (has_room rules past) a.1 in
-    record { with = with; is_admitted = is; meets_class = a.0; header_new = b.0 }
+    record { with = with; is_admitted = is; meets_class = a.0; header_new = b.0; room = b.1 }
 
 pub failed-none : (o : Option Failed) → failed_as o ≡ None → o ≡ None
 failed-none None n = refl

@@ -3,6 +3,7 @@ pub mod CallsServed
 pub mod Causes
 pub mod ChannelsFit
 pub mod Coinbases
+pub mod Counted
 pub mod Crediting
 pub mod Entrances
 pub mod Fronts

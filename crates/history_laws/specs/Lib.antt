@@ -3,6 +3,7 @@ pub mod Apart
 pub mod Credited
 pub mod Fitting
 pub mod Legality
+pub mod Limits
 pub mod OneMore
 pub mod Places
 pub mod Serving
