@@ -21,17 +21,18 @@ use Rattle.pool_history.specs.declared.refusals.Failed.TheVariants as failed
 use Rattle.pool_history.specs.declared.refusals.NameError.TheVariants as name
 use Rattle.pool_history.specs.declared.refusals.OpenError.{OpenError}
 use Rattle.pool_history.specs.declared.refusals.OpenError.TheVariants as open_error
+use Rattle.pool_history.specs.declared.refusals.UpdateError.TheVariants as update
 use Rattle.pool_history.specs.declared.replies.Reply.{Reply}
 use Rattle.pool_history.specs.declared.replies.Reply.TheVariants as reply
 use Rattle.pool_history.specs.declared.settings.Rules.{Rules}
 use Rattle.pool_history.specs.Accounts.{account_of, is_empty, is_known}
-use Rattle.pool_history.specs.Answering.{Answer, Step, account_for, classing, closing, committing, crediting, entering, kept, naming, opening, permits, step, step_as, step_by, step_for, step_in, step_under, told, unless_refused}
-use Rattle.pool_history.specs.Channels.{OpenChannel, class_of}
+use Rattle.pool_history.specs.Answering.{Step, account_for, classing, closing, committing, crediting, entering, kept, naming, opening, permits, step, step_as, step_by, step_for, step_in, step_under, told, unless_refused, briefing, granting, number_of}
+use Rattle.pool_history.specs.Channels.{OpenChannel, class_of, channel_in, channels_of}
 use Rattle.pool_history.specs.Crediting.{first_failed, last_failed}
-use Rattle.pool_history.specs.Judging.{Admitted, Share, admitted, share_of}
-use Rattle.pool_history.specs.Legal.{Legal, LegalPast, allowed_flags, are_acceptable, cause_by, cause_in, cause_of, custom_cause, failed_as, feeding, grant_cause, is_class, is_next_lead, is_opening_account, may_become, may_get, mining, provided, refused_as, selecting, within}
-use Rattle.pool_history.specs.Refusing.{class_for, class_of_target, custom_refusal, grant_refusal, has_other, has_too_many, held_leads, lead_for, lead_length, may_open, most_enters, name_refusal, open_refusal, own_channel, template_refusal, tip_refusal, update_refusal}
-use Rattle.pool_history.specs.Sessions.{Entrance, enters, entrance, past_of, present, rules_of}
+use Rattle.pool_history.specs.Judging.{provided as judged_provided, Admitted, Share, admitted, share_of, agree, found, has_account, is_standard, serves}
+use Rattle.pool_history.specs.Legal.{Legal, LegalPast, allowed_flags, are_acceptable, cause_by, cause_in, cause_of, custom_cause, failed_as, feeding, grant_cause, is_class, is_next_lead, is_opening_account, may_become, may_get, mining, provided, refused_as, selecting, within, any_role, is_just, is_lead_length, is_nameless, is_standard_in}
+use Rattle.pool_history.specs.Refusing.{class_for, class_of_target, custom_refusal, grant_refusal, has_other, has_too_many, held_leads, lead_for, lead_length, may_open, most_enters, name_refusal, open_refusal, own_channel, template_refusal, tip_refusal, update_refusal, open_count}
+use Rattle.pool_history.specs.Sessions.{Entrance, enters, entrance, past_of, present, rules_of, grants, opens}
 use Rattle.pool_history.specs.Spaces.{lowest}
 use Rattle.history_laws.specs.Answered.{AnswersKeepLegality}
 use Rattle.history_laws.proofs.Entrances.{none-some, within-holds}
@@ -39,6 +40,8 @@ use Rattle.history_laws.proofs.Holding.{bytes_eq-self, first_free-length}
 use Rattle.history_laws.proofs.Legalities.{one_more_legal, some-none}
 use Rattle.history_laws.proofs.Ranges.{class-fits, lead-fits, least-range, legal-rules}
 use Rattle.history_laws.proofs.Served.{IsServed, own-served}
+use Rattle.coinbase.specs.Steps.{◌>>=◌}
+use Rattle.pool_history.specs.Jobs.{future_of, jobs_of}
 
 -- an event, if there is one, has no cause by the rules
 abbrev pub NoCause : Rules → List Event → Option Event → Type 0
@@ -85,7 +88,7 @@ open-conditions rules past session ask n =
     let last : Option OpenError = cond (is_none (lead_for past ask)) (Some open_error.NoSpace) None in
     let fourth : Option OpenError =
     cond (has_too_many past session)
-    (Some (open_error.TooManyChannels (Rattle.pool_history.specs.Refusing.open_count past session) (Rattle.pool_history.specs.Sessions.opens past))) last in
+    (Some (open_error.TooManyChannels (open_count past session) (opens past))) last in
     let third : Option OpenError = cond (nat_lt 11 ask.min_size) (Some (open_error.SizeTooLarge ask.min_size)) fourth in
     let second : Option OpenError =
     cond (nat_lt 60 (class_of_target ask.max_target)) (Some (open_error.TargetOutOfRange (class_of_target ask.max_target))) third in
@@ -96,7 +99,7 @@ open-conditions rules past session ask n =
     let c : (nat_lt 11 ask.min_size ≡ false) × (fourth ≡ None) = peel (nat_lt 11 ask.min_size) (open_error.SizeTooLarge ask.min_size) fourth b.1 in
     let d : (has_too_many past session ≡ false) × (last ≡ None) =
     peel (has_too_many past session)
-    (open_error.TooManyChannels (Rattle.pool_history.specs.Refusing.open_count past session) (Rattle.pool_history.specs.Sessions.opens past)) last c.1 in
+    (open_error.TooManyChannels (open_count past session) (opens past)) last c.1 in
     record {
       account = not-false (may_open rules ask.kind (account_of ask.identity)) a.0;
       class = ltb-false 60 (class_of_target ask.max_target) b.0;
@@ -116,11 +119,11 @@ pub lead-next : (past : List Event) (ask : OpenAsk) (lead : List ℕ) → ask.mi
 lead-next past ask lead size found =
     let len : ℕ = lead_length ask.kind ask.min_size in
     let long : length lead ≡ len = first_free-length len (held_leads past) 0 (256 ^ len) lead found in
-    and_from (Rattle.pool_history.specs.Legal.is_lead_length ask.kind (length lead))
-    (Rattle.pool_history.specs.Legal.is_just lead (lowest (length lead) (held_leads past)))
-    (ap (Rattle.pool_history.specs.Legal.is_lead_length ask.kind) long ∙ lead-fits ask.kind ask.min_size size)
-    (ap (λ n. Rattle.pool_history.specs.Legal.is_just lead (lowest n (held_leads past))) long
-    ∙ ap (Rattle.pool_history.specs.Legal.is_just lead) found ∙ bytes_eq-self lead)
+    and_from (is_lead_length ask.kind (length lead))
+    (is_just lead (lowest (length lead) (held_leads past)))
+    (ap (is_lead_length ask.kind) long ∙ lead-fits ask.kind ask.min_size size)
+    (ap (λ n. is_just lead (lowest n (held_leads past))) long
+    ∙ ap (is_just lead) found ∙ bytes_eq-self lead)
 
 -- a channel is opened
 pub open-legal : (rules : Rules) (past : List Event) (worker session : ℕ) (entered : Entrance) (ask : OpenAsk) → Present rules past worker session entered
@@ -146,8 +149,8 @@ open-legal rules past worker session entered ask p may is (Some lead) found =
     ∙ provided-so (is_next_lead past ask.kind lead) cause.BadLead None (lead-next past ask lead is.size found)
 
 -- a channel gets its account
-pub nameless : (c : OpenChannel) → IsServed c → is_empty c.account ≡ true → Rattle.pool_history.specs.Legal.is_nameless c.kind c.account ≡ true
-nameless c s e = ap (λ k. Rattle.pool_history.specs.Legal.is_nameless k c.account) (s e) ∙ e
+pub nameless : (c : OpenChannel) → IsServed c → is_empty c.account ≡ true → is_nameless c.kind c.account ≡ true
+nameless c s e = ap (λ k. is_nameless k c.account) (s e) ∙ e
 
 pub name-legal : (rules : Rules) (past : List Event) (worker session : ℕ) (entered : Entrance) (id : ℕ) (account : List ℕ)
     → Present rules past worker session entered → mining entered ≡ true → (o : Option OpenChannel) → own_channel past session id ≡ o
@@ -161,8 +164,8 @@ name-legal rules past worker session entered id account p may (Some c) found n =
     (λ empty.
     permitted mining (provided (may_get rules account (own_channel past session id)) cause.BadName None) p may
     ∙ ap (λ o. provided (may_get rules account o) cause.BadName None) found
-    ∙ provided-so (Rattle.pool_history.specs.Legal.is_nameless c.kind c.account && is_known rules account) cause.BadName None
-    (and_from (Rattle.pool_history.specs.Legal.is_nameless c.kind c.account) (is_known rules account)
+    ∙ provided-so (is_nameless c.kind c.account && is_known rules account) cause.BadName None
+    (and_from (is_nameless c.kind c.account) (is_known rules account)
     (nameless c (own-served past session id c p.legal found) empty) known))
     (λ has. tt)
 
@@ -175,7 +178,7 @@ class-legal rules past worker session entered id target p may (Some c) found n =
     let class : ℕ = class_for rules target in
     let few : class_of_target target ≤ 60 =
     ltb-false 60 (class_of_target target)
-    (peel (nat_lt 60 (class_of_target target)) (Rattle.pool_history.specs.declared.refusals.UpdateError.TheVariants.TargetOutOfRange (class_of_target target)) None n).0 in
+    (peel (nat_lt 60 (class_of_target target)) (update.TargetOutOfRange (class_of_target target)) None n).0 in
     let least : rules.least_class ≤ 60 = least-range rules (legal-rules past rules p.legal p.are_rules) in
     cond_both (nat_eq class (class_of c)) (told (reply.Target id class)) (kept (event.Class session id class) (reply.Target id class))
     (λ s. NoCause rules past s.event)
@@ -196,27 +199,27 @@ close-legal rules past worker session entered id p may (Some c) found =
     ∙ ap (λ o. provided (is_some o) cause.NotOpen None) found
 
 -- a share is booked: it is standard exactly where its channel is
-pub channel-agrees : (a b : Bool) → Rattle.pool_history.specs.Judging.agree a b ≡ true → a ≡ b
+pub channel-agrees : (a b : Bool) → agree a b ≡ true → a ≡ b
 channel-agrees true true h = refl
 channel-agrees true false h = absurd (false≢true h)
 channel-agrees false true h = absurd (false≢true h)
 channel-agrees false false h = refl
 
 -- two steps of judging that went well
-pub first-ok : {X Y : Type 0} (r : Result X Failed) (f : X → Result Y Failed) (y : Y) → (Rattle.coinbase.specs.Steps.◌>>=◌ r f) ≡ Ok y
+pub first-ok : {X Y : Type 0} (r : Result X Failed) (f : X → Result Y Failed) (y : Y) → (r >>= f) ≡ Ok y
     → (x : X) × (r ≡ Ok x) × (f x ≡ Ok y)
 first-ok (Ok x) f y h = (x, refl, h)
 first-ok (Err e) f y h = absurd (err-ok h) where
   err-ok : {X : Type 0} {e : Failed} {y : X} → ◌≡◌ {A = Result X Failed} (Err e) (Ok y) → ⊥
   err-ok h = cc
 
-pub found-some : {X : Type 0} (code : Failed) (o : Option X) (x : X) → Rattle.pool_history.specs.Judging.found code o ≡ Ok x → o ≡ Some x
+pub found-some : {X : Type 0} (code : Failed) (o : Option X) (x : X) → found code o ≡ Ok x → o ≡ Some x
 found-some code None x h = absurd (err-ok h) where
   err-ok : {X : Type 0} {e : Failed} {y : X} → ◌≡◌ {A = Result X Failed} (Err e) (Ok y) → ⊥
   err-ok h = cc
 found-some code (Some y) x h = cc
 
-pub provided-ok : {X : Type 0} (b : Bool) (code : Failed) (x y : X) → Rattle.pool_history.specs.Judging.provided b code x ≡ Ok y → (b ≡ true) × (x ≡ y)
+pub provided-ok : {X : Type 0} (b : Bool) (code : Failed) (x y : X) → judged_provided b code x ≡ Ok y → (b ≡ true) × (x ≡ y)
 provided-ok true code x y h = (refl, cc)
 provided-ok false code x y h = absurd (err-ok h) where
   err-ok : {X : Type 0} {e : Failed} {y : X} → ◌≡◌ {A = Result X Failed} (Err e) (Ok y) → ⊥
@@ -225,35 +228,35 @@ provided-ok false code x y h = absurd (err-ok h) where
 -- the channel of an admitted share
 pub record HasChannel (past : List Event) (session : ℕ) (share : Share) : Type 0 where
   pub channel : OpenChannel
-  pub is_open : Rattle.pool_history.specs.Channels.channel_in (Rattle.pool_history.specs.Channels.channels_of past) share.channel ≡ Some channel
-  pub serves : Rattle.pool_history.specs.Judging.serves session share channel ≡ true
+  pub is_open : channel_in (channels_of past) share.channel ≡ Some channel
+  pub serves : serves session share channel ≡ true
 
 pub admitted-channel : (rules : Rules) (past : List Event) (session : ℕ) (share : Share) (with : Admitted) → admitted rules past session share ≡ Ok with
     → HasChannel past session share
 admitted-channel rules past session share with h =
-    let o : Option OpenChannel = Rattle.pool_history.specs.Channels.channel_in (Rattle.pool_history.specs.Channels.channels_of past) share.channel in
-    let a = first-ok (Rattle.pool_history.specs.Judging.found failed.Channel o) _ with h in
-    let b = first-ok (Rattle.pool_history.specs.Judging.provided (Rattle.pool_history.specs.Judging.serves session share a.0) failed.Channel a.0) _ with a.2 in
+    let o : Option OpenChannel = channel_in (channels_of past) share.channel in
+    let a = first-ok (found failed.Channel o) _ with h in
+    let b = first-ok (judged_provided (serves session share a.0) failed.Channel a.0) _ with a.2 in
     record {
       channel = a.0;
       is_open = found-some failed.Channel o a.0 a.1;
-      serves = (provided-ok (Rattle.pool_history.specs.Judging.serves session share a.0) failed.Channel a.0 b.0 b.1).0;
+      serves = (provided-ok (serves session share a.0) failed.Channel a.0 b.0 b.1).0;
     }
 
 -- so it counts as standard where its channel does
 pub standard-agrees : (past : List Event) (session : ℕ) (share : Share) → HasChannel past session share
-    → Rattle.pool_history.specs.Legal.is_standard_in (Rattle.pool_history.specs.Channels.channel_in (Rattle.pool_history.specs.Channels.channels_of past) share.channel) ≡ share.is_standard
+    → is_standard_in (channel_in (channels_of past) share.channel) ≡ share.is_standard
 standard-agrees past session share c =
-    ap Rattle.pool_history.specs.Legal.is_standard_in c.is_open
-    ∙ channel-agrees (Rattle.pool_history.specs.Judging.is_standard c.channel.kind) share.is_standard
-    (and_parts (nat_eq c.channel.session session && Rattle.pool_history.specs.Judging.has_account c.channel)
-    (Rattle.pool_history.specs.Judging.agree (Rattle.pool_history.specs.Judging.is_standard c.channel.kind) share.is_standard) c.serves).1
+    ap is_standard_in c.is_open
+    ∙ channel-agrees (is_standard c.channel.kind) share.is_standard
+    (and_parts (nat_eq c.channel.session session && has_account c.channel)
+    (agree (is_standard c.channel.kind) share.is_standard) c.serves).1
 
 pub commit-legal : (rules : Rules) (past : List Event) (worker session : ℕ) (entered : Entrance) (share : Share) → Present rules past worker session entered
     → mining entered ≡ true → (r : Result Admitted Failed) → admitted rules past session share ≡ r → NoCause rules past (committing rules past session share r).event
 commit-legal rules past worker session entered share p may (Err code) is = tt
 commit-legal rules past worker session entered share p may (Ok with) is =
-    let b : Bool = Rattle.pool_history.specs.Legal.is_standard_in (Rattle.pool_history.specs.Channels.channel_in (Rattle.pool_history.specs.Channels.channels_of past) share.channel) in
+    let b : Bool = is_standard_in (channel_in (channels_of past) share.channel) in
     unless-event (NoCause rules past) reply.Refused (last_failed rules past share (Ok with)) (crediting session share with) tt
     (λ n.
     permitted mining (failed_as (first_failed rules past session (record share { is_standard = b }))) p may
@@ -264,29 +267,29 @@ commit-legal rules past worker session entered share p may (Ok with) is =
 -- a token is granted
 pub grant-legal : (rules : Rules) (past : List Event) (worker session : ℕ) (entered : Entrance) (account : List ℕ) (path : Option (List (List ℕ)))
     → Present rules past worker session entered → selecting entered ≡ true
-    → NoCause rules past (Rattle.pool_history.specs.Answering.granting rules past session account path).event
+    → NoCause rules past (granting rules past session account path).event
 grant-legal rules past worker session entered account None p may =
     unless-event (NoCause rules past) reply.GrantRefused (grant_refusal rules past account [])
-    (kept (event.Grant session account false []) (reply.Granted (Rattle.pool_history.specs.Sessions.grants past + 1) rules.pool_script)) tt
+    (kept (event.Grant session account false []) (reply.Granted (grants past + 1) rules.pool_script)) tt
     (λ n. permitted selecting (grant_cause (grant_refusal rules past account [])) p may ∙ ap grant_cause n)
 grant-legal rules past worker session entered account (Some path) p may =
     unless-event (NoCause rules past) reply.GrantRefused (grant_refusal rules past account path)
-    (kept (event.Grant session account true path) (reply.Granted (Rattle.pool_history.specs.Sessions.grants past + 1) rules.pool_script)) tt
+    (kept (event.Grant session account true path) (reply.Granted (grants past + 1) rules.pool_script)) tt
     (λ n. permitted selecting (grant_cause (grant_refusal rules past account path)) p may ∙ ap grant_cause n)
 
 -- a permitted request of a present session
 pub step_in-legal : (rules : Rules) (past : List Event) (worker session : ℕ) (entered : Entrance) (asked : Request) → Present rules past worker session entered
     → permits asked entered ≡ true → NoCause rules past (step_in rules past session asked).event
 step_in-legal rules past worker session entered (request.Enter role flags) p may = tt
-step_in-legal rules past worker session entered request.Leave p may = permitted Rattle.pool_history.specs.Legal.any_role None p refl
+step_in-legal rules past worker session entered request.Leave p may = permitted any_role None p refl
 step_in-legal rules past worker session entered (request.Template template) p may =
     unless-event (NoCause rules past) reply.TemplateRefused (template_refusal rules.pool_script past template)
-    (kept (event.Template session template) (reply.Job (length (Rattle.pool_history.specs.Jobs.jobs_of past).all + 1))) tt
+    (kept (event.Template session template) (reply.Job (length (jobs_of past).all + 1))) tt
     (λ n. permitted feeding (refused_as cause.BadTemplate (template_refusal rules.pool_script past template)) p may ∙ ap (refused_as cause.BadTemplate) n)
 step_in-legal rules past worker session entered (request.Tip tip) p may =
     unless-event (NoCause rules past) reply.TemplateRefused (tip_refusal past tip)
     (kept (event.Tip session tip)
-    (reply.Job (Rattle.pool_history.specs.Answering.number_of (Rattle.pool_history.specs.Jobs.future_of (Rattle.pool_history.specs.Jobs.jobs_of past) tip.template_id)))) tt
+    (reply.Job (number_of (future_of (jobs_of past) tip.template_id)))) tt
     (λ n. permitted feeding (refused_as cause.BadTip (tip_refusal past tip)) p may ∙ ap (refused_as cause.BadTip) n)
 step_in-legal rules past worker session entered (request.Open ask) p may =
     unless-event (NoCause rules past) reply.OpenRefused (open_refusal rules past session ask) (opening rules past session ask (lead_for past ask)) tt
@@ -302,7 +305,7 @@ step_in-legal rules past worker session entered (request.Update id target) p may
 step_in-legal rules past worker session entered (request.Close id) p may =
     close-legal rules past worker session entered id p may (own_channel past session id) refl
 step_in-legal rules past worker session entered (request.Brief sub) p may = no_event (admitted rules past session (share_of sub)) where
-  no_event : (r : Result Admitted Failed) → NoCause rules past (Rattle.pool_history.specs.Answering.briefing rules r).event
+  no_event : (r : Result Admitted Failed) → NoCause rules past (briefing rules r).event
   no_event (Ok with) = tt
   no_event (Err code) = tt
 step_in-legal rules past worker session entered (request.Commit checked) p may =
@@ -312,7 +315,7 @@ step_in-legal rules past worker session entered (request.Grant identity path) p 
     grant-legal rules past worker session entered (account_of identity) path p may
 step_in-legal rules past worker session entered (request.Custom custom) p may =
     unless-event (NoCause rules past) reply.CustomRefused (custom_refusal rules.pool_script past session custom)
-    (kept (event.Custom session custom) (reply.CustomJob (length (Rattle.pool_history.specs.Jobs.jobs_of past).all + 1))) tt
+    (kept (event.Custom session custom) (reply.CustomJob (length (jobs_of past).all + 1))) tt
     (λ n. permitted selecting (custom_cause (custom_refusal rules.pool_script past session custom)) p may ∙ ap custom_cause n)
 
 -- a request of a session that was entered so, and of a worker's present session

@@ -5,13 +5,14 @@ use Rattle.std.proofs.lemmas.Bool.{cond_both, eqb-true, false≢true, leb-false,
 use Rattle.std.proofs.lemmas.Map.Steps.{length-le_from_distinct_below}
 use Rattle.std.proofs.lemmas.Slice.Eq.{bytes_eq-Decides}
 use Rattle.std.specs.Prelude.{nat_le, nat_lt}
-use Rattle.std.specs.List.{IsDistinct, list_any}
+use Rattle.std.specs.List.{IsDistinct, list_any, AllByRecursion}
 use Rattle.std.specs.Str.{bytes_eq}
 use Rattle.pool_history.specs.declared.causes.Cause.TheVariants as cause
 use Rattle.pool_history.specs.declared.events.Event.{Event}
 use Rattle.pool_history.specs.declared.events.Event.TheVariants as event
 use Rattle.pool_history.specs.declared.refusals.CustomError.{CustomError}
 use Rattle.pool_history.specs.declared.refusals.CustomError.TheVariants as custom
+use Rattle.pool_history.specs.declared.refusals.Failed.TheVariants as failed
 use Rattle.pool_history.specs.declared.refusals.GrantError.{GrantError}
 use Rattle.pool_history.specs.declared.refusals.GrantError.TheVariants as grant
 use Rattle.pool_history.specs.declared.refusals.JobError.TheVariants as job_error
@@ -19,9 +20,9 @@ use Rattle.pool_history.specs.declared.settings.Rules.{Rules}
 use Rattle.pool_history.specs.declared.templates.CustomData.{CustomData}
 use Rattle.pool_history.specs.Accounts.{is_known}
 use Rattle.pool_history.specs.Channels.{OpenChannel}
-use Rattle.pool_history.specs.Crediting.{first_failed}
+use Rattle.pool_history.specs.Crediting.{has_room}
 use Rattle.pool_history.specs.Legal.{LegalPast, are_acceptable, cause_of, custom_cause, feeding, grant_cause, provided, refused_as, selecting}
-use Rattle.pool_history.specs.Refusing.{Granted, custom_refusal, grant_of, grant_refusal, granted_to, is_extended, is_spent, most_enters, most_entries, most_grants, most_opens, most_templates, on_channel, open_count, own_channel, template_refusal, token_of, unspent, with_token}
+use Rattle.pool_history.specs.Refusing.{Granted, custom_refusal, grant_of, grant_refusal, granted_to, is_extended, is_spent, most_enters, most_grants, most_opens, most_templates, on_channel, open_count, own_channel, template_refusal, token_of, unspent, with_token, has_too_many, most_channels}
 use Rattle.pool_history.specs.Sessions.{credits, enters, grants, opens, past_of, rules_of, templates}
 use Rattle.history_laws.specs.Limits.{LegalHistoriesKeepLimits, customs}
 use Rattle.history_laws.proofs.Causes.{IsOpening, IsUncaused, legal_opening, provided-both, uncaused, within-next}
@@ -29,6 +30,9 @@ use Rattle.history_laws.proofs.Crediting.{IsGoodCredit, good_credit, judged_shar
 use Rattle.history_laws.proofs.Entrances.{none-some, some-same}
 use Rattle.history_laws.proofs.JobsFit.{refused-none}
 use Rattle.history_laws.proofs.Legalities.{rules-older, some-none}
+use Rattle.pool_history.specs.declared.events.Role.{Role}
+use Rattle.pool_history.specs.declared.templates.TemplateData.{TemplateData}
+use Rattle.pool_history.specs.declared.events.Kind.{Kind}
 
 -- the first of several refusals
 pub first-false : {X : Type 0} (b : Bool) (x : X) (r : Option X) → cond b (Some x) r ≡ None → (b ≡ false) × (r ≡ None)
@@ -36,14 +40,14 @@ first-false true x r n = absurd (some-none n)
 first-false false x r n = (refl, n)
 
 -- an accepted Enter, Template and Grant
-pub entered-few : (past : List Event) (worker : ℕ) (role : Rattle.pool_history.specs.declared.events.Role.Role) (flags : ℕ)
+pub entered-few : (past : List Event) (worker : ℕ) (role : Role) (flags : ℕ)
     → cause_of past (event.Enter worker role flags) ≡ None → enters past < most_enters
 entered-few past worker role flags n =
     let u : IsUncaused past (event.Enter worker role flags) = uncaused past (event.Enter worker role flags) refl n in
     ltb-true (enters past) most_enters
     (provided-both (nat_lt (enters past) most_enters) cause.PoolFull (provided (are_acceptable u.rules flags) cause.BadFlags None) u.none).0
 
-pub came-few : (past : List Event) (session : ℕ) (template : Rattle.pool_history.specs.declared.templates.TemplateData.TemplateData)
+pub came-few : (past : List Event) (session : ℕ) (template : TemplateData)
     → cause_of past (event.Template session template) ≡ None → templates past < most_templates
 came-few past session template n =
     let u : IsUncaused past (event.Template session template) = uncaused past (event.Template session template) refl n in
@@ -67,18 +71,18 @@ granted-few past session account fixed path n =
     let more = first-false (not (is_known u.rules account)) grant.UnknownUser _ none in
     leb-false most_grants (grants past) (first-false (nat_le most_grants (grants past)) (grant.TooManyGrants (grants past)) _ more.1).0
 
-pub opened-few : (past : List Event) (session : ℕ) (k : Rattle.pool_history.specs.declared.events.Kind.Kind) (account : List ℕ) (class : ℕ) (lead : List ℕ)
+pub opened-few : (past : List Event) (session : ℕ) (k : Kind) (account : List ℕ) (class : ℕ) (lead : List ℕ)
     → cause_of past (event.Open session k account class lead) ≡ None → opens past < most_opens
 opened-few past session k account class lead n =
     let o : (rules : Rules) × IsOpening rules past session k account class lead = legal_opening past session k account class lead n in
     leb-false most_opens (opens past)
-    (or_parts (nat_le Rattle.pool_history.specs.Refusing.most_channels (open_count past session)) (nat_le most_opens (opens past))
-    (not-true (Rattle.pool_history.specs.Refusing.has_too_many past session) o.1.few)).1
+    (or_parts (nat_le most_channels (open_count past session)) (nat_le most_opens (opens past))
+    (not-true (has_too_many past session) o.1.few)).1
 
 -- an accepted Credit
-pub room-few : (rules : Rules) (past : List Event) → Rattle.pool_history.specs.Crediting.has_room rules past ≡ None → credits past < rules.credit_limit
+pub room-few : (rules : Rules) (past : List Event) → has_room rules past ≡ None → credits past < rules.credit_limit
 room-few rules past n =
-    cond_both (nat_lt (credits past) rules.credit_limit) None (Some Rattle.pool_history.specs.declared.refusals.Failed.TheVariants.Full)
+    cond_both (nat_lt (credits past) rules.credit_limit) None (Some failed.Full)
     (λ o. o ≡ None → credits past < rules.credit_limit) (λ few n. ltb-true (credits past) rules.credit_limit few) (λ full n. absurd (some-none n)) n
 
 pub credited-few : (past : List Event) (rules : Rules) (session channel job nonce ntime version : ℕ) (extranonce : List ℕ) → rules_of past ≡ Some rules
@@ -159,7 +163,7 @@ pub record Spent (past : List Event) : Type 0 where
   pub spent : (q : ℕ) → list_any (eqb q) numbers ≡ true → is_spent past (token_of (q + 1)) ≡ true
 
 -- none of a list is a number that it hasn't
-pub none-of : (q : ℕ) (xs : List ℕ) → list_any (eqb q) xs ≡ false → Rattle.std.specs.List.AllByRecursion (λ y. eqb q y ≡ false) xs
+pub none-of : (q : ℕ) (xs : List ℕ) → list_any (eqb q) xs ≡ false → AllByRecursion (λ y. eqb q y ≡ false) xs
 none-of q [] h = tt
 none-of q (x ∷ xs) h = let p : (eqb q x ≡ false) × (list_any (eqb q) xs ≡ false) = or_parts (eqb q x) (list_any (eqb q) xs) h in (p.0, none-of q xs p.1)
 

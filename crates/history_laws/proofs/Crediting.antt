@@ -18,7 +18,7 @@ use Rattle.pool_history.specs.Headers.{rolled}
 use Rattle.pool_history.specs.Jobs.{jobs_of, live_job}
 use Rattle.pool_history.specs.Judging.{Admitted, Share, admitted, found, is_in_time, is_known_job, is_version, provided, rebuilt, serves}
 use Rattle.pool_history.specs.Legal.{LegalPast, cause_of, failed_as, is_standard_in, mining}
-use Rattle.pool_history.specs.Sessions.{credits, past_of, rules_of, script_of}
+use Rattle.pool_history.specs.Sessions.{credits, past_of, rules_of, script_of, script_in}
 use Rattle.history_laws.specs.Credited.{CreditsAreBooked, NoShareTwice}
 use Rattle.history_laws.specs.Staying.{CreditsStay}
 use Rattle.history_laws.proofs.Answering.{first-ok, found-some, provided-ok}
@@ -130,7 +130,7 @@ credit-adds past session channel job nonce ntime version extranonce g =
     let there : channel_in (channels_of past) channel ≡ Some with.channel = booked-channel past channel job with is in
     let same : credit_share with channel job nonce ntime version extranonce ≡ share =
     ap (λ b. record share { is_standard = b }) (sym (ap is_standard_in there)) in
-    let script : script_of past ≡ g.rules.pool_script = ap Rattle.pool_history.specs.Sessions.script_in g.are_rules in
+    let script : script_of past ≡ g.rules.pool_script = ap script_in g.are_rules in
     record {
       is_booked = is;
       header =

@@ -8,7 +8,7 @@ use Rattle.pool_history.specs.declared.events.Event.{Event}
 use Rattle.pool_history.specs.declared.events.Event.TheVariants as event
 use Rattle.pool_history.specs.declared.events.Role.{Role}
 use Rattle.pool_history.specs.Legal.{entered_with, provided, within}
-use Rattle.pool_history.specs.Sessions.{Entrance, enters, entrance, is_present, is_present_as, present, unless_left}
+use Rattle.pool_history.specs.Sessions.{Entrance, enters, entrance, is_present, is_present_as, present, unless_left, is_number}
 
 pub some-same : {X : Type 0} {x y : X} → ◌≡◌ {A = Option X} (Some x) (Some y) → x ≡ y
 some-same e = cc
@@ -80,7 +80,7 @@ pub present-is : (past : List Event) (worker session : ℕ) → present past wor
 present-is past worker session is =
     let e : IsEnteredBy past worker session = present-entered past worker session is in
     ap (is_present_as past session) e.entered
-    ∙ ap (Rattle.pool_history.specs.Sessions.is_number session) (ap (present past) e.by ∙ is)
+    ∙ ap (is_number session) (ap (present past) e.by ∙ is)
     ∙ eq-eqb session session refl
 
 -- a permitted event of it has the cause that comes next

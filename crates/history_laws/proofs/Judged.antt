@@ -19,14 +19,14 @@ use Rattle.pool_history.specs.declared.settings.Rules.{Rules}
 use Rattle.pool_history.specs.declared.shares.Checked.{Checked}
 use Rattle.pool_history.specs.declared.shares.Submission.{Submission}
 use Rattle.pool_history.specs.Accounts.{account_of, is_empty}
-use Rattle.pool_history.specs.Answering.{Answer, Step, briefing, classing, closing, committing, crediting, entering, granting, kept, naming, opening, permits, step, step_as, step_by, step_for, step_in, step_under, told, unless_refused}
+use Rattle.pool_history.specs.Answering.{Step, briefing, classing, closing, committing, crediting, kept, naming, opening, permits, step, step_as, step_by, step_for, step_in, step_under, told, unless_refused, number_of}
 use Rattle.pool_history.specs.Channels.{OpenChannel, channel_in, channels_of, class_of}
 use Rattle.pool_history.specs.Crediting.{class_of_share, first_failed, has_room, headers, is_new, last_failed, work_of}
 use Rattle.pool_history.specs.Jobs.{future_of, jobs_of, live_job}
 use Rattle.pool_history.specs.Judging.{Admitted, Share, admitted, briefing_of, found, is_in_time, is_known_job, is_version, provided, rebuilt, serves, share_of}
 use Rattle.pool_history.specs.Legal.{allowed_flags}
 use Rattle.pool_history.specs.Refusing.{class_for, custom_refusal, grant_refusal, lead_for, most_enters, name_refusal, open_refusal, own_channel, template_refusal, tip_refusal, update_refusal}
-use Rattle.pool_history.specs.Sessions.{Entrance, credits, enters, entrance, past_of, present, rules_of}
+use Rattle.pool_history.specs.Sessions.{Entrance, credits, enters, entrance, past_of, present, rules_of, grants}
 use Rattle.std.specs.Prelude.{bit_and, nat_eq, nat_lt}
 use Rattle.history_laws.specs.Answered.{fails_early, is_early, CreditsAreCommitted, IsJudged, MaySubmit, SharesAreBriefed, SharesAreJudged, credit_of}
 use Rattle.history_laws.proofs.Legalities.{some-none}
@@ -217,7 +217,7 @@ step_in-credits rules past session (request.Template template) =
 step_in-credits rules past session (request.Tip tip) =
     inr (not-credited reply.TemplateRefused (tip_refusal past tip)
     (kept (event.Tip session tip)
-    (reply.Job (Rattle.pool_history.specs.Answering.number_of (future_of (jobs_of past) tip.template_id)))) tt)
+    (reply.Job (number_of (future_of (jobs_of past) tip.template_id)))) tt)
 step_in-credits rules past session (request.Open ask) =
     inr (not-credited reply.OpenRefused (open_refusal rules past session ask) (opening rules past session ask (lead_for past ask)) (by_lead (lead_for past ask))) where
       by_lead : (o : Option (List ℕ)) → NoCredit (opening rules past session ask o).event
@@ -251,10 +251,10 @@ step_in-credits rules past session (request.Commit checked) = inl (checked, refl
 step_in-credits rules past session (request.Poll from) = inr tt
 step_in-credits rules past session (request.Grant identity None) =
     inr (not-credited reply.GrantRefused (grant_refusal rules past (account_of identity) [])
-    (kept (event.Grant session (account_of identity) false []) (reply.Granted (Rattle.pool_history.specs.Sessions.grants past + 1) rules.pool_script)) tt)
+    (kept (event.Grant session (account_of identity) false []) (reply.Granted (grants past + 1) rules.pool_script)) tt)
 step_in-credits rules past session (request.Grant identity (Some path)) =
     inr (not-credited reply.GrantRefused (grant_refusal rules past (account_of identity) path)
-    (kept (event.Grant session (account_of identity) true path) (reply.Granted (Rattle.pool_history.specs.Sessions.grants past + 1) rules.pool_script)) tt)
+    (kept (event.Grant session (account_of identity) true path) (reply.Granted (grants past + 1) rules.pool_script)) tt)
 step_in-credits rules past session (request.Custom custom) =
     inr (not-credited reply.CustomRefused (custom_refusal rules.pool_script past session custom)
     (kept (event.Custom session custom) (reply.CustomJob (length (jobs_of past).all + 1))) tt)

@@ -15,8 +15,8 @@ use Rattle.pool_history.specs.declared.templates.TipData.{TipData}
 use Rattle.pool_history.specs.Channels.{OpenChannel, channel_in, channels_of}
 use Rattle.pool_history.specs.Crediting.{booked_with, credit_share, is_block, listed}
 use Rattle.pool_history.specs.Headers.{extranonce_prefix, rolled}
-use Rattle.pool_history.specs.Jobs.{FromMiner, FromTemplate, Job, Source, Standing, jobs_of, last_of, live_job, newest}
-use Rattle.pool_history.specs.Judging.{Admitted, Share, admitted, found, is_known_job, job_parts, provided, serves}
+use Rattle.pool_history.specs.Jobs.{FromMiner, FromTemplate, Job, Source, Standing, jobs_of, last_of, live_job, newest, with_template}
+use Rattle.pool_history.specs.Judging.{Admitted, Share, admitted, found, is_known_job, job_parts, provided, serves, is_in_time, is_version}
 use Rattle.pool_history.specs.Legal.{LegalPast, cause_of, is_lead_length}
 use Rattle.pool_history.specs.News.{Audience, Group, Rolling, Single, alone, audience, job_note, live_ntime, news, opening_notes, owed, owed_by, present_notes, solution, solution_by, solution_notes, tip_note, tip_notes, told_of}
 use Rattle.pool_history.specs.Sessions.{opens, rules_of}
@@ -29,6 +29,7 @@ use Rattle.history_laws.proofs.JobsFit.{IsMiners, JobsFit, TemplateFits, jobs-fi
 use Rattle.history_laws.proofs.Judged.{ok-same}
 use Rattle.history_laws.proofs.Legalities.{rules-older}
 use Rattle.history_laws.proofs.Living.{In, find-in, in-append}
+use Rattle.coinbase.specs.Parts.{whole}
 
 -- facts of each element of two lists, and of a mapped one
 pub all-append : {X : Type 0} (P : X → Type 0) (xs ys : List X) → AllByRecursion P xs → AllByRecursion P ys → AllByRecursion P (xs ++ ys)
@@ -101,8 +102,8 @@ admitted-rolls rules past session share with h =
     let d = first-ok (provided (is_known_job (jobs_of past) share) failed.Job b.0) _ with c.2 in
     let e = first-ok (found failed.Stale (live_job (jobs_of past) share.job)) _ with d.2 in
     let f = first-ok (found failed.Stale (jobs_of past).tip) _ with e.2 in
-    let g = first-ok (provided (Rattle.pool_history.specs.Judging.is_version rules e.0.source share.version) failed.Version b.0) _ with f.2 in
-    let k = first-ok (provided (Rattle.pool_history.specs.Judging.is_in_time rules e.0.source f.0 share.ntime) failed.Ntime b.0) _ with g.2 in
+    let g = first-ok (provided (is_version rules e.0.source share.version) failed.Version b.0) _ with f.2 in
+    let k = first-ok (provided (is_in_time rules e.0.source f.0 share.ntime) failed.Ntime b.0) _ with g.2 in
     eqb-true (length share.extranonce) (rolled b.0.kind b.0.lead)
     (provided-ok (nat_eq (length share.extranonce) (rolled b.0.kind b.0.lead)) failed.ExtranonceSize b.0 c.0 c.1).0
     ∙ ap (λ w. rolled w.channel.kind w.channel.lead) (ok-same k.2)
@@ -152,7 +153,7 @@ solution-fits script session share with (FromTemplate template) (inr m) is twelv
 solution-fits script session share with (FromTemplate template) (inl f) is twelve =
     cond_both (nat_eq with.job.session session && is_block script with share) (solution script template.template_id share with ∷ []) [] (AllByRecursion NoteFits)
     (λ t. (
-      subst (λ s. length (Rattle.coinbase.specs.Parts.whole (job_parts s script) (extranonce_prefix with.channel.kind with.channel.lead ++ share.extranonce)) < 2 ^ 16)
+      subst (λ s. length (whole (job_parts s script) (extranonce_prefix with.channel.kind with.channel.lead ++ share.extranonce)) < 2 ^ 16)
           (sym is) (f.whole_fits (extranonce_prefix with.channel.kind with.channel.lead ++ share.extranonce) twelve),
       tt,
     ))
@@ -193,7 +194,7 @@ owed_by-fits rules (event.Template feed template) past told l are n =
     (last_of (jobs_of (event.Template feed template ∷ past)).all)
     (λ j is. subst (λ x. TemplateFits rules.pool_script x.source)
     (some-same (sym (all-of template.future_template) ∙ is)) (legal-template past rules feed template are n)) where
-      all-of : (future : Bool) → last_of (Rattle.pool_history.specs.Jobs.with_template (record { number = length (jobs_of past).all + 1; session = feed; live_at = length past; source = FromTemplate template }) future (jobs_of past)).all
+      all-of : (future : Bool) → last_of (with_template (record { number = length (jobs_of past).all + 1; session = feed; live_at = length past; source = FromTemplate template }) future (jobs_of past)).all
           ≡ Some (record { number = length (jobs_of past).all + 1; session = feed; live_at = length past; source = FromTemplate template })
       all-of true = last-end (jobs_of past).all (record { number = length (jobs_of past).all + 1; session = feed; live_at = length past; source = FromTemplate template })
       all-of false = last-end (jobs_of past).all (record { number = length (jobs_of past).all + 1; session = feed; live_at = length past; source = FromTemplate template })

@@ -13,7 +13,7 @@ use Rattle.pool_history.specs.declared.events.Kind.{Kind}
 use Rattle.pool_history.specs.ByPlaces.{opens_in, sets_from}
 use Rattle.pool_history.specs.Channels.{ClassSet, OpenChannel, account_or, channels_of, named, reclassed}
 use Rattle.pool_history.specs.Sessions.{opens, past_of}
-use Rattle.pool_history.proofs.PlacesOfClasses.{sets_from-snoc}
+use Rattle.pool_history.proofs.PlacesOfClasses.{sets_from-snoc, opens_in-snoc}
 use Rattle.history_laws.specs.OneMore.{channels_after}
 use Rattle.history_laws.specs.Places.{ChannelsByPlaces, channel_from, channels_from, ends_channel, name_in, opens_by}
 use Rattle.history_laws.proofs.Legalities.{past-cons}
@@ -211,7 +211,7 @@ channels_from-snoc at opened (x ∷ more) e place count p q =
 pub opens-past : (past : List Event) → opens past ≡ opens_in (reverse past)
 opens-past [] = refl
 opens-past (e ∷ older) =
-    let more : opens_in (reverse older ++ e ∷ []) ≡ opens_in (reverse older) + opens_in (e ∷ []) = Rattle.pool_history.proofs.PlacesOfClasses.opens_in-snoc (reverse older) e in
+    let more : opens_in (reverse older ++ e ∷ []) ≡ opens_in (reverse older) + opens_in (e ∷ []) = opens_in-snoc (reverse older) e in
     let before : opens older ≡ opens_in (reverse older) = opens-past older in
     let mine : opens (e ∷ older) ≡ opens older + opens_in (e ∷ []) = one e in
     mine ∙ ap (λ n. n + opens_in (e ∷ [])) before ∙ sym more ∙ ap opens_in (sym (past-cons e older)) where

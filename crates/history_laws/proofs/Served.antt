@@ -1,5 +1,5 @@
 -- An open channel without account is a V1 channel.
-use Rattle.std.proofs.Common.{◌≡◌, ℕ, ◌+◌, Bool, true, false, cond, not, Option, None, Some, List, [], ◌∷◌, refl, ap, subst, sym, ◌∙◌}
+use Rattle.std.proofs.Common.{◌≡◌, ℕ, ◌+◌, true, not, Some, List, [], ◌∷◌, refl, length}
 use Rattle.std.proofs.Math.Dec.{eqb}
 use Rattle.std.proofs.lemmas.Bool.{cond_both, false≢true}
 use Rattle.std.specs.List.{AllByRecursion}
@@ -15,6 +15,7 @@ use Rattle.pool_history.specs.Refusing.{own_channel}
 use Rattle.pool_history.proofs.PlacesOfClasses.{all-end, all-filter, all-map}
 use Rattle.history_laws.proofs.Causes.{IsOpening, legal_opening}
 use Rattle.history_laws.proofs.Holding.{all-find}
+use Rattle.std.specs.Prelude.{filter}
 
 -- a channel has an account, or it is a V1 channel
 abbrev pub IsServed : OpenChannel → Type 0
@@ -50,7 +51,7 @@ channels-served (event.Open session k account class lead ∷ older) l =
 channels-served (event.Name session id account ∷ older) l =
     all-map IsServed IsServed (named id account) (named-served id account) (channels_of older) (channels-served older l.0)
 channels-served (event.Class session id class ∷ older) l =
-    all-map IsServed IsServed (reclassed (Rattle.std.proofs.Common.length older) id class) (reclassed-served (Rattle.std.proofs.Common.length older) id class) (channels_of older) (channels-served older l.0)
+    all-map IsServed IsServed (reclassed (length older) id class) (reclassed-served (length older) id class) (channels_of older) (channels-served older l.0)
 channels-served (event.Close session id ∷ older) l = all-filter IsServed (λ c. not (eqb c.id id)) (channels_of older) (channels-served older l.0)
 channels-served (event.Leave session ∷ older) l = all-filter IsServed (λ c. not (eqb c.session session)) (channels_of older) (channels-served older l.0)
 channels-served (e ∷ older) l = channels-served older l.0
@@ -58,5 +59,5 @@ channels-served (e ∷ older) l = channels-served older l.0
 -- one of a session's own
 pub own-served : (past : List Event) (session id : ℕ) (c : OpenChannel) → LegalPast past → own_channel past session id ≡ Some c → IsServed c
 own-served past session id c l found =
-    all-find IsServed (λ d. eqb d.id id) (Rattle.std.specs.Prelude.filter (λ d. eqb d.session session) (channels_of past)) c
+    all-find IsServed (λ d. eqb d.id id) (filter (λ d. eqb d.session session) (channels_of past)) c
     (all-filter IsServed (λ d. eqb d.session session) (channels_of past) (channels-served past l)) found

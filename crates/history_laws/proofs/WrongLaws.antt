@@ -6,7 +6,7 @@ use Rattle.pool_history.specs.declared.events.Event.{Event}
 use Rattle.pool_history.specs.declared.events.Event.TheVariants as event
 use Rattle.pool_history.specs.declared.events.Kind.TheVariants as kind
 use Rattle.pool_history.specs.Channels.{OpenChannel, channel_in, channels_of, class_at}
-use Rattle.pool_history.specs.Jobs.{JobMove, Came, Tipped, Brought, Standing, job_moves, jobs_of, live_job}
+use Rattle.pool_history.specs.Jobs.{JobMove, Came, Tipped, Brought, job_moves, jobs_of, live_job, Job}
 use Rattle.pool_history.specs.Legal.{Legal, cause_of}
 use Rattle.pool_history.specs.Sessions.{past_of}
 use Rattle.pool_history.specs.Spaces.{InSpace, first_free}
@@ -63,7 +63,7 @@ set_before = start ∷ enters ∷ opens ∷ comes ∷ reclasses ∷ tips ∷ []
 abbrev pub set_after : List Event
 set_after = start ∷ enters ∷ opens ∷ comes ∷ tips ∷ reclasses ∷ []
 
-abbrev pub since_of : Option Rattle.pool_history.specs.Jobs.Job → ℕ
+abbrev pub since_of : Option Job → ℕ
 since_of None = 0
 since_of (Some job) = job.live_at
 
@@ -76,7 +76,7 @@ no_states-without_places law =
     omega (arith, same, before, after)
 
 -- so the class at the job differs: 8 where it was set before, and 0 where it was set after
-abbrev pub class_at_job : List Event → Option OpenChannel → Option Rattle.pool_history.specs.Jobs.Job → ℕ
+abbrev pub class_at_job : List Event → Option OpenChannel → Option Job → ℕ
 class_at_job history (Some channel) (Some job) = class_at channel job.live_at
 class_at_job history channel job = 99
 
