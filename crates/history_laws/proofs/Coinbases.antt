@@ -1,11 +1,16 @@
 -- The coinbases of templates that aren't refused are short enough for their messages.
-use Rattle.std.proofs.Common.{◌≡◌, ℕ, ◌+◌, ◌-◌, ◌<◌, ◌≤◌, ◌^◌, Bool, true, false, cond, Result, Ok, Err, List, [], ◌∷◌, ◌++◌, length, take, drop, refl, ap, sym, ◌∙◌, arith, length-append}
-use Rattle.std.proofs.lemmas.Bool.{ltb-false}
+use Rattle.std.proofs.Common.{◌≡◌, ℕ, ◌+◌, ◌-◌, ◌<◌, ◌≤◌, ◌^◌, Bool, true, false, cond, Result, Ok, Err, List, [], ◌∷◌, ◌++◌, length, take, drop, refl, ap, sym, ◌∙◌, arith, length-append, Option, None, Some, subst}
+use Rattle.std.proofs.lemmas.Bool.{ltb-false, ltb-true}
 use Rattle.std.proofs.lemmas.List.{take-append-drop}
-use Rattle.std.specs.Prelude.{nat_lt, replicate}
+use Rattle.std.specs.Prelude.{position, nat_lt, replicate}
 use Rattle.coinbase.specs.Coin.{Terms, assembled, outputs_said, parts_of, with_reward, within_length}
 use Rattle.coinbase.specs.Parts.{Parts, marked, reserved_value, whole, whole_len, witnessed}
 use Rattle.coinbase.specs.declared.error.AssemblyError.TheVariants.{RewardTooLarge, ScriptTooLong, TooLong}
+use Rattle.coinbase.specs.Custom.{CustomTerms, assembled_of_outputs, custom_parts, is_foreign, paying_outputs, some_outputs, total, with_total, without_foreign}
+use Rattle.coinbase.specs.Outputs.{outputs_of}
+use Rattle.coinbase.specs.declared.tx.TxOut.{TxOut}
+use Rattle.coinbase.specs.declared.error.OutputsError.TheVariants as custom
+use Rattle.pool_history.specs.Judging.{outputs_in}
 use Rattle.coinbase.specs.Steps.{◌>>=◌}
 
 -- how long a list of three parts is
@@ -83,16 +88,43 @@ pub not_refused : {X E : Type 0} (b : Bool) (e : E) (r : Result X E) (x : X) →
 not_refused true e r x h = absurd (err-ok h)
 not_refused false e r x h = (refl, h)
 
-pub kept_ok : {X E : Type 0} (b : Bool) (e : E) (r : Result X E) (x : X) → cond b r (Err e) ≡ Ok x → r ≡ Ok x
-kept_ok true e r x h = h
+pub kept_ok : {X E : Type 0} (b : Bool) (e : E) (r : Result X E) (x : X) → cond b r (Err e) ≡ Ok x → (b ≡ true) × (r ≡ Ok x)
+kept_ok true e r x h = (refl, h)
 kept_ok false e r x h = absurd (err-ok h)
 
-pub assembled-fits : (terms : Terms) (script : List ℕ) (parts : Parts) → assembled terms script ≡ Ok parts → PartsFit (parts_of terms script)
+pub assembled-fits : (terms : Terms) (script : List ℕ) (parts : Parts) → assembled terms script ≡ Ok parts → PartsFit (parts_of terms script) × (terms.reward < 2 ^ 40)
 assembled-fits terms script parts h =
     let a : (nat_lt 88 (length terms.prefix) ≡ false) × ((outputs_said terms >>= λ outputs. with_reward terms script) ≡ Ok parts) =
     not_refused (nat_lt 88 (length terms.prefix)) (ScriptTooLong (length terms.prefix)) (outputs_said terms >>= λ outputs. with_reward terms script) parts h in
     let b = second-ok (outputs_said terms) (λ outputs. with_reward terms script) parts a.1 in
-    let c : within_length (parts_of terms script) ≡ Ok parts =
+    let c : (nat_lt terms.reward (2 ^ 40) ≡ true) × (within_length (parts_of terms script) ≡ Ok parts) =
     kept_ok (nat_lt terms.reward (2 ^ 40)) (RewardTooLarge terms.reward) (within_length (parts_of terms script)) parts b.1 in
-    let d = not_refused (nat_lt 65535 (whole_len (parts_of terms script))) (TooLong (whole_len (parts_of terms script))) (Ok (parts_of terms script)) parts c in
-    parts-fit (parts_of terms script) (ltb-false 65535 (whole_len (parts_of terms script)) d.0)
+    let d = not_refused (nat_lt 65535 (whole_len (parts_of terms script))) (TooLong (whole_len (parts_of terms script))) (Ok (parts_of terms script)) parts c.1 in
+    (parts-fit (parts_of terms script) (ltb-false 65535 (whole_len (parts_of terms script)) d.0), ltb-true terms.reward (2 ^ 40) c.0)
+
+-- a miner's own coinbase that isn't refused pays less than 2^40
+pub some_outputs-same : (r : Result (List TxOut) ℕ) (outputs : List TxOut) → some_outputs r ≡ Ok outputs → outputs_in r ≡ outputs
+some_outputs-same (Err at) outputs h = absurd (err-ok h)
+some_outputs-same (Ok []) outputs h = absurd (err-ok h)
+some_outputs-same (Ok (first ∷ others)) outputs h = cc
+
+pub without_foreign-same : (o : Option ℕ) (outputs told : List TxOut) → without_foreign o outputs ≡ Ok told → outputs ≡ told
+without_foreign-same None outputs told h = cc
+without_foreign-same (Some index) outputs told h = absurd (err-ok h)
+
+pub first-of : {X Y E : Type 0} (r : Result X E) (f : X → Result Y E) (y : Y) → (r >>= f) ≡ Ok y → (x : X) × (r ≡ Ok x) × (f x ≡ Ok y)
+first-of (Ok x) f y h = (x, refl, h)
+first-of (Err e) f y h = absurd (err-ok h)
+
+pub outputs-pay : (terms : CustomTerms) (script : List ℕ) (told : Parts × ℕ) → assembled_of_outputs terms script ≡ Ok told
+    → total (outputs_in (outputs_of terms.outputs)) < 2 ^ 40
+outputs-pay terms script told h =
+    let a = not_refused (nat_lt 88 (length terms.prefix)) (custom.ScriptTooLong (length terms.prefix)) (paying_outputs terms script >>= λ outputs. with_total terms outputs) told h in
+    let b = first-of (paying_outputs terms script) (λ outputs. with_total terms outputs) told a.1 in
+    let c = not_refused (nat_lt 1024 (length terms.outputs)) (custom.TooLong (length terms.outputs))
+    (some_outputs (outputs_of terms.outputs) >>= λ outputs. without_foreign (position (is_foreign script) outputs) outputs) b.0 b.1 in
+    let d = first-of (some_outputs (outputs_of terms.outputs)) (λ outputs. without_foreign (position (is_foreign script) outputs) outputs) b.0 c.1 in
+    let same : outputs_in (outputs_of terms.outputs) ≡ b.0 =
+    some_outputs-same (outputs_of terms.outputs) d.0 d.1 ∙ without_foreign-same (position (is_foreign script) d.0) d.0 b.0 d.2 in
+    let e = kept_ok (nat_lt (total b.0) (2 ^ 40)) (custom.RewardTooLarge (total b.0)) (Ok (custom_parts terms (length b.0), total b.0)) told b.2 in
+    subst (λ outputs. total outputs < 2 ^ 40) (sym same) (ltb-true (total b.0) (2 ^ 40) e.0)

@@ -10,7 +10,6 @@ use Rattle.std.specs.Str.{bytes_eq}
 use Rattle.pool_history.specs.declared.causes.Cause.TheVariants as cause
 use Rattle.pool_history.specs.declared.events.Event.{Event}
 use Rattle.pool_history.specs.declared.events.Event.TheVariants as event
-use Rattle.pool_history.specs.declared.refusals.CustomError.{CustomError}
 use Rattle.pool_history.specs.declared.refusals.CustomError.TheVariants as custom
 use Rattle.pool_history.specs.declared.refusals.Failed.TheVariants as failed
 use Rattle.pool_history.specs.declared.refusals.GrantError.{GrantError}
@@ -28,7 +27,7 @@ use Rattle.history_laws.specs.Limits.{LegalHistoriesKeepLimits, customs}
 use Rattle.history_laws.proofs.Causes.{IsOpening, IsUncaused, legal_opening, provided-both, uncaused, within-next}
 use Rattle.history_laws.proofs.Crediting.{IsGoodCredit, good_credit, judged_share}
 use Rattle.history_laws.proofs.Entrances.{none-some, some-same}
-use Rattle.history_laws.proofs.JobsFit.{refused-none}
+use Rattle.history_laws.proofs.JobsFit.{custom-none, refused-none}
 use Rattle.history_laws.proofs.Legalities.{rules-older, some-none}
 use Rattle.pool_history.specs.declared.events.Role.{Role}
 use Rattle.pool_history.specs.declared.templates.TemplateData.{TemplateData}
@@ -93,15 +92,6 @@ credited-few past rules session channel job nonce ntime version extranonce are n
     subst (λ r. credits past < r.credit_limit) (some-same (sym g.are_rules ∙ are)) (room-few g.rules past g.good.room)
 
 -- an accepted job of a miner's own spends a token that was granted and is not spent yet
-pub custom-none : (o : Option CustomError) → custom_cause o ≡ None → o ≡ None
-custom-none None n = refl
-custom-none (Some custom.NotOpen) n = absurd (some-none n)
-custom-none (Some custom.BadToken) n = absurd (some-none n)
-custom-none (Some custom.StaleTip) n = absurd (some-none n)
-custom-none (Some (custom.EarlyTime least)) n = absurd (some-none n)
-custom-none (Some (custom.BadPath entries)) n = absurd (some-none n)
-custom-none (Some (custom.Coinbase error)) n = absurd (some-none n)
-
 pub record Spends (past : List Event) (token : List ℕ) : Type 0 where
   pub granted : Granted
   pub fresh : is_spent past token ≡ false

@@ -1,6 +1,7 @@
 -- What a legal history owes to its sessions can be told.
-use Rattle.std.proofs.Common.{◌⊎◌, inl, inr, ◌≡◌, ℕ, ◌+◌, Bool, true, false, cond, ◌&&◌, not, Option, None, Some, Result, Ok, Err, List, [], ◌∷◌, ◌++◌, length, refl, subst, sym, ◌∙◌}
-use Rattle.std.specs.Prelude.{is_none, nat_le}
+use Rattle.std.proofs.Common.{◌⊎◌, inl, inr, ◌≡◌, ℕ, ◌+◌, Bool, true, false, cond, ◌&&◌, not, Option, None, Some, Result, Ok, Err, List, [], ◌∷◌, ◌++◌, length, refl, subst, sym, ◌∙◌, ◌<◌, ◌^◌}
+use Rattle.std.proofs.lemmas.Bool.{cond_both}
+use Rattle.std.specs.Prelude.{is_none, nat_le, nat_lt}
 use Rattle.pool_history.specs.declared.causes.Cause.{Cause}
 use Rattle.pool_history.specs.declared.causes.Cause.TheVariants as cause
 use Rattle.pool_history.specs.declared.events.Event.{Event}
@@ -8,31 +9,38 @@ use Rattle.pool_history.specs.declared.events.Event.TheVariants as event
 use Rattle.pool_history.specs.declared.refusals.JobError.{JobError}
 use Rattle.pool_history.specs.declared.refusals.JobError.TheVariants as job_error
 use Rattle.pool_history.specs.declared.settings.Rules.{Rules}
+use Rattle.pool_history.specs.declared.templates.CustomData.{CustomData}
 use Rattle.pool_history.specs.declared.templates.TemplateData.{TemplateData}
 use Rattle.pool_history.specs.declared.templates.TipData.{TipData}
 use Rattle.coinbase.specs.Coin.{assembled, parts_of}
 use Rattle.coinbase.specs.Parts.{Parts}
 use Rattle.coinbase.specs.declared.error.AssemblyError.{AssemblyError}
 use Rattle.pool_history.specs.Jobs.{FromMiner, FromTemplate, Job, Source, Standing, future_in, jobs_of, made_live, with_custom, with_template, with_tip}
-use Rattle.pool_history.specs.Judging.{template_terms}
-use Rattle.pool_history.specs.Legal.{LegalPast, cause_of, feeding, refused_as}
-use Rattle.pool_history.specs.Refusing.{coinbase_refusal, is_template_known, most_templates, template_refusal}
+use Rattle.pool_history.specs.Judging.{template_terms, custom_terms}
+use Rattle.pool_history.specs.Crediting.{reward_of}
+use Rattle.pool_history.specs.Channels.{OpenChannel}
+use Rattle.coinbase.specs.Custom.{assembled_of_outputs}
+use Rattle.coinbase.specs.declared.error.OutputsError.{OutputsError}
+use Rattle.pool_history.specs.declared.refusals.CustomError.{CustomError}
+use Rattle.pool_history.specs.declared.refusals.CustomError.TheVariants as custom_error
+use Rattle.pool_history.specs.Legal.{LegalPast, cause_of, feeding, refused_as, custom_cause, selecting}
+use Rattle.pool_history.specs.Refusing.{coinbase_refusal, is_template_known, most_templates, template_refusal, Granted, custom_refusal, is_bad_path, is_extended, is_other_tip, on_channel, outputs_refusal, over_tip, own_channel, unspent, with_token}
 use Rattle.pool_history.specs.Sessions.{rules_of, templates}
 use Rattle.history_laws.proofs.Causes.{IsUncaused, uncaused, within-next}
-use Rattle.history_laws.proofs.Coinbases.{PartsFit, assembled-fits}
+use Rattle.history_laws.proofs.Coinbases.{PartsFit, assembled-fits, outputs-pay}
 use Rattle.history_laws.proofs.Entrances.{none-some, some-same}
 use Rattle.history_laws.proofs.Legalities.{rules-older, some-none}
 use Rattle.history_laws.proofs.Living.{In, WasFuture, in-end, in-last, in-left, in-sixteen, made-future}
 
--- a template's coinbase is short enough
+-- a template's coinbase is short enough, and its reward small enough
 abbrev pub TemplateFits : List ℕ → Source → Type 0
-TemplateFits script (FromTemplate template) = PartsFit (parts_of (template_terms template) script)
+TemplateFits script (FromTemplate template) = PartsFit (parts_of (template_terms template) script) × (reward_of (FromTemplate template) < 2 ^ 40)
 TemplateFits script (FromMiner custom) = ⊥
 
--- a miner's own
+-- a miner's own reward is, too
 abbrev pub IsMiners : Source → Type 0
 IsMiners (FromTemplate template) = ⊥
-IsMiners (FromMiner custom) = Unit {0}
+IsMiners (FromMiner custom) = reward_of (FromMiner custom) < 2 ^ 40
 
 -- so are those of all jobs that are future or live
 pub record JobsFit (script : List ℕ) (s : Standing) : Type 0 where
@@ -76,6 +84,53 @@ legal-template past rules session template are n =
     refused-none cause.BadTemplate (template_refusal u.rules.pool_script past template)
     (within-next feeding past session (refused_as cause.BadTemplate (template_refusal u.rules.pool_script past template)) u.none) in
     accepted-fits rules.pool_script past template (subst (λ r. template_refusal r.pool_script past template ≡ None) same none)
+
+-- an accepted job of a miner's own
+pub assembled-ok : (r : Result (Parts × ℕ) OutputsError) → outputs_refusal r ≡ None → (told : Parts × ℕ) × (r ≡ Ok told)
+assembled-ok (Ok told) n = (told, refl)
+assembled-ok (Err e) n = absurd (some-none n)
+
+pub tip-pays : (script : List ℕ) (granted : Granted) (offer : CustomData) (o : Option TipData) → over_tip script granted offer o ≡ None
+    → IsMiners (FromMiner offer)
+tip-pays script granted offer None n = absurd (some-none n)
+tip-pays script granted offer (Some tip) n =
+    let last : Option CustomError = outputs_refusal (assembled_of_outputs (custom_terms offer) script) in
+    let third : Option CustomError = cond (is_bad_path granted offer.merkle_path) (Some (custom_error.BadPath (length offer.merkle_path))) last in
+    let second : Option CustomError = cond (nat_lt offer.min_ntime tip.header_timestamp) (Some (custom_error.EarlyTime tip.header_timestamp)) third in
+    let a : second ≡ None = dropped-both (is_other_tip tip offer) custom_error.StaleTip second n in
+    let b : third ≡ None = dropped-both (nat_lt offer.min_ntime tip.header_timestamp) (custom_error.EarlyTime tip.header_timestamp) third a in
+    let c : last ≡ None = dropped-both (is_bad_path granted offer.merkle_path) (custom_error.BadPath (length offer.merkle_path)) last b in
+    let p : (told : Parts × ℕ) × (assembled_of_outputs (custom_terms offer) script ≡ Ok told) =
+    assembled-ok (assembled_of_outputs (custom_terms offer) script) c in
+    outputs-pay (custom_terms offer) script p.0 p.1
+
+pub token-pays : (script : List ℕ) (past : List Event) (offer : CustomData) (o : Option Granted) → with_token script past offer o ≡ None → IsMiners (FromMiner offer)
+token-pays script past offer None n = absurd (some-none n)
+token-pays script past offer (Some granted) n = tip-pays script granted offer (jobs_of past).tip n
+
+pub channel-pays : (script : List ℕ) (past : List Event) (offer : CustomData) (o : Option OpenChannel) → on_channel script past offer o ≡ None → IsMiners (FromMiner offer)
+channel-pays script past offer None n = absurd (some-none n)
+channel-pays script past offer (Some channel) n =
+    cond_both (is_extended channel.kind) (with_token script past offer (unspent past offer.token channel)) (Some custom_error.NotOpen)
+    (λ r. r ≡ None → IsMiners (FromMiner offer)) (λ t with. token-pays script past offer (unspent past offer.token channel) with)
+    (λ f none. absurd (some-none none)) n
+
+pub custom-none : (o : Option CustomError) → custom_cause o ≡ None → o ≡ None
+custom-none None n = refl
+custom-none (Some custom_error.NotOpen) n = absurd (some-none n)
+custom-none (Some custom_error.BadToken) n = absurd (some-none n)
+custom-none (Some custom_error.StaleTip) n = absurd (some-none n)
+custom-none (Some (custom_error.EarlyTime least)) n = absurd (some-none n)
+custom-none (Some (custom_error.BadPath entries)) n = absurd (some-none n)
+custom-none (Some (custom_error.Coinbase error)) n = absurd (some-none n)
+
+pub legal-custom : (past : List Event) (rules : Rules) (session : ℕ) (offer : CustomData) → rules_of past ≡ Some rules
+    → cause_of past (event.Custom session offer) ≡ None → IsMiners (FromMiner offer)
+legal-custom past rules session offer are n =
+    let u : IsUncaused past (event.Custom session offer) = uncaused past (event.Custom session offer) refl n in
+    channel-pays u.rules.pool_script past offer (own_channel past session offer.channel_id)
+    (custom-none (custom_refusal u.rules.pool_script past session offer)
+    (within-next selecting past session (custom_cause (custom_refusal u.rules.pool_script past session offer)) u.none))
 
 -- one more job
 pub fits-template : (script : List ℕ) (s : Standing) (job : Job) (future : Bool) → TemplateFits script job.source → JobsFit script s
@@ -127,6 +182,6 @@ jobs-fit (event.Template session template ∷ older) rules l are =
 jobs-fit (event.Tip session tip ∷ older) rules l are = fits-tip rules.pool_script (jobs_of older) tip (length older) (jobs-fit older rules l.0 are)
 jobs-fit (event.Custom session custom ∷ older) rules l are =
     let s : Standing = jobs_of older in
-    fits-custom rules.pool_script s (record { number = length s.all + 1; session = 0; live_at = length older; source = FromMiner custom }) custom.channel_id tt
+    fits-custom rules.pool_script s (record { number = length s.all + 1; session = 0; live_at = length older; source = FromMiner custom }) custom.channel_id (legal-custom older rules session custom are l.1)
     (jobs-fit older rules l.0 are)
 jobs-fit (e ∷ older) rules l are = jobs-fit older rules l.0 are

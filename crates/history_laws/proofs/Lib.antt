@@ -5,6 +5,7 @@ pub mod ChannelsFit
 pub mod Coinbases
 pub mod Counted
 pub mod Crediting
+pub mod CreditsFit
 pub mod Entrances
 pub mod Fronts
 pub mod Holding

@@ -57,11 +57,11 @@ pub job_note-fits : (rules : Rules) (min_ntime : Option ℕ) (job : Job) (source
 job_note-fits rules min_ntime job source (Single channel) is f = tt
 job_note-fits rules min_ntime job (FromTemplate template) (Rolling channel) is f =
     subst (λ s. NoteFits (job_note rules min_ntime (record job { source = s }) (Rolling channel))) (sym is)
-    (record { path_fits = let h : length template.merkle_path ≤ 255 = template.path_fits in omega (arith, h); prefix_fits = f.prefix; suffix_fits = f.suffix })
+    (record { path_fits = let h : length template.merkle_path ≤ 255 = template.path_fits in omega (arith, h); prefix_fits = f.0.prefix; suffix_fits = f.0.suffix })
 job_note-fits rules min_ntime job (FromMiner custom) (Rolling channel) is f = elim f [ ]
 job_note-fits rules min_ntime job (FromTemplate template) (Group group) is f =
     subst (λ s. NoteFits (job_note rules min_ntime (record job { source = s }) (Group group))) (sym is)
-    (record { path_fits = let h : length template.merkle_path ≤ 255 = template.path_fits in omega (arith, h); prefix_fits = f.prefix; suffix_fits = f.suffix })
+    (record { path_fits = let h : length template.merkle_path ≤ 255 = template.path_fits in omega (arith, h); prefix_fits = f.0.prefix; suffix_fits = f.0.suffix })
 job_note-fits rules min_ntime job (FromMiner custom) (Group group) is f = elim f [ ]
 
 -- an opening's news
@@ -154,7 +154,7 @@ solution-fits script session share with (FromTemplate template) (inl f) is twelv
     cond_both (nat_eq with.job.session session && is_block script with share) (solution script template.template_id share with ∷ []) [] (AllByRecursion NoteFits)
     (λ t. (
       subst (λ s. length (whole (job_parts s script) (extranonce_prefix with.channel.kind with.channel.lead ++ share.extranonce)) < 2 ^ 16)
-          (sym is) (f.whole_fits (extranonce_prefix with.channel.kind with.channel.lead ++ share.extranonce) twelve),
+          (sym is) (f.0.whole_fits (extranonce_prefix with.channel.kind with.channel.lead ++ share.extranonce) twelve),
       tt,
     ))
     (λ f. tt)

@@ -1,12 +1,13 @@
 -- What the credits of a legal history are (this project's own).
-use Rattle.std.specs.Prelude.{◌≡◌, ℕ, Some, Ok, List, [], ◌∷◌, ◌++◌, length, IsTrue}
+use Rattle.std.specs.Prelude.{◌<◌, ◌≤◌, ◌^◌, ◌≡◌, ℕ, Some, Ok, List, [], ◌∷◌, ◌++◌, length, IsTrue}
+use Rattle.std.specs.List.{AllByRecursion}
 use Rattle.block_header.specs.Hash.{dsha, meets}
 use Rattle.pool_history.specs.declared.events.Event.{Event}
 use Rattle.pool_history.specs.declared.events.Event.TheVariants as event
 use Rattle.pool_history.specs.declared.settings.Rules.{Rules}
 use Rattle.pool_history.specs.Accounts.{are_distinct}
 use Rattle.pool_history.specs.Channels.{channel_in, channels_of}
-use Rattle.pool_history.specs.Crediting.{booked, booked_with, booking, class_of_share, headers}
+use Rattle.pool_history.specs.Crediting.{Booked, booked, booked_with, booking, class_of_share, headers}
 use Rattle.pool_history.specs.Judging.{Admitted, Share, admitted, rebuilt}
 use Rattle.pool_history.specs.Legal.{Legal, is_standard_in}
 use Rattle.pool_history.specs.Sessions.{credits, past_of, rules_of}
@@ -52,3 +53,15 @@ pub record AreCounted (history : List Event) : Type 0 where
 -- so they are in each legal history
 abbrev pub NoShareTwice : Type 0
 NoShareTwice = (history : List Event) → Legal history → AreCounted history
+
+-- what a credit counts is in its ranges: an account of 1 to 255 bytes, a work of 1 to 2^60, and a reward below 2^40
+pub record BookedFits (credit : Booked) : Type 0 where
+  pub some : 1 ≤ length credit.account
+  pub short : length credit.account ≤ 255
+  pub least : 1 ≤ credit.work
+  pub most : credit.work ≤ 2 ^ 60
+  pub reward : (reward : ℕ) → credit.reward ≡ Some reward → reward < 2 ^ 40
+
+-- so it is of each credit of a legal history
+abbrev pub CreditsFit : Type 0
+CreditsFit = (history : List Event) → Legal history → AllByRecursion BookedFits (booked (past_of history))

@@ -1,6 +1,6 @@
 //! What the credits of a legal history are.
 
-ghost use Rattle.history_laws.specs.Credited.{CreditsAreBooked, NoShareTwice};
+ghost use Rattle.history_laws.specs.Credited.{CreditsAreBooked, CreditsFit, NoShareTwice};
 
 /// A credit was admitted with the channel, the job and the tip that it is booked with, its hash meets its class,
 /// and its header and its work are added to those of the earlier ones.
@@ -11,4 +11,10 @@ pub fn credits_are_booked()
 /// In a legal history no header is credited twice.
 pub fn no_share_twice()
     ensures { NoShareTwice }
+{}
+
+/// What a credit of a legal history counts is in its ranges: an account of 1 to 255 bytes, a work of 1 to 2^60, and
+/// a reward below 2^40.
+pub fn credits_fit()
+    ensures { CreditsFit }
 {}

@@ -17,7 +17,7 @@ pub use answers::{
     answers_fit, answers_keep_legality, credits_are_committed, shares_are_briefed,
     shares_are_judged,
 };
-pub use credited::{credits_are_booked, no_share_twice};
+pub use credited::{credits_are_booked, credits_fit, no_share_twice};
 pub use legality::{
     empty_is_legal, first_illegal_is_one, legal_histories_start, legality_by_places,
     legality_is_decided, one_more_is_legal, prefixes_are_legal, start_is_legal,
