@@ -1,0 +1,6 @@
+pub mod Answering
+pub mod Defects
+pub mod Lists
+pub mod Numbers
+pub mod Readable
+pub mod Steps

@@ -1,0 +1,13 @@
+use Rattle.std.proofs.Common.{refl, arith}
+use Rattle.sv2_types.specs.Fields.{U16, Number}
+use Rattle.sv2_types.specs.Spelling.{spelled_u16}
+use Rattle.sv2_messages.proofs.Steps.{passed, refused}
+use Rattle.sv2_messages.proofs.reading.FieldReader.u16.Goals as goal
+
+pub returns-in-Ok : goal.returns-in-Ok
+returns-in-Ok c =
+    passed U16 (Number c.in-Ok.value) (spelled_u16 c.in-Ok.value) _ _ _ _ _ _ _
+    (record { admits = omega arith; form = refl }) c.self.view_is c.new-reader.ensures c.in-Ok.ensures.spelled c.at.ensures c.pass.ensures
+
+pub returns-in-Err : goal.returns-in-Err
+returns-in-Err c = refused U16 _ _ _ _ _ c.self.view_is c.new-reader.ensures c.in-Err.ensures.refused

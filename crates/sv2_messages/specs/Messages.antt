@@ -1,0 +1,83 @@
+-- Messages as contracts see them, and what a payload of one is (Stratum V2, "Message Types").
+use Rattle.std.specs.Prelude.{◌≡◌, ◌==◌, ℕ, ◌<◌, ◌^◌, ◌&&◌, if◌then◌else◌, nat_lt, Option, None, Some, List, [], ◌∷◌, ◌++◌, length}
+use Rattle.sv2_types.specs.Fields.{FieldType, FieldValue, Admits, spelling, Spells}
+use Rattle.sv2_frames.specs.Framing.{frame_of, FrameFits}
+
+-- a message: its kind, and the values of its fields in their order
+pub record Message : Type 0 where
+  pub kind : ℕ
+  pub fields : List FieldValue
+
+-- a kind, and the types of its fields in their order
+pub record Row : Type 0 where
+  pub kind : ℕ
+  pub types : List FieldType
+
+-- the types of a kind's fields, where the table has the kind
+abbrev pub types_of : List Row → ℕ → Option (List FieldType)
+types_of [] kind = None
+types_of (row ∷ rows) kind = if row.kind == kind then Some row.types else types_of rows kind
+
+-- the bytes are spellings of values of these types, in this order, and nothing else
+abbrev pub AreSpelled : List FieldType → List FieldValue → List ℕ → Type 0
+AreSpelled [] [] bytes = bytes ≡ []
+AreSpelled (type ∷ types) (value ∷ values) bytes =
+    (first : List ℕ) × (more : List ℕ) × Spells type value first × (bytes ≡ first ++ more) × AreSpelled types values more
+AreSpelled _ _ bytes = ⊥
+
+-- the payload is spellings of the fields of this message, in their order, and nothing else
+pub record MsgOf (table : List Row) (kind : ℕ) (payload : List ℕ) (message : Message) : Type 0 where
+  pub same_kind : message.kind ≡ kind
+  pub types : List FieldType
+  pub row : types_of table kind ≡ Some types
+  pub spelled : AreSpelled types message.fields payload
+
+-- each value is one of its type
+abbrev pub AreAdmitted : List FieldType → List FieldValue → Type 0
+AreAdmitted [] [] = Unit {0}
+AreAdmitted (type ∷ types) (value ∷ values) = Admits type value × AreAdmitted types values
+AreAdmitted _ _ = ⊥
+
+-- the fields as they are written
+abbrev pub written : List FieldType → List FieldValue → List ℕ
+written (type ∷ types) (value ∷ values) = spelling type value ++ written types values
+written _ _ = []
+
+-- the values have spellings of these types, which a payload has room for
+pub record HaveSpelling (types : List FieldType) (values : List FieldValue) : Type 0 where
+  pub admitted : AreAdmitted types values
+  pub within : length (written types values) < 2 ^ 24
+
+-- the message can be written: its kind is in the table, and its fields have spellings that a payload has room for
+pub record Fits (table : List Row) (message : Message) : Type 0 where
+  pub types : List FieldType
+  pub row : types_of table message.kind ≡ Some types
+  pub fields : HaveSpelling types message.fields
+
+-- the extension type of a message's frame: the channel bit for the kinds 15 to 21, which name a channel first and are not part of opening one
+abbrev pub ext_of : ℕ → ℕ
+ext_of kind = if nat_lt 0x14 kind && nat_lt kind 0x22 then 0x8000 else 0
+
+-- the frame of fields
+abbrev pub frame_with : ℕ → List FieldType → List FieldValue → List ℕ
+frame_with kind types values = frame_of (ext_of kind) kind (written types values)
+
+-- the payload of a message of these types
+abbrev pub payload_by : Option (List FieldType) → Message → List ℕ
+payload_by None message = []
+payload_by (Some types) message = written types message.fields
+
+-- the payload and the frame that are written
+abbrev pub payload_of : List Row → Message → List ℕ
+payload_of table message = payload_by (types_of table message.kind) message
+
+abbrev pub message_frame : List Row → Message → List ℕ
+message_frame table message = frame_of (ext_of message.kind) message.kind (payload_of table message)
+
+-- a message that fits is written as a frame of a payload that is read as the same message
+pub record IsReadBack (table : List Row) (message : Message) : Type 0 where
+  pub frame : FrameFits (ext_of message.kind) message.kind (payload_of table message)
+  pub payload : MsgOf table message.kind (payload_of table message) message
+
+abbrev pub WrittenIsReadBack : Type 0
+WrittenIsReadBack = (table : List Row) (message : Message) → message.kind < 2 ^ 8 → Fits table message → IsReadBack table message
