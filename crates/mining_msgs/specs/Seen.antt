@@ -1,0 +1,125 @@
+-- The messages as contracts see them: their kinds and the values of their fields.
+use Rattle.std.specs.Prelude.{List, [], ◌∷◌}
+use Rattle.sv2_types.specs.Fields.{FieldValue, Number, Truth, Bytes, Perhaps, Parts}
+use Rattle.sv2_messages.specs.Messages.{Message}
+use Rattle.mining_msgs.specs.declared.setup.SetupConnection.{SetupConnection}
+use Rattle.mining_msgs.specs.declared.setup.SetupConnectionSuccess.{SetupConnectionSuccess}
+use Rattle.mining_msgs.specs.declared.setup.SetupConnectionError.{SetupConnectionError}
+use Rattle.mining_msgs.specs.declared.channels.OpenStandardMiningChannel.{OpenStandardMiningChannel}
+use Rattle.mining_msgs.specs.declared.channels.OpenStandardMiningChannelSuccess.{OpenStandardMiningChannelSuccess}
+use Rattle.mining_msgs.specs.declared.channels.OpenMiningChannelError.{OpenMiningChannelError}
+use Rattle.mining_msgs.specs.declared.channels.OpenExtendedMiningChannel.{OpenExtendedMiningChannel}
+use Rattle.mining_msgs.specs.declared.channels.OpenExtendedMiningChannelSuccess.{OpenExtendedMiningChannelSuccess}
+use Rattle.mining_msgs.specs.declared.channels.UpdateChannel.{UpdateChannel}
+use Rattle.mining_msgs.specs.declared.channels.UpdateChannelError.{UpdateChannelError}
+use Rattle.mining_msgs.specs.declared.channels.CloseChannel.{CloseChannel}
+use Rattle.mining_msgs.specs.declared.channels.SetExtranoncePrefix.{SetExtranoncePrefix}
+use Rattle.mining_msgs.specs.declared.channels.SetTarget.{SetTarget}
+use Rattle.mining_msgs.specs.declared.jobs.NewMiningJob.{NewMiningJob}
+use Rattle.mining_msgs.specs.declared.jobs.NewExtendedMiningJob.{NewExtendedMiningJob}
+use Rattle.mining_msgs.specs.declared.jobs.SetNewPrevHash.{SetNewPrevHash}
+use Rattle.mining_msgs.specs.declared.custom_jobs.SetCustomMiningJob.{SetCustomMiningJob}
+use Rattle.mining_msgs.specs.declared.custom_jobs.SetCustomMiningJobSuccess.{SetCustomMiningJobSuccess}
+use Rattle.mining_msgs.specs.declared.custom_jobs.SetCustomMiningJobError.{SetCustomMiningJobError}
+use Rattle.mining_msgs.specs.declared.shares.SubmitSharesStandard.{SubmitSharesStandard}
+use Rattle.mining_msgs.specs.declared.shares.SubmitSharesExtended.{SubmitSharesExtended}
+use Rattle.mining_msgs.specs.declared.shares.SubmitSharesSuccess.{SubmitSharesSuccess}
+use Rattle.mining_msgs.specs.declared.shares.SubmitSharesError.{SubmitSharesError}
+use Rattle.mining_msgs.specs.declared.message.Mining.{Mining}
+use Rattle.mining_msgs.specs.declared.message.Mining.TheVariants as messages
+
+-- the fields of each message, in their order
+abbrev pub setup_connection : SetupConnection → List FieldValue
+setup_connection m = Number m.protocol ∷ Number m.min_version ∷ Number m.max_version ∷ Number m.flags ∷ Bytes m.endpoint_host.now ∷ Number m.endpoint_port ∷ Bytes m.vendor.now ∷ Bytes m.hardware_version.now ∷ Bytes m.firmware.now ∷ Bytes m.device_id.now ∷ []
+
+abbrev pub setup_connection_success : SetupConnectionSuccess → List FieldValue
+setup_connection_success m = Number m.used_version ∷ Number m.flags ∷ []
+
+abbrev pub setup_connection_error : SetupConnectionError → List FieldValue
+setup_connection_error m = Number m.flags ∷ Bytes m.error_code.now ∷ []
+
+abbrev pub open_standard_mining_channel : OpenStandardMiningChannel → List FieldValue
+open_standard_mining_channel m = Number m.request_id ∷ Bytes m.user_identity.now ∷ Bytes m.nominal_hash_rate ∷ Bytes m.max_target ∷ []
+
+abbrev pub open_standard_mining_channel_success : OpenStandardMiningChannelSuccess → List FieldValue
+open_standard_mining_channel_success m = Number m.request_id ∷ Number m.channel_id ∷ Bytes m.target ∷ Bytes m.extranonce_prefix.now ∷ Number m.group_channel_id ∷ []
+
+abbrev pub open_mining_channel_error : OpenMiningChannelError → List FieldValue
+open_mining_channel_error m = Number m.request_id ∷ Bytes m.error_code.now ∷ []
+
+abbrev pub open_extended_mining_channel : OpenExtendedMiningChannel → List FieldValue
+open_extended_mining_channel m = Number m.request_id ∷ Bytes m.user_identity.now ∷ Bytes m.nominal_hash_rate ∷ Bytes m.max_target ∷ Number m.min_extranonce_size ∷ []
+
+abbrev pub open_extended_mining_channel_success : OpenExtendedMiningChannelSuccess → List FieldValue
+open_extended_mining_channel_success m = Number m.request_id ∷ Number m.channel_id ∷ Bytes m.target ∷ Number m.extranonce_size ∷ Bytes m.extranonce_prefix.now ∷ []
+
+abbrev pub new_mining_job : NewMiningJob → List FieldValue
+new_mining_job m = Number m.channel_id ∷ Number m.job_id ∷ Perhaps m.min_ntime ∷ Number m.version ∷ Bytes m.merkle_root ∷ []
+
+abbrev pub update_channel : UpdateChannel → List FieldValue
+update_channel m = Number m.channel_id ∷ Bytes m.nominal_hash_rate ∷ Bytes m.maximum_target ∷ []
+
+abbrev pub update_channel_error : UpdateChannelError → List FieldValue
+update_channel_error m = Number m.channel_id ∷ Bytes m.error_code.now ∷ []
+
+abbrev pub close_channel : CloseChannel → List FieldValue
+close_channel m = Number m.channel_id ∷ Bytes m.reason_code.now ∷ []
+
+abbrev pub set_extranonce_prefix : SetExtranoncePrefix → List FieldValue
+set_extranonce_prefix m = Number m.channel_id ∷ Bytes m.extranonce_prefix.now ∷ []
+
+abbrev pub submit_shares_standard : SubmitSharesStandard → List FieldValue
+submit_shares_standard m = Number m.channel_id ∷ Number m.sequence_number ∷ Number m.job_id ∷ Number m.nonce ∷ Number m.ntime ∷ Number m.version ∷ []
+
+abbrev pub submit_shares_extended : SubmitSharesExtended → List FieldValue
+submit_shares_extended m = Number m.channel_id ∷ Number m.sequence_number ∷ Number m.job_id ∷ Number m.nonce ∷ Number m.ntime ∷ Number m.version ∷ Bytes m.extranonce.now ∷ []
+
+abbrev pub submit_shares_success : SubmitSharesSuccess → List FieldValue
+submit_shares_success m = Number m.channel_id ∷ Number m.last_sequence_number ∷ Number m.new_submits_accepted_count ∷ Number m.new_shares_sum ∷ []
+
+abbrev pub submit_shares_error : SubmitSharesError → List FieldValue
+submit_shares_error m = Number m.channel_id ∷ Number m.sequence_number ∷ Bytes m.error_code.now ∷ []
+
+abbrev pub new_extended_mining_job : NewExtendedMiningJob → List FieldValue
+new_extended_mining_job m = Number m.channel_id ∷ Number m.job_id ∷ Perhaps m.min_ntime ∷ Number m.version ∷ Truth m.version_rolling_allowed ∷ Parts m.merkle_path.items.now ∷ Bytes m.coinbase_tx_prefix.now ∷ Bytes m.coinbase_tx_suffix.now ∷ []
+
+abbrev pub set_new_prev_hash : SetNewPrevHash → List FieldValue
+set_new_prev_hash m = Number m.channel_id ∷ Number m.job_id ∷ Bytes m.prev_hash ∷ Number m.min_ntime ∷ Number m.nbits ∷ []
+
+abbrev pub set_target : SetTarget → List FieldValue
+set_target m = Number m.channel_id ∷ Bytes m.maximum_target ∷ []
+
+abbrev pub set_custom_mining_job : SetCustomMiningJob → List FieldValue
+set_custom_mining_job m = Number m.channel_id ∷ Number m.request_id ∷ Bytes m.token.now ∷ Number m.version ∷ Bytes m.prev_hash ∷ Number m.min_ntime ∷ Number m.nbits ∷ Number m.coinbase_tx_version ∷ Bytes m.coinbase_prefix.now ∷ Number m.coinbase_tx_input_sequence ∷ Bytes m.coinbase_tx_outputs.now ∷ Number m.coinbase_tx_locktime ∷ Parts m.merkle_path.items.now ∷ []
+
+abbrev pub set_custom_mining_job_success : SetCustomMiningJobSuccess → List FieldValue
+set_custom_mining_job_success m = Number m.channel_id ∷ Number m.request_id ∷ Number m.job_id ∷ []
+
+abbrev pub set_custom_mining_job_error : SetCustomMiningJobError → List FieldValue
+set_custom_mining_job_error m = Number m.channel_id ∷ Number m.request_id ∷ Bytes m.error_code.now ∷ []
+
+-- a message is its kind and its fields
+abbrev pub seen : Mining → Message
+seen (messages.SetupConnection m) = record { kind = 0x00; fields = setup_connection m }
+seen (messages.SetupConnectionSuccess m) = record { kind = 0x01; fields = setup_connection_success m }
+seen (messages.SetupConnectionError m) = record { kind = 0x02; fields = setup_connection_error m }
+seen (messages.OpenStandardMiningChannel m) = record { kind = 0x10; fields = open_standard_mining_channel m }
+seen (messages.OpenStandardMiningChannelSuccess m) = record { kind = 0x11; fields = open_standard_mining_channel_success m }
+seen (messages.OpenMiningChannelError m) = record { kind = 0x12; fields = open_mining_channel_error m }
+seen (messages.OpenExtendedMiningChannel m) = record { kind = 0x13; fields = open_extended_mining_channel m }
+seen (messages.OpenExtendedMiningChannelSuccess m) = record { kind = 0x14; fields = open_extended_mining_channel_success m }
+seen (messages.NewMiningJob m) = record { kind = 0x15; fields = new_mining_job m }
+seen (messages.UpdateChannel m) = record { kind = 0x16; fields = update_channel m }
+seen (messages.UpdateChannelError m) = record { kind = 0x17; fields = update_channel_error m }
+seen (messages.CloseChannel m) = record { kind = 0x18; fields = close_channel m }
+seen (messages.SetExtranoncePrefix m) = record { kind = 0x19; fields = set_extranonce_prefix m }
+seen (messages.SubmitSharesStandard m) = record { kind = 0x1a; fields = submit_shares_standard m }
+seen (messages.SubmitSharesExtended m) = record { kind = 0x1b; fields = submit_shares_extended m }
+seen (messages.SubmitSharesSuccess m) = record { kind = 0x1c; fields = submit_shares_success m }
+seen (messages.SubmitSharesError m) = record { kind = 0x1d; fields = submit_shares_error m }
+seen (messages.NewExtendedMiningJob m) = record { kind = 0x1f; fields = new_extended_mining_job m }
+seen (messages.SetNewPrevHash m) = record { kind = 0x20; fields = set_new_prev_hash m }
+seen (messages.SetTarget m) = record { kind = 0x21; fields = set_target m }
+seen (messages.SetCustomMiningJob m) = record { kind = 0x22; fields = set_custom_mining_job m }
+seen (messages.SetCustomMiningJobSuccess m) = record { kind = 0x23; fields = set_custom_mining_job_success m }
+seen (messages.SetCustomMiningJobError m) = record { kind = 0x24; fields = set_custom_mining_job_error m }

@@ -1,0 +1,373 @@
+//! The messages that open, change and close a channel.
+
+ghost use Rattle.std.specs.Prelude.{◌≡◌};
+ghost use Rattle.sv2_messages.specs.Tables.{mining};
+ghost use Rattle.sv2_messages.specs.Reading.{Gives, values_of};
+ghost use Rattle.sv2_messages.specs.Writing.{AreFields};
+ghost use Rattle.mining_msgs.specs.Seen.{seen, open_standard_mining_channel, open_standard_mining_channel_success, open_mining_channel_error, open_extended_mining_channel, open_extended_mining_channel_success, update_channel, update_channel_error, close_channel, set_extranonce_prefix, set_target};
+
+use crate::message::Mining;
+use sv2_messages::{Field, FieldReader, MsgError};
+use sv2_types::U256;
+
+/// Asks for a channel on which the miner rolls the header alone (Stratum V2, "OpenStandardMiningChannel").
+#[derive(Clone, Copy, Debug, PartialEq, Eq)]
+pub struct OpenStandardMiningChannel<'a> {
+    pub request_id: u32,
+    pub user_identity: &'a str,
+    /// Hashes a second, as the bytes of a float that is carried and never read as a number.
+    pub nominal_hash_rate: [u8; 4],
+    /// The greatest target that the miner takes.
+    pub max_target: U256,
+}
+
+impl OpenStandardMiningChannel<'_> {
+    /// The fields in their order.
+    pub(crate) fn fields(&self) -> [Field<'_>; 4]
+        ensures { AreFields mining (record { kind = 0x10; fields = open_standard_mining_channel self.now }) result }
+    {
+        [
+            Field::U32(self.request_id),
+            Field::Str255(self.user_identity),
+            Field::F32(self.nominal_hash_rate),
+            Field::U256(self.max_target),
+        ]
+    }
+}
+
+#[tactic(auto, unfolding(sv2_messages::specs::Reading::values_of))]
+pub(crate) fn read_open_standard_mining_channel<'a>(
+    payload: &'a [u8],
+) -> Result<Mining<'a>, MsgError>
+    ensures { Gives seen result 0x10 (values_of mining 0x10 payload.now) }
+{
+    let mut fields = FieldReader::new(payload);
+    let message = OpenStandardMiningChannel {
+        request_id: fields.u32()?,
+        user_identity: fields.str255()?,
+        nominal_hash_rate: fields.f32_bytes()?,
+        max_target: fields.u256()?,
+    };
+    fields.end()?;
+    Ok(Mining::OpenStandardMiningChannel(message))
+}
+
+/// Opens it (Stratum V2, "OpenStandardMiningChannel.Success").
+#[derive(Clone, Copy, Debug, PartialEq, Eq)]
+pub struct OpenStandardMiningChannelSuccess<'a> {
+    pub request_id: u32,
+    pub channel_id: u32,
+    pub target: U256,
+    pub extranonce_prefix: &'a [u8],
+    pub group_channel_id: u32,
+}
+
+impl OpenStandardMiningChannelSuccess<'_> {
+    /// The fields in their order.
+    pub(crate) fn fields(&self) -> [Field<'_>; 5]
+        ensures { AreFields mining (record { kind = 0x11; fields = open_standard_mining_channel_success self.now }) result }
+    {
+        [
+            Field::U32(self.request_id),
+            Field::U32(self.channel_id),
+            Field::U256(self.target),
+            Field::B32(self.extranonce_prefix),
+            Field::U32(self.group_channel_id),
+        ]
+    }
+}
+
+#[tactic(auto, unfolding(sv2_messages::specs::Reading::values_of))]
+pub(crate) fn read_open_standard_mining_channel_success<'a>(
+    payload: &'a [u8],
+) -> Result<Mining<'a>, MsgError>
+    ensures { Gives seen result 0x11 (values_of mining 0x11 payload.now) }
+{
+    let mut fields = FieldReader::new(payload);
+    let message = OpenStandardMiningChannelSuccess {
+        request_id: fields.u32()?,
+        channel_id: fields.u32()?,
+        target: fields.u256()?,
+        extranonce_prefix: fields.b32()?,
+        group_channel_id: fields.u32()?,
+    };
+    fields.end()?;
+    Ok(Mining::OpenStandardMiningChannelSuccess(message))
+}
+
+/// Opens no channel of either kind (Stratum V2, "OpenMiningChannel.Error").
+#[derive(Clone, Copy, Debug, PartialEq, Eq)]
+pub struct OpenMiningChannelError<'a> {
+    pub request_id: u32,
+    pub error_code: &'a str,
+}
+
+impl OpenMiningChannelError<'_> {
+    /// The fields in their order.
+    pub(crate) fn fields(&self) -> [Field<'_>; 2]
+        ensures { AreFields mining (record { kind = 0x12; fields = open_mining_channel_error self.now }) result }
+    {
+        [Field::U32(self.request_id), Field::Str255(self.error_code)]
+    }
+}
+
+#[tactic(auto, unfolding(sv2_messages::specs::Reading::values_of))]
+pub(crate) fn read_open_mining_channel_error<'a>(payload: &'a [u8]) -> Result<Mining<'a>, MsgError>
+    ensures { Gives seen result 0x12 (values_of mining 0x12 payload.now) }
+{
+    let mut fields = FieldReader::new(payload);
+    let message = OpenMiningChannelError {
+        request_id: fields.u32()?,
+        error_code: fields.str255()?,
+    };
+    fields.end()?;
+    Ok(Mining::OpenMiningChannelError(message))
+}
+
+/// Asks for a channel on which the miner rolls the coinbase too (Stratum V2, "OpenExtendedMiningChannel").
+#[derive(Clone, Copy, Debug, PartialEq, Eq)]
+pub struct OpenExtendedMiningChannel<'a> {
+    pub request_id: u32,
+    pub user_identity: &'a str,
+    /// Hashes a second, as the bytes of a float that is carried and never read as a number.
+    pub nominal_hash_rate: [u8; 4],
+    /// The greatest target that the miner takes.
+    pub max_target: U256,
+    /// Bytes that the miner wants to roll at least.
+    pub min_extranonce_size: u16,
+}
+
+impl OpenExtendedMiningChannel<'_> {
+    /// The fields in their order.
+    pub(crate) fn fields(&self) -> [Field<'_>; 5]
+        ensures { AreFields mining (record { kind = 0x13; fields = open_extended_mining_channel self.now }) result }
+    {
+        [
+            Field::U32(self.request_id),
+            Field::Str255(self.user_identity),
+            Field::F32(self.nominal_hash_rate),
+            Field::U256(self.max_target),
+            Field::U16(self.min_extranonce_size),
+        ]
+    }
+}
+
+#[tactic(auto, unfolding(sv2_messages::specs::Reading::values_of))]
+pub(crate) fn read_open_extended_mining_channel<'a>(
+    payload: &'a [u8],
+) -> Result<Mining<'a>, MsgError>
+    ensures { Gives seen result 0x13 (values_of mining 0x13 payload.now) }
+{
+    let mut fields = FieldReader::new(payload);
+    let message = OpenExtendedMiningChannel {
+        request_id: fields.u32()?,
+        user_identity: fields.str255()?,
+        nominal_hash_rate: fields.f32_bytes()?,
+        max_target: fields.u256()?,
+        min_extranonce_size: fields.u16()?,
+    };
+    fields.end()?;
+    Ok(Mining::OpenExtendedMiningChannel(message))
+}
+
+/// Opens it (Stratum V2, "OpenExtendedMiningChannel.Success").
+#[derive(Clone, Copy, Debug, PartialEq, Eq)]
+pub struct OpenExtendedMiningChannelSuccess<'a> {
+    pub request_id: u32,
+    pub channel_id: u32,
+    pub target: U256,
+    /// Bytes that the miner rolls.
+    pub extranonce_size: u16,
+    pub extranonce_prefix: &'a [u8],
+}
+
+impl OpenExtendedMiningChannelSuccess<'_> {
+    /// The fields in their order.
+    pub(crate) fn fields(&self) -> [Field<'_>; 5]
+        ensures { AreFields mining (record { kind = 0x14; fields = open_extended_mining_channel_success self.now }) result }
+    {
+        [
+            Field::U32(self.request_id),
+            Field::U32(self.channel_id),
+            Field::U256(self.target),
+            Field::U16(self.extranonce_size),
+            Field::B32(self.extranonce_prefix),
+        ]
+    }
+}
+
+#[tactic(auto, unfolding(sv2_messages::specs::Reading::values_of))]
+pub(crate) fn read_open_extended_mining_channel_success<'a>(
+    payload: &'a [u8],
+) -> Result<Mining<'a>, MsgError>
+    ensures { Gives seen result 0x14 (values_of mining 0x14 payload.now) }
+{
+    let mut fields = FieldReader::new(payload);
+    let message = OpenExtendedMiningChannelSuccess {
+        request_id: fields.u32()?,
+        channel_id: fields.u32()?,
+        target: fields.u256()?,
+        extranonce_size: fields.u16()?,
+        extranonce_prefix: fields.b32()?,
+    };
+    fields.end()?;
+    Ok(Mining::OpenExtendedMiningChannelSuccess(message))
+}
+
+/// Tells another hash rate and asks for another target (Stratum V2, "UpdateChannel").
+#[derive(Clone, Copy, Debug, PartialEq, Eq)]
+pub struct UpdateChannel {
+    pub channel_id: u32,
+    /// Hashes a second, as the bytes of a float that is carried and never read as a number.
+    pub nominal_hash_rate: [u8; 4],
+    pub maximum_target: U256,
+}
+
+impl UpdateChannel {
+    /// The fields in their order.
+    pub(crate) fn fields(&self) -> [Field<'_>; 3]
+        ensures { AreFields mining (record { kind = 0x16; fields = update_channel self.now }) result }
+    {
+        [
+            Field::U32(self.channel_id),
+            Field::F32(self.nominal_hash_rate),
+            Field::U256(self.maximum_target),
+        ]
+    }
+}
+
+#[tactic(auto, unfolding(sv2_messages::specs::Reading::values_of))]
+pub(crate) fn read_update_channel<'a>(payload: &'a [u8]) -> Result<Mining<'a>, MsgError>
+    ensures { Gives seen result 0x16 (values_of mining 0x16 payload.now) }
+{
+    let mut fields = FieldReader::new(payload);
+    let message = UpdateChannel {
+        channel_id: fields.u32()?,
+        nominal_hash_rate: fields.f32_bytes()?,
+        maximum_target: fields.u256()?,
+    };
+    fields.end()?;
+    Ok(Mining::UpdateChannel(message))
+}
+
+/// Changes nothing (Stratum V2, "UpdateChannel.Error").
+#[derive(Clone, Copy, Debug, PartialEq, Eq)]
+pub struct UpdateChannelError<'a> {
+    pub channel_id: u32,
+    pub error_code: &'a str,
+}
+
+impl UpdateChannelError<'_> {
+    /// The fields in their order.
+    pub(crate) fn fields(&self) -> [Field<'_>; 2]
+        ensures { AreFields mining (record { kind = 0x17; fields = update_channel_error self.now }) result }
+    {
+        [Field::U32(self.channel_id), Field::Str255(self.error_code)]
+    }
+}
+
+#[tactic(auto, unfolding(sv2_messages::specs::Reading::values_of))]
+pub(crate) fn read_update_channel_error<'a>(payload: &'a [u8]) -> Result<Mining<'a>, MsgError>
+    ensures { Gives seen result 0x17 (values_of mining 0x17 payload.now) }
+{
+    let mut fields = FieldReader::new(payload);
+    let message = UpdateChannelError {
+        channel_id: fields.u32()?,
+        error_code: fields.str255()?,
+    };
+    fields.end()?;
+    Ok(Mining::UpdateChannelError(message))
+}
+
+/// Ends a channel (Stratum V2, "CloseChannel").
+#[derive(Clone, Copy, Debug, PartialEq, Eq)]
+pub struct CloseChannel<'a> {
+    pub channel_id: u32,
+    pub reason_code: &'a str,
+}
+
+impl CloseChannel<'_> {
+    /// The fields in their order.
+    pub(crate) fn fields(&self) -> [Field<'_>; 2]
+        ensures { AreFields mining (record { kind = 0x18; fields = close_channel self.now }) result }
+    {
+        [Field::U32(self.channel_id), Field::Str255(self.reason_code)]
+    }
+}
+
+#[tactic(auto, unfolding(sv2_messages::specs::Reading::values_of))]
+pub(crate) fn read_close_channel<'a>(payload: &'a [u8]) -> Result<Mining<'a>, MsgError>
+    ensures { Gives seen result 0x18 (values_of mining 0x18 payload.now) }
+{
+    let mut fields = FieldReader::new(payload);
+    let message = CloseChannel {
+        channel_id: fields.u32()?,
+        reason_code: fields.str255()?,
+    };
+    fields.end()?;
+    Ok(Mining::CloseChannel(message))
+}
+
+/// Gives a channel another prefix (Stratum V2, "SetExtranoncePrefix").
+#[derive(Clone, Copy, Debug, PartialEq, Eq)]
+pub struct SetExtranoncePrefix<'a> {
+    pub channel_id: u32,
+    pub extranonce_prefix: &'a [u8],
+}
+
+impl SetExtranoncePrefix<'_> {
+    /// The fields in their order.
+    pub(crate) fn fields(&self) -> [Field<'_>; 2]
+        ensures { AreFields mining (record { kind = 0x19; fields = set_extranonce_prefix self.now }) result }
+    {
+        [
+            Field::U32(self.channel_id),
+            Field::B32(self.extranonce_prefix),
+        ]
+    }
+}
+
+#[tactic(auto, unfolding(sv2_messages::specs::Reading::values_of))]
+pub(crate) fn read_set_extranonce_prefix<'a>(payload: &'a [u8]) -> Result<Mining<'a>, MsgError>
+    ensures { Gives seen result 0x19 (values_of mining 0x19 payload.now) }
+{
+    let mut fields = FieldReader::new(payload);
+    let message = SetExtranoncePrefix {
+        channel_id: fields.u32()?,
+        extranonce_prefix: fields.b32()?,
+    };
+    fields.end()?;
+    Ok(Mining::SetExtranoncePrefix(message))
+}
+
+/// Gives a channel another target (Stratum V2, "SetTarget").
+#[derive(Clone, Copy, Debug, PartialEq, Eq)]
+pub struct SetTarget {
+    pub channel_id: u32,
+    pub maximum_target: U256,
+}
+
+impl SetTarget {
+    /// The fields in their order.
+    pub(crate) fn fields(&self) -> [Field<'_>; 2]
+        ensures { AreFields mining (record { kind = 0x21; fields = set_target self.now }) result }
+    {
+        [
+            Field::U32(self.channel_id),
+            Field::U256(self.maximum_target),
+        ]
+    }
+}
+
+#[tactic(auto, unfolding(sv2_messages::specs::Reading::values_of))]
+pub(crate) fn read_set_target<'a>(payload: &'a [u8]) -> Result<Mining<'a>, MsgError>
+    ensures { Gives seen result 0x21 (values_of mining 0x21 payload.now) }
+{
+    let mut fields = FieldReader::new(payload);
+    let message = SetTarget {
+        channel_id: fields.u32()?,
+        maximum_target: fields.u256()?,
+    };
+    fields.end()?;
+    Ok(Mining::SetTarget(message))
+}
