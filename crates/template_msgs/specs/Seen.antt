@@ -1,0 +1,46 @@
+-- The messages as contracts see them: their kinds and the values of their fields.
+use Rattle.std.specs.Prelude.{List, [], ◌∷◌}
+use Rattle.sv2_types.specs.Fields.{FieldValue, Number, Truth, Bytes, Parts}
+use Rattle.sv2_types.specs.Reading.{parts_at}
+use Rattle.sv2_messages.specs.Messages.{Message}
+use Rattle.template_msgs.specs.declared.templates.CoinbaseOutputConstraints.{CoinbaseOutputConstraints}
+use Rattle.template_msgs.specs.declared.templates.NewTemplate.{NewTemplate}
+use Rattle.template_msgs.specs.declared.templates.SetNewPrevHash.{SetNewPrevHash}
+use Rattle.template_msgs.specs.declared.templates.SubmitSolution.{SubmitSolution}
+use Rattle.template_msgs.specs.declared.transactions.RequestTransactionData.{RequestTransactionData}
+use Rattle.template_msgs.specs.declared.transactions.RequestTransactionDataSuccess.{RequestTransactionDataSuccess}
+use Rattle.template_msgs.specs.declared.transactions.RequestTransactionDataError.{RequestTransactionDataError}
+use Rattle.template_msgs.specs.declared.message.Template.{Template}
+use Rattle.template_msgs.specs.declared.message.Template.TheVariants as messages
+
+-- the fields of each message, in their order
+abbrev pub coinbase_output_constraints : CoinbaseOutputConstraints → List FieldValue
+coinbase_output_constraints m = Number m.max_additional_size ∷ Number m.max_additional_sigops ∷ []
+
+abbrev pub new_template : NewTemplate → List FieldValue
+new_template m = Number m.template_id ∷ Truth m.future_template ∷ Number m.version ∷ Number m.coinbase_tx_version ∷ Bytes m.coinbase_prefix.now ∷ Number m.coinbase_tx_input_sequence ∷ Number m.coinbase_tx_value_remaining ∷ Number m.coinbase_tx_outputs_count ∷ Bytes m.coinbase_tx_outputs.now ∷ Number m.coinbase_tx_locktime ∷ Parts m.merkle_path.items.now ∷ []
+
+abbrev pub set_new_prev_hash : SetNewPrevHash → List FieldValue
+set_new_prev_hash m = Number m.template_id ∷ Bytes m.prev_hash ∷ Number m.header_timestamp ∷ Number m.nbits ∷ Bytes m.target ∷ []
+
+abbrev pub request_transaction_data : RequestTransactionData → List FieldValue
+request_transaction_data m = Number m.template_id ∷ []
+
+abbrev pub request_transaction_data_success : RequestTransactionDataSuccess → List FieldValue
+request_transaction_data_success m = Number m.template_id ∷ Bytes m.excess_data.now ∷ Parts (parts_at m.transaction_list.count m.transaction_list.spelled.now) ∷ []
+
+abbrev pub request_transaction_data_error : RequestTransactionDataError → List FieldValue
+request_transaction_data_error m = Number m.template_id ∷ Bytes m.error_code.now ∷ []
+
+abbrev pub submit_solution : SubmitSolution → List FieldValue
+submit_solution m = Number m.template_id ∷ Number m.version ∷ Number m.header_timestamp ∷ Number m.header_nonce ∷ Bytes m.coinbase_tx.now ∷ []
+
+-- a message is its kind and its fields
+abbrev pub seen : Template → Message
+seen (messages.CoinbaseOutputConstraints m) = record { kind = 0x70; fields = coinbase_output_constraints m }
+seen (messages.NewTemplate m) = record { kind = 0x71; fields = new_template m }
+seen (messages.SetNewPrevHash m) = record { kind = 0x72; fields = set_new_prev_hash m }
+seen (messages.RequestTransactionData m) = record { kind = 0x73; fields = request_transaction_data m }
+seen (messages.RequestTransactionDataSuccess m) = record { kind = 0x74; fields = request_transaction_data_success m }
+seen (messages.RequestTransactionDataError m) = record { kind = 0x75; fields = request_transaction_data_error m }
+seen (messages.SubmitSolution m) = record { kind = 0x76; fields = submit_solution m }

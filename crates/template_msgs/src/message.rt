@@ -1,0 +1,83 @@
+//! The messages as one type.
+
+ghost use Rattle.std.specs.Prelude.{◌≡◌, ◌↔◌, ◌++◌, IsTrue, OnOk, OnErr};
+ghost use Rattle.sv2_messages.specs.Messages.{Fits, message_frame};
+ghost use Rattle.sv2_messages.specs.Tables.{template};
+ghost use Rattle.template_msgs.specs.Seen.{seen};
+
+use crate::templates::{CoinbaseOutputConstraints, NewTemplate, SetNewPrevHash, SubmitSolution};
+use crate::transactions::{
+    RequestTransactionData, RequestTransactionDataError, RequestTransactionDataSuccess,
+};
+use std::alloc::AllocError;
+use sv2_messages::{fits, put_frame};
+
+/// A message of the template distribution protocol.
+#[derive(Clone, Copy, Debug, PartialEq, Eq)]
+pub enum Template<'a> {
+    CoinbaseOutputConstraints(CoinbaseOutputConstraints),
+    NewTemplate(NewTemplate<'a>),
+    SetNewPrevHash(SetNewPrevHash),
+    RequestTransactionData(RequestTransactionData),
+    RequestTransactionDataSuccess(RequestTransactionDataSuccess<'a>),
+    RequestTransactionDataError(RequestTransactionDataError<'a>),
+    SubmitSolution(SubmitSolution<'a>),
+}
+
+impl Template<'_> {
+    /// The message type of its frame.
+    pub fn kind(&self) -> u8
+        ensures { result ≡ (seen self.now).kind }
+    {
+        match self {
+            Template::CoinbaseOutputConstraints(_) => 0x70,
+            Template::NewTemplate(_) => 0x71,
+            Template::SetNewPrevHash(_) => 0x72,
+            Template::RequestTransactionData(_) => 0x73,
+            Template::RequestTransactionDataSuccess(_) => 0x74,
+            Template::RequestTransactionDataError(_) => 0x75,
+            Template::SubmitSolution(_) => 0x76,
+        }
+    }
+
+    /// Whether each field has a spelling of its type, and the payload fewer than 2^24 bytes.
+    pub fn fits(&self) -> bool
+        ensures { IsTrue result ↔ Fits template (seen self.now) }
+    {
+        match self {
+            Template::CoinbaseOutputConstraints(message) => fits(&message.fields()),
+            Template::NewTemplate(message) => fits(&message.fields()),
+            Template::SetNewPrevHash(message) => fits(&message.fields()),
+            Template::RequestTransactionData(message) => fits(&message.fields()),
+            Template::RequestTransactionDataSuccess(message) => fits(&message.fields()),
+            Template::RequestTransactionDataError(message) => fits(&message.fields()),
+            Template::SubmitSolution(message) => fits(&message.fields()),
+        }
+    }
+
+    /// Appends the whole frame, or nothing where memory runs out.
+    pub fn frame(&self, out: &mut Vec<u8>) -> Result<(), AllocError>
+        requires { Fits template (seen self.now) }
+        ensures ok { OnOk result (out.new.items ≡ out.old.items ++ message_frame template (seen self.now)) }
+        ensures err { OnErr result (out.new.items ≡ out.old.items) }
+    {
+        let kind = self.kind();
+        match self {
+            Template::CoinbaseOutputConstraints(message) => put_frame(out, kind, &message.fields()),
+            Template::NewTemplate(message) => put_frame(out, kind, &message.fields()),
+            Template::SetNewPrevHash(message) => put_frame(out, kind, &message.fields()),
+            Template::RequestTransactionData(message) => put_frame(out, kind, &message.fields()),
+            Template::RequestTransactionDataSuccess(message) => put_frame(
+                out,
+                kind,
+                &message.fields(),
+            ),
+            Template::RequestTransactionDataError(message) => put_frame(
+                out,
+                kind,
+                &message.fields(),
+            ),
+            Template::SubmitSolution(message) => put_frame(out, kind, &message.fields()),
+        }
+    }
+}

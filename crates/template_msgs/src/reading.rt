@@ -1,0 +1,46 @@
+//! Reads a message from its kind and its payload.
+
+ghost use Rattle.std.specs.Prelude.{◌≡◌, ◌↔◌, IfOk, IsOkAnd, IsErrOf};
+ghost use Rattle.sv2_messages.specs.declared.error.MsgError.{MsgError};
+ghost use Rattle.sv2_messages.specs.Messages.{Message, MsgOf};
+ghost use Rattle.sv2_messages.specs.Reading.{Gives, values_of, IsFirstDefect};
+ghost use Rattle.sv2_messages.specs.Tables.{template};
+ghost use Rattle.template_msgs.specs.Seen.{seen};
+
+use crate::message::Template;
+use crate::templates::{
+    read_coinbase_output_constraints, read_new_template, read_set_new_prev_hash,
+    read_submit_solution,
+};
+use crate::transactions::{
+    read_request_transaction_data, read_request_transaction_data_error,
+    read_request_transaction_data_success,
+};
+use sv2_messages::MsgError;
+
+/// Reads a message. What it gives borrows the payload; it takes no memory.
+pub fn read<'a>(kind: u8, payload: &'a [u8]) -> Result<Template<'a>, MsgError>
+    // What is read is the payload's message.
+    ensures found { IfOk result (λ m. MsgOf template kind payload.now (seen m)) }
+    // A payload that is a message's is read as it.
+    ensures only { (m : Message) → MsgOf template kind payload.now m → IsOkAnd result (λ read. seen read ≡ m) }
+    // Else it is the first defect.
+    ensures refused { (e : MsgError) → IsErrOf result e ↔ IsFirstDefect template kind payload.now e }
+{
+    read_by_kind(kind, payload)
+}
+
+fn read_by_kind<'a>(kind: u8, payload: &'a [u8]) -> Result<Template<'a>, MsgError>
+    ensures { Gives seen result kind (values_of template kind payload.now) }
+{
+    match kind {
+        0x70 => read_coinbase_output_constraints(payload),
+        0x71 => read_new_template(payload),
+        0x72 => read_set_new_prev_hash(payload),
+        0x73 => read_request_transaction_data(payload),
+        0x74 => read_request_transaction_data_success(payload),
+        0x75 => read_request_transaction_data_error(payload),
+        0x76 => read_submit_solution(payload),
+        _ => Err(MsgError::UnknownKind(kind)),
+    }
+}
