@@ -1,0 +1,46 @@
+//! Reads a message from its kind and its payload.
+
+ghost use Rattle.std.specs.Prelude.{◌≡◌, ◌↔◌, IfOk, IsOkAnd, IsErrOf};
+ghost use Rattle.sv2_messages.specs.declared.error.MsgError.{MsgError};
+ghost use Rattle.sv2_messages.specs.Messages.{Message, MsgOf};
+ghost use Rattle.sv2_messages.specs.Reading.{Gives, values_of, IsFirstDefect};
+ghost use Rattle.sv2_messages.specs.Tables.{declare};
+ghost use Rattle.declare_msgs.specs.Seen.{seen};
+
+use crate::declarations::{
+    read_declare_mining_job, read_declare_mining_job_error, read_declare_mining_job_success,
+    read_provide_missing_transactions, read_provide_missing_transactions_success,
+};
+use crate::message::Declare;
+use crate::tokens::{
+    read_allocate_mining_job_token, read_allocate_mining_job_token_success, read_push_solution,
+};
+use sv2_messages::MsgError;
+
+/// Reads a message. What it gives borrows the payload; it takes no memory.
+pub fn read<'a>(kind: u8, payload: &'a [u8]) -> Result<Declare<'a>, MsgError>
+    // What is read is the payload's message.
+    ensures found { IfOk result (λ m. MsgOf declare kind payload.now (seen m)) }
+    // A payload that is a message's is read as it.
+    ensures only { (m : Message) → MsgOf declare kind payload.now m → IsOkAnd result (λ read. seen read ≡ m) }
+    // Else it is the first defect.
+    ensures refused { (e : MsgError) → IsErrOf result e ↔ IsFirstDefect declare kind payload.now e }
+{
+    read_by_kind(kind, payload)
+}
+
+fn read_by_kind<'a>(kind: u8, payload: &'a [u8]) -> Result<Declare<'a>, MsgError>
+    ensures { Gives seen result kind (values_of declare kind payload.now) }
+{
+    match kind {
+        0x50 => read_allocate_mining_job_token(payload),
+        0x51 => read_allocate_mining_job_token_success(payload),
+        0x55 => read_provide_missing_transactions(payload),
+        0x56 => read_provide_missing_transactions_success(payload),
+        0x57 => read_declare_mining_job(payload),
+        0x58 => read_declare_mining_job_success(payload),
+        0x59 => read_declare_mining_job_error(payload),
+        0x60 => read_push_solution(payload),
+        _ => Err(MsgError::UnknownKind(kind)),
+    }
+}

@@ -1,0 +1,125 @@
+//! The messages that give tokens, and bring a block that was found.
+
+ghost use Rattle.std.specs.Prelude.{◌≡◌};
+ghost use Rattle.sv2_messages.specs.Tables.{declare};
+ghost use Rattle.sv2_messages.specs.Reading.{Gives, values_of};
+ghost use Rattle.sv2_messages.specs.Writing.{AreFields};
+ghost use Rattle.declare_msgs.specs.Seen.{seen, allocate_mining_job_token, allocate_mining_job_token_success, push_solution};
+
+use crate::message::Declare;
+use sv2_messages::{Field, FieldReader, MsgError};
+use sv2_types::U256;
+
+/// Asks for a token.
+#[derive(Clone, Copy, Debug, PartialEq, Eq)]
+pub struct AllocateMiningJobToken<'a> {
+    pub user_identifier: &'a str,
+    pub request_id: u32,
+}
+
+impl AllocateMiningJobToken<'_> {
+    /// The fields in their order.
+    pub(crate) fn fields(&self) -> [Field<'_>; 2]
+        ensures { AreFields declare (record { kind = 0x50; fields = allocate_mining_job_token self.now }) result }
+    {
+        [
+            Field::Str255(self.user_identifier),
+            Field::U32(self.request_id),
+        ]
+    }
+}
+
+#[tactic(auto, unfolding(sv2_messages::specs::Reading::values_of))]
+pub(crate) fn read_allocate_mining_job_token<'a>(payload: &'a [u8]) -> Result<Declare<'a>, MsgError>
+    ensures { Gives seen result 0x50 (values_of declare 0x50 payload.now) }
+{
+    let mut fields = FieldReader::new(payload);
+    let message = AllocateMiningJobToken {
+        user_identifier: fields.str255()?,
+        request_id: fields.u32()?,
+    };
+    fields.end()?;
+    Ok(Declare::AllocateMiningJobToken(message))
+}
+
+/// Gives one, and the outputs that the coinbase is to have.
+#[derive(Clone, Copy, Debug, PartialEq, Eq)]
+pub struct AllocateMiningJobTokenSuccess<'a> {
+    pub request_id: u32,
+    pub mining_job_token: &'a [u8],
+    pub coinbase_tx_outputs: &'a [u8],
+}
+
+impl AllocateMiningJobTokenSuccess<'_> {
+    /// The fields in their order.
+    pub(crate) fn fields(&self) -> [Field<'_>; 3]
+        ensures { AreFields declare (record { kind = 0x51; fields = allocate_mining_job_token_success self.now }) result }
+    {
+        [
+            Field::U32(self.request_id),
+            Field::B255(self.mining_job_token),
+            Field::B64k(self.coinbase_tx_outputs),
+        ]
+    }
+}
+
+#[tactic(auto, unfolding(sv2_messages::specs::Reading::values_of))]
+pub(crate) fn read_allocate_mining_job_token_success<'a>(
+    payload: &'a [u8],
+) -> Result<Declare<'a>, MsgError>
+    ensures { Gives seen result 0x51 (values_of declare 0x51 payload.now) }
+{
+    let mut fields = FieldReader::new(payload);
+    let message = AllocateMiningJobTokenSuccess {
+        request_id: fields.u32()?,
+        mining_job_token: fields.b255()?,
+        coinbase_tx_outputs: fields.b64k()?,
+    };
+    fields.end()?;
+    Ok(Declare::AllocateMiningJobTokenSuccess(message))
+}
+
+/// A block that was found.
+#[derive(Clone, Copy, Debug, PartialEq, Eq)]
+pub struct PushSolution<'a> {
+    pub extranonce: &'a [u8],
+    pub prev_hash: U256,
+    pub nonce: u32,
+    /// Seconds since 1970, as in the block header.
+    pub ntime: u32,
+    pub nbits: u32,
+    pub version: u32,
+}
+
+impl PushSolution<'_> {
+    /// The fields in their order.
+    pub(crate) fn fields(&self) -> [Field<'_>; 6]
+        ensures { AreFields declare (record { kind = 0x60; fields = push_solution self.now }) result }
+    {
+        [
+            Field::B32(self.extranonce),
+            Field::U256(self.prev_hash),
+            Field::U32(self.nonce),
+            Field::U32(self.ntime),
+            Field::U32(self.nbits),
+            Field::U32(self.version),
+        ]
+    }
+}
+
+#[tactic(auto, unfolding(sv2_messages::specs::Reading::values_of))]
+pub(crate) fn read_push_solution<'a>(payload: &'a [u8]) -> Result<Declare<'a>, MsgError>
+    ensures { Gives seen result 0x60 (values_of declare 0x60 payload.now) }
+{
+    let mut fields = FieldReader::new(payload);
+    let message = PushSolution {
+        extranonce: fields.b32()?,
+        prev_hash: fields.u256()?,
+        nonce: fields.u32()?,
+        ntime: fields.u32()?,
+        nbits: fields.u32()?,
+        version: fields.u32()?,
+    };
+    fields.end()?;
+    Ok(Declare::PushSolution(message))
+}
