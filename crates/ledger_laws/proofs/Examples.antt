@@ -1,14 +1,20 @@
 -- What the laws aren't: statements that an example refutes. And that events can be kept at all.
 use Rattle.std.proofs.Common.{zero, suc, ◌≡◌, ℕ, ◌<◌, ◌≤◌, ◌^◌, false, List, [], ◌∷◌, ◌++◌, refl, sym, ◌∙◌, arith, lit≤, lit<}
+use Rattle.std.specs.Prelude.{replicate}
 use Rattle.std.specs.Str.{IsAscii, chars, is_utf8}
 use Rattle.std.proofs.lemmas.Bool.{false≢true}
 use Rattle.std.proofs.lemmas.Str.{IsUtf8-from_ascii, is_utf8-from_IsUtf8}
+use Rattle.coinbase.specs.Compact.{compact}
+use Rattle.coinbase.specs.Outputs.{outputs_within}
 use Rattle.pool_history.specs.declared.events.Event.{Event}
 use Rattle.pool_history.specs.declared.events.Event.TheVariants as event
 use Rattle.pool_history.specs.declared.events.Kind.TheVariants as kind
 use Rattle.pool_history.specs.declared.events.Role.TheVariants as role
 use Rattle.pool_history.specs.Ledger.{HasRecord, record_body, record_of}
-use Rattle.pool_history.proofs.Given.{session}
+use Rattle.pool_history.specs.Legal.{Legal}
+use Rattle.pool_history.specs.Spaces.{first_free}
+use Rattle.pool_history.proofs.Given.{comes, enters, opens, session, start, tips}
+use Rattle.ledger_laws.specs.Keeping.{IsKept}
 use Rattle.ledger_laws.specs.OneLedger.{AllCanBeKept}
 use Rattle.ledger_laws.specs.WellFormed.{CanBeKept}
 
@@ -133,3 +139,30 @@ session_is_kept = (
     ),
   ),
 )
+
+-- a history may be legal and have no ledger: a Grant for any path that says one is legal, and has no record
+abbrev pub says_a_path : Event
+says_a_path = event.Grant 0 (0x61 ∷ []) false (replicate 32 0 ∷ [])
+
+abbrev pub granted : List Event
+granted = start ∷ event.Enter 0 role.Miner 2 ∷ says_a_path ∷ []
+
+pub granted_is_legal : Legal granted
+granted_is_legal = (((tt, refl), refl), refl)
+
+pub granted_has_no_ledger : AllCanBeKept granted → ⊥
+granted_has_no_ledger kept = differ (kept.1.1.0.has_record.fits.none refl)
+  where
+    differ : ◌≡◌ {A = List (List ℕ)} (replicate 32 0 ∷ []) [] → ⊥
+    differ e = cc
+
+-- and one is legal and has a ledger: the worked session up to its tip
+abbrev pub tipped_session : List Event
+tipped_session = start ∷ enters ∷ opens ∷ comes ∷ tips ∷ []
+
+pub tipped_session_is_kept : IsKept tipped_session
+unfolding first_free outputs_within compact
+tipped_session_is_kept = record {
+  legal = (((((tt, refl), refl), refl), refl), refl);
+  has_ledger = (session_is_kept.0, (session_is_kept.1.0, (session_is_kept.1.1.0, (session_is_kept.1.1.1.0, (session_is_kept.1.1.1.1.0, tt)))));
+}

@@ -1,5 +1,5 @@
 -- A record is read back whatever follows, so a ledger is of one history.
-use Rattle.std.proofs.Common.{◌≡◌, ℕ, ◌<◌, ◌≤◌, ◌^◌, List, [], ◌∷◌, ◌++◌, length, drop, flat_map, refl, ap, ap₂, sym, ◌∙◌, arith, append_assoc, append-nil}
+use Rattle.std.proofs.Common.{◌≡◌, ℕ, ◌<◌, ◌≤◌, ◌^◌, List, [], ◌∷◌, ◌++◌, length, drop, flat_map, get_or, lit<, refl, ap, ap₂, sym, ◌∙◌, arith, append_assoc, append-nil}
 use Rattle.std.proofs.lemmas.List.{append_cancel_left}
 use Rattle.sha2.specs.Sha256.{sha256}
 use Rattle.sv2_types.specs.Fields.{B0_16M, Bytes, Number, U8}
@@ -7,7 +7,7 @@ use Rattle.pool_base.specs.Lists.{Begins}
 use Rattle.pool_history.specs.declared.events.Event.{Event}
 use Rattle.pool_history.specs.declared.events.Event.TheVariants as event
 use Rattle.pool_history.specs.Ledger.{chain, chained, magic_1, magic_2, record_body, record_kind, record_of, with_magic}
-use Rattle.ledger_laws.specs.OneLedger.{AllCanBeKept, LedgersAreOfOneHistory, LedgersBeginAlike, NoRecordBeginsAnother, OldLedgersAreOfOneHistory, OldLedgersBeginAlike, ReadsTheSame, RecordsAreOfOneEvent, RecordsAreReadBack}
+use Rattle.ledger_laws.specs.OneLedger.{AllCanBeKept, FormatsDiffer, LedgersAreOfOneHistory, LedgersBeginAlike, NoRecordBeginsAnother, OldLedgersAreOfOneHistory, OldLedgersBeginAlike, ReadsTheSame, RecordsAreOfOneEvent, RecordsAreReadBack}
 use Rattle.ledger_laws.proofs.Bodies.{bodies_agree}
 use Rattle.ledger_laws.proofs.FieldByField.{fields_agree}
 
@@ -131,10 +131,23 @@ pieces_begin before (a ∷ one) (b ∷ other) x y p q n e =
     spread : (r h j z : List ℕ) → ((r ++ h) ++ j) ++ z ≡ r ++ (h ++ (j ++ z))
     spread r h j z = simp append_assoc
 
+-- what stands behind the magic
+behind_magic : (pieces : List (List ℕ)) (z : List ℕ) → joined (with_magic pieces) ++ z ≡ magic_2 ++ (joined pieces ++ z)
+behind_magic pieces z = ap (λ bytes. bytes ++ z) (text_pieces pieces) ∙ append_assoc magic_2 (joined pieces) z
+
 pub ledgers_begin : LedgersBeginAlike
 ledgers_begin one other x y p q n e =
     pieces_begin (sha256 magic_2) one other x y p q n
     (ap (drop 8) (sym (behind_magic (chained (sha256 magic_2) one) x) ∙ e ∙ behind_magic (chained (sha256 magic_2) other) y))
+
+-- the last bytes of the magics are others
+pub formats_differ : FormatsDiffer
+formats_differ one other x y e =
+    eighths (joined (chained (sha256 magic_2) one) ++ x) (flat_map record_of other ++ y)
+    (sym (behind_magic (chained (sha256 magic_2) one) x) ∙ e ∙ append_assoc magic_1 (flat_map record_of other) y)
   where
-    behind_magic : (pieces : List (List ℕ)) (z : List ℕ) → joined (with_magic pieces) ++ z ≡ magic_2 ++ (joined pieces ++ z)
-    behind_magic pieces z = ap (λ bytes. bytes ++ z) (text_pieces pieces) ∙ append_assoc magic_2 (joined pieces) z
+    numbers : (m n : ℕ) → m < n → n ≡ m → ⊥
+    numbers m n less same = omega (arith, less, same)
+
+    eighths : (a b : List ℕ) → magic_2 ++ a ≡ magic_1 ++ b → ⊥
+    eighths a b same = numbers 0x31 0x32 (lit< tt) (ap (λ bytes. get_or bytes 7 0) same)

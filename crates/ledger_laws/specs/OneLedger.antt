@@ -49,3 +49,8 @@ abbrev pub OldLedgersBeginAlike : Type 0
 OldLedgersBeginAlike =
     (one other : List Event) (behind_one behind_other : List ℕ) → AllCanBeKept one → AllCanBeKept other → length one ≤ length other
     → ledger_text_1 one ++ behind_one ≡ ledger_text_1 other ++ behind_other → Begins one other
+
+-- no bytes begin with a ledger of format 2 and with one of format 1
+abbrev pub FormatsDiffer : Type 0
+FormatsDiffer =
+    (one other : List Event) (behind_one behind_other : List ℕ) → ledger_text one ++ behind_one ≡ ledger_text_1 other ++ behind_other → ⊥

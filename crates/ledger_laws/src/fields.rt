@@ -106,25 +106,25 @@ pub fn texts_are_utf8(event: &Event)
     }
 }
 
-fn u8_fits(n: u8)
+pub(crate) fn u8_fits(n: u8)
     ensures { IsU8 n }
 {
     let _ = n;
 }
 
-fn u16_fits(n: u16)
+pub(crate) fn u16_fits(n: u16)
     ensures { IsU16 n }
 {
     let _ = n;
 }
 
-fn u32_fits(n: u32)
+pub(crate) fn u32_fits(n: u32)
     ensures { IsU32 n }
 {
     let _ = n;
 }
 
-fn u64_fits(n: u64)
+pub(crate) fn u64_fits(n: u64)
     ensures { IsU64 n }
 {
     let _ = n;
@@ -139,19 +139,19 @@ fn window_fits(window: Option<u64>)
     }
 }
 
-fn text_fits(text: &Str255)
+pub(crate) fn text_fits(text: &Str255)
     ensures { IsText text.now }
 {
     let _text = text.text();
 }
 
-fn hash_fits(hash: &U256)
+pub(crate) fn hash_fits(hash: &U256)
     ensures { IsHash hash.now }
 {
     let _bytes = hash.bytes();
 }
 
-fn hashes_fit(hashes: &Hashes)
+pub(crate) fn hashes_fit(hashes: &Hashes)
     ensures { AreHashes hashes.now }
 {
     let _items = hashes.items();
@@ -176,7 +176,7 @@ fn rules_fit(rules: &Rules)
     texts_fit(rules.users.accounts())
 }
 
-fn template_fits(template: &TemplateData)
+pub(crate) fn template_fits(template: &TemplateData)
     ensures { IsTemplate template.now }
 {
     u64_fits(template.template_id);
@@ -189,7 +189,7 @@ fn template_fits(template: &TemplateData)
     hashes_fit(&template.merkle_path)
 }
 
-fn tip_fits(tip: &TipData)
+pub(crate) fn tip_fits(tip: &TipData)
     ensures { IsTip tip.now }
 {
     u64_fits(tip.template_id);
@@ -199,7 +199,7 @@ fn tip_fits(tip: &TipData)
     hash_fits(&tip.target)
 }
 
-fn custom_fits(custom: &CustomData)
+pub(crate) fn custom_fits(custom: &CustomData)
     ensures { IsCustom custom.now }
 {
     u32_fits(custom.channel_id);
@@ -213,7 +213,7 @@ fn custom_fits(custom: &CustomData)
     hashes_fit(&custom.merkle_path)
 }
 
-fn text_is_utf8(text: &Str255)
+pub(crate) fn text_is_utf8(text: &Str255)
     ensures { IsUtf8 text.now }
 {
     let _text = text.text();

@@ -1,7 +1,8 @@
 //! What the bytes of a ledger say, and how it grows.
 
 ghost use Rattle.ledger_laws.specs.Growing.{LedgersGrow, PiecesGrow};
-ghost use Rattle.ledger_laws.specs.OneLedger.{LedgersAreOfOneHistory, LedgersBeginAlike, NoRecordBeginsAnother, OldLedgersAreOfOneHistory, OldLedgersBeginAlike, RecordsAreOfOneEvent, RecordsAreReadBack};
+ghost use Rattle.ledger_laws.specs.Keeping.{AnswersCanBeKept};
+ghost use Rattle.ledger_laws.specs.OneLedger.{FormatsDiffer, LedgersAreOfOneHistory, LedgersBeginAlike, NoRecordBeginsAnother, OldLedgersAreOfOneHistory, OldLedgersBeginAlike, RecordsAreOfOneEvent, RecordsAreReadBack};
 
 /// Bytes that begin with a record begin with that of no other event, and what follows it is the same.
 pub fn records_are_read_back()
@@ -38,6 +39,11 @@ pub fn old_ledgers_begin_alike()
     ensures { OldLedgersBeginAlike }
 {}
 
+/// No bytes begin with a ledger of format 2 and with one of format 1.
+pub fn formats_differ()
+    ensures { FormatsDiffer }
+{}
+
 /// One more event adds its record, and in format 2 the hash over all records behind it.
 pub fn ledgers_grow()
     ensures { LedgersGrow }
@@ -46,4 +52,10 @@ pub fn ledgers_grow()
 /// A ledger in pieces gets one piece more for each event after the first.
 pub fn pieces_grow()
     ensures { PiecesGrow }
+{}
+
+/// Where a history is legal and has a ledger, so it is with the events of each answer to a request whose fields are of
+/// their types.
+pub fn answers_can_be_kept()
+    ensures { AnswersCanBeKept }
 {}

@@ -1,0 +1,26 @@
+-- Legal histories that have a ledger, and that answers keep them so (this project's own).
+use Rattle.std.specs.Prelude.{ℕ, List, ◌++◌}
+use Rattle.pool_history.specs.declared.asking.Request.{Request}
+use Rattle.pool_history.specs.declared.events.Event.{Event}
+use Rattle.pool_history.specs.declared.replies.Reply.{Reply}
+use Rattle.pool_history.specs.Answering.{Answer}
+use Rattle.pool_history.specs.Legal.{Legal}
+use Rattle.ledger_laws.specs.OneLedger.{AllCanBeKept}
+use Rattle.ledger_laws.specs.Requests.{IsWellFormedRequest}
+use Rattle.ledger_laws.specs.WellFormed.{IsU32}
+
+-- a history is legal and has a ledger; neither says the other
+pub record IsKept (history : List Event) : Type 0 where
+  pub legal : Legal history
+  pub has_ledger : AllCanBeKept history
+
+-- each of these events can be kept, and with them the history is legal and has a ledger
+pub record KeepsOn (history events : List Event) : Type 0 where
+  pub each : AllCanBeKept events
+  pub kept : IsKept (history ++ events)
+
+-- so do those of an answer to a request whose fields are of their types
+abbrev pub AnswersCanBeKept : Type 0
+AnswersCanBeKept =
+    (history : List Event) (worker : ℕ) (asked : Request) (events : List Event) (answer : Reply) → IsKept history → IsU32 worker → IsWellFormedRequest asked
+    → Answer history worker asked events answer → KeepsOn history events
