@@ -1,3 +1,4 @@
 pub mod Blocks
 pub mod Conservation
 pub mod Payouts
+pub mod Placed

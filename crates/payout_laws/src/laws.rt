@@ -3,6 +3,7 @@
 ghost use Rattle.payout_laws.specs.Blocks.{BalancesAreRewards, BlocksAreCredits, SettlementsAreOfBlocks};
 ghost use Rattle.payout_laws.specs.Conservation.{RewardsAreConserved};
 ghost use Rattle.payout_laws.specs.Payouts.{BalancesAreSums, PayoutsAreQuotients};
+ghost use Rattle.payout_laws.specs.Placed.{BlocksByPlaces};
 
 /// Each block of a legal history: its reward is its payouts plus the pool's part. The part beyond the fee is
 /// less than one satoshi for each account with a weight, and each payout is its exact share, rounded down.
@@ -18,6 +19,12 @@ pub fn payouts_are_quotients()
 /// The blocks are the credits with a reward, each with the credits up to it, and no others.
 pub fn blocks_are_credits()
     ensures { BlocksAreCredits }
+{}
+
+/// A credit of a legal history is a block of it, with its job's reward and the credits before it, exactly where its
+/// hash is at most the target of the tip that it was booked with.
+pub fn blocks_by_places()
+    ensures { BlocksByPlaces }
 {}
 
 /// The settlements are those of the blocks, one for each, in their order.

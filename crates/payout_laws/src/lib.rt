@@ -7,8 +7,8 @@ mod laws;
 
 pub use fees::fee_of;
 pub use laws::{
-    balances_are_rewards, balances_are_sums, blocks_are_credits, payouts_are_quotients,
-    rewards_are_conserved, settlements_are_of_blocks,
+    balances_are_rewards, balances_are_sums, blocks_are_credits, blocks_by_places,
+    payouts_are_quotients, rewards_are_conserved, settlements_are_of_blocks,
 };
 
 #[cfg(test)]
