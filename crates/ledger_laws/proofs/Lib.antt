@@ -6,3 +6,4 @@ pub mod Growth
 pub mod Kept
 pub mod Records
 pub mod Sizes
+pub mod Started

@@ -2,19 +2,19 @@
 use Rattle.std.proofs.Common.{zero, suc, ◌≡◌, ℕ, ◌+◌, ◌-◌, ◌*◌, ◌<◌, ◌≤◌, Bool, true, false, ◌&&◌, List, [], ◌∷◌, ◌++◌, length, take, drop, flat_map, refl, sym, ap, ◌∙◌, arith, length-append, take-append-drop}
 use Rattle.std.proofs.lemmas.Bool.{and_parts, leb-true}
 use Rattle.std.proofs.lemmas.Str.{IsUtf8-from_ascii}
-use Rattle.std.specs.Prelude.{nat_le, replicate}
-use Rattle.std.specs.List.{list_all, list_any}
+use Rattle.std.specs.Prelude.{◌==◌, not, Option, None, Some, nat_le, replicate}
+use Rattle.std.specs.List.{AllByRecursion, list_all, list_any}
 use Rattle.std.specs.Str.{IsAscii, IsUtf8, bytes_eq}
 use Rattle.coinbase.specs.Parts.{suffix_of, whole_len}
-use Rattle.sv2_types.specs.Spelling.{spelled_boolean}
+use Rattle.sv2_types.specs.Spelling.{spelled_boolean, spelled_str255}
 use Rattle.pool_history.specs.declared.events.Event.TheVariants as event
 use Rattle.pool_history.specs.declared.events.Kind.{Kind}
 use Rattle.pool_history.specs.declared.settings.Rules.{Rules}
 use Rattle.pool_history.specs.declared.templates.CustomData.{CustomData}
 use Rattle.pool_history.specs.declared.templates.TemplateData.{TemplateData}
 use Rattle.pool_history.specs.declared.templates.TipData.{TipData}
-use Rattle.pool_history.specs.Accounts.{is_account, is_empty, is_known, is_visible}
-use Rattle.pool_history.specs.Ledger.{record_body}
+use Rattle.pool_history.specs.Accounts.{is_account, is_empty, is_known, is_user, is_visible}
+use Rattle.pool_history.specs.Ledger.{record_body, spelled_rule}
 use Rattle.ledger_laws.specs.WellFormed.{AreHashes, IsHash}
 
 -- visible characters are ASCII
@@ -31,24 +31,56 @@ pub record IsSpelled (account : List ℕ) : Type 0 where
   pub short : length account ≤ 255
   pub utf8 : IsUtf8 account
 
--- so a known account is
-pub known-spelled : (rules : Rules) (account : List ℕ) → is_known rules account ≡ true → IsSpelled account
-known-spelled rules account h =
-    let is : is_account account ≡ true = (and_parts (is_account account) (Rattle.std.specs.Prelude.◌||◌ (is_empty rules.users) (list_any (bytes_eq account) rules.users)) h).0 in
+-- so an account is, and one that is known
+account-spelled : (account : List ℕ) → is_account account ≡ true → IsSpelled account
+account-spelled account is =
     let parts = and_parts (nat_le 1 (length account) && nat_le (length account) 255) (list_all is_visible account) is in
     record {
       short = leb-true (length account) 255 (and_parts (nat_le 1 (length account)) (nat_le (length account) 255) parts.0).1;
       utf8 = IsUtf8-from_ascii account (visible-ascii account parts.1);
     }
 
--- a path has 32 bytes for each hash
-path-length : (path : List (List ℕ)) → AreHashes path → length (flat_map (λ item. item) path) ≡ 32 * length path
-path-length [] h = refl
-path-length (hash ∷ path) h = omega (arith, length-append hash (flat_map (λ item. item) path), h.0, path-length path h.1)
+pub known-spelled : (rules : Rules) (account : List ℕ) → is_known rules account ≡ true → IsSpelled account
+known-spelled rules account h =
+    account-spelled account
+    (and_parts (is_account account) (Rattle.std.specs.Prelude.◌||◌ (is_empty rules.users) (list_any (bytes_eq account) rules.users)) h).0
+
+-- and one that may be listed
+user-spelled : (account : List ℕ) → is_user account ≡ true → IsSpelled account
+user-spelled account h = account-spelled account (and_parts (is_account account) (not (list_any (λ byte. byte == 46) account)) h).0
+
+pub users-utf8 : (users : List (List ℕ)) → list_all is_user users ≡ true → AllByRecursion IsUtf8 users
+users-utf8 [] h = tt
+users-utf8 (user ∷ users) h =
+    let parts = and_parts (is_user user) (list_all is_user users) h in ((user-spelled user parts.0).utf8, users-utf8 users parts.1)
+
+users-length : (users : List (List ℕ)) → list_all is_user users ≡ true → length (flat_map spelled_str255 users) ≤ 256 * length users
+users-length [] h = omega arith
+users-length (user ∷ users) h =
+    let parts = and_parts (is_user user) (list_all is_user users) h in
+    one_more user (user-spelled user parts.0).short (users-length users parts.1)
+  where
+    one_more : (user : List ℕ) → length user ≤ 255 → length (flat_map spelled_str255 users) ≤ 256 * length users
+        → length (flat_map spelled_str255 (user ∷ users)) ≤ 256 * length (user ∷ users)
+    one_more user a b = omega (arith, a, b, length-append user (flat_map spelled_str255 users))
 
 boolean-length : (b : Bool) → length (spelled_boolean b) ≡ 1
 boolean-length true = refl
 boolean-length false = refl
+
+rule-length : (window : Option ℕ) → length (spelled_rule window) ≡ 9
+rule-length None = omega arith
+rule-length (Some window) = omega arith
+
+pub start-short : (rules : Rules) → length rules.pool_script ≤ 100 → length rules.users ≤ 1000 → list_all is_user rules.users ≡ true
+    → length (record_body (event.Start rules)) ≤ 300000
+start-short rules p u h =
+    simp length-append (omega (arith, p, u, users-length rules.users h, rule-length rules.window, boolean-length rules.version_rolling))
+
+-- a path has 32 bytes for each hash
+path-length : (path : List (List ℕ)) → AreHashes path → length (flat_map (λ item. item) path) ≡ 32 * length path
+path-length [] h = refl
+path-length (hash ∷ path) h = omega (arith, length-append hash (flat_map (λ item. item) path), h.0, path-length path h.1)
 
 pub template-short : (session : ℕ) (t : TemplateData) → length t.coinbase_prefix ≤ 88 → length t.coinbase_tx_outputs ≤ 65535 → AreHashes t.merkle_path
     → length (record_body (event.Template session t)) ≤ 300000

@@ -1,18 +1,25 @@
 -- Legal histories that have a ledger, and that answers keep them so (this project's own).
-use Rattle.std.specs.Prelude.{ℕ, List, ◌++◌}
+use Rattle.std.specs.Prelude.{IsTrue, ℕ, List, [], ◌∷◌, ◌++◌}
 use Rattle.pool_history.specs.declared.asking.Request.{Request}
 use Rattle.pool_history.specs.declared.events.Event.{Event}
+use Rattle.pool_history.specs.declared.events.Event.TheVariants as event
 use Rattle.pool_history.specs.declared.replies.Reply.{Reply}
+use Rattle.pool_history.specs.declared.settings.Rules.{Rules}
+use Rattle.pool_history.specs.Accounts.{are_in_range}
 use Rattle.pool_history.specs.Answering.{Answer}
 use Rattle.pool_history.specs.Legal.{Legal}
 use Rattle.ledger_laws.specs.OneLedger.{AllCanBeKept}
 use Rattle.ledger_laws.specs.Requests.{IsWellFormedRequest}
-use Rattle.ledger_laws.specs.WellFormed.{IsU32}
+use Rattle.ledger_laws.specs.WellFormed.{AreRules, IsU32}
 
 -- a history is legal and has a ledger; neither says the other
 pub record IsKept (history : List Event) : Type 0 where
   pub legal : Legal history
   pub has_ledger : AllCanBeKept history
+
+-- a history begins so: a Start whose fields are of their types and whose rules are in their ranges
+abbrev pub StartsAreKept : Type 0
+StartsAreKept = (rules : Rules) → AreRules rules → IsTrue (are_in_range rules) → IsKept (event.Start rules ∷ [])
 
 -- each of these events can be kept, and with them the history is legal and has a ledger
 pub record KeepsOn (history events : List Event) : Type 0 where

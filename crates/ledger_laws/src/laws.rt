@@ -1,7 +1,7 @@
 //! What the bytes of a ledger say, and how it grows.
 
 ghost use Rattle.ledger_laws.specs.Growing.{LedgersGrow, PiecesGrow};
-ghost use Rattle.ledger_laws.specs.Keeping.{AnswersCanBeKept};
+ghost use Rattle.ledger_laws.specs.Keeping.{AnswersCanBeKept, StartsAreKept};
 ghost use Rattle.ledger_laws.specs.OneLedger.{FormatsDiffer, LedgersAreOfOneHistory, LedgersBeginAlike, NoRecordBeginsAnother, OldLedgersAreOfOneHistory, OldLedgersBeginAlike, RecordsAreOfOneEvent, RecordsAreReadBack};
 
 /// Bytes that begin with a record begin with that of no other event, and what follows it is the same.
@@ -52,6 +52,11 @@ pub fn ledgers_grow()
 /// A ledger in pieces gets one piece more for each event after the first.
 pub fn pieces_grow()
     ensures { PiecesGrow }
+{}
+
+/// A Start whose fields are of their types and whose rules are in their ranges is legal and has a ledger.
+pub fn starts_are_kept()
+    ensures { StartsAreKept }
 {}
 
 /// Where a history is legal and has a ledger, so it is with the events of each answer to a request whose fields are of
