@@ -1,5 +1,6 @@
 pub mod Answered
 pub mod Bodies
+pub mod Called
 pub mod Examples
 pub mod FieldByField
 pub mod Growth

@@ -1,5 +1,6 @@
 -- Legal histories that have a ledger, and that answers keep them so (this project's own).
-use Rattle.std.specs.Prelude.{IsTrue, ℕ, List, [], ◌∷◌, ◌++◌}
+use Rattle.std.specs.Prelude.{IsTrue, ℕ, List, [], ◌∷◌, ◌++◌, take}
+use Rattle.std.specs.List.{AllByRecursion}
 use Rattle.pool_history.specs.declared.asking.Request.{Request}
 use Rattle.pool_history.specs.declared.events.Event.{Event}
 use Rattle.pool_history.specs.declared.events.Event.TheVariants as event
@@ -7,6 +8,7 @@ use Rattle.pool_history.specs.declared.replies.Reply.{Reply}
 use Rattle.pool_history.specs.declared.settings.Rules.{Rules}
 use Rattle.pool_history.specs.Accounts.{are_in_range}
 use Rattle.pool_history.specs.Answering.{Answer}
+use Rattle.pool_history.specs.Calls.{Call, GoodCalls, Parted}
 use Rattle.pool_history.specs.Legal.{Legal}
 use Rattle.ledger_laws.specs.OneLedger.{AllCanBeKept}
 use Rattle.ledger_laws.specs.Requests.{IsWellFormedRequest}
@@ -31,3 +33,14 @@ abbrev pub AnswersCanBeKept : Type 0
 AnswersCanBeKept =
     (history : List Event) (worker : ℕ) (asked : Request) (events : List Event) (answer : Reply) → IsKept history → IsU32 worker → IsWellFormedRequest asked
     → Answer history worker asked events answer → KeepsOn history events
+
+-- a call of a worker whose request's fields are of their types
+pub record IsWellFormedCall (call : Call) : Type 0 where
+  pub worker_fits : IsU32 call.worker
+  pub asked_fits : IsWellFormedRequest call.asked
+
+-- so do calls that part a history from its first events on, whatever was asked, in whatever order, and whatever failed
+abbrev pub CallsCanBeKept : Type 0
+CallsCanBeKept =
+    (history : List Event) (front : ℕ) (calls : List Call) → Parted history front calls → GoodCalls history calls → AllByRecursion IsWellFormedCall calls
+    → IsKept (take front history) → IsKept history

@@ -1,7 +1,7 @@
 //! What the bytes of a ledger say, and how it grows.
 
 ghost use Rattle.ledger_laws.specs.Growing.{LedgersGrow, PiecesGrow};
-ghost use Rattle.ledger_laws.specs.Keeping.{AnswersCanBeKept, StartsAreKept};
+ghost use Rattle.ledger_laws.specs.Keeping.{AnswersCanBeKept, CallsCanBeKept, StartsAreKept};
 ghost use Rattle.ledger_laws.specs.OneLedger.{FormatsDiffer, LedgersAreOfOneHistory, LedgersBeginAlike, NoRecordBeginsAnother, OldLedgersAreOfOneHistory, OldLedgersBeginAlike, RecordsAreOfOneEvent, RecordsAreReadBack};
 
 /// Bytes that begin with a record begin with that of no other event, and what follows it is the same.
@@ -63,4 +63,10 @@ pub fn starts_are_kept()
 /// their types.
 pub fn answers_can_be_kept()
     ensures { AnswersCanBeKept }
+{}
+
+/// Where calls part a history from a front on that is legal and has a ledger, the whole history is and has one too,
+/// if each call's fields are of their types. It holds whatever was asked, in whatever order, and whatever failed.
+pub fn calls_can_be_kept()
+    ensures { CallsCanBeKept }
 {}
