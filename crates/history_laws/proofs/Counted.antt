@@ -22,8 +22,8 @@ use Rattle.pool_history.specs.Channels.{OpenChannel}
 use Rattle.pool_history.specs.Crediting.{has_room}
 use Rattle.pool_history.specs.Legal.{LegalPast, are_acceptable, cause_of, custom_cause, feeding, grant_cause, provided, refused_as, selecting}
 use Rattle.pool_history.specs.Refusing.{Granted, custom_refusal, grant_of, grant_refusal, granted_to, is_extended, is_spent, most_enters, most_grants, most_opens, most_templates, on_channel, open_count, own_channel, template_refusal, token_of, unspent, with_token, has_too_many, most_channels}
-use Rattle.pool_history.specs.Sessions.{credits, enters, grants, opens, past_of, rules_of, templates}
-use Rattle.history_laws.specs.Limits.{LegalHistoriesKeepLimits, customs}
+use Rattle.pool_history.specs.Sessions.{credits, enters, grants, opens, rules_of, templates}
+use Rattle.history_laws.specs.Limits.{customs}
 use Rattle.history_laws.proofs.Causes.{IsOpening, IsUncaused, legal_opening, provided-both, uncaused, within-next}
 use Rattle.history_laws.proofs.Crediting.{IsGoodCredit, good_credit, judged_share}
 use Rattle.history_laws.proofs.Entrances.{none-some, some-same}
@@ -238,13 +238,3 @@ credited-most (event.Start first ∷ x ∷ older) rules l are = credited-most (x
 credited-most (event.Credit session channel job nonce ntime version extranonce ∷ older) rules l are =
     let f : credits older < rules.credit_limit = credited-few older rules session channel job nonce ntime version extranonce are l.1 in omega (arith, f)
 credited-most (e ∷ older) rules l are = credited-most older rules l.0 are
-
-pub limits-kept : LegalHistoriesKeepLimits
-limits-kept h l = record {
-  entered = entered-most (past_of h) l;
-  opened = opened-most (past_of h) l;
-  came = came-most (past_of h) l;
-  granted = granted-most (past_of h) l;
-  brought = brought-most (past_of h) l;
-  credited = λ rules are. credited-most (past_of h) rules l are;
-}

@@ -20,5 +20,6 @@ pub mod Placing
 pub mod Ranges
 pub mod RepliesFit
 pub mod Served
+pub mod Spending
 pub mod Stepping
 pub mod WrongLaws

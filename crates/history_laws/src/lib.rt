@@ -22,7 +22,7 @@ pub use legality::{
     empty_is_legal, first_illegal_is_one, legal_histories_start, legality_by_places,
     legality_is_decided, one_more_is_legal, prefixes_are_legal, start_is_legal,
 };
-pub use limits::legal_histories_keep_limits;
+pub use limits::{jobs_spend_tokens, legal_histories_keep_limits};
 pub use one_more::{
     channels_one_more, counts_one_more, credits_one_more, entrances_one_more, grants_one_more,
     headers_one_more, jobs_one_more, present_one_more, rules_one_more, spending_one_more,

@@ -1,9 +1,14 @@
 //! The limits that a legal history keeps.
 
-ghost use Rattle.history_laws.specs.Limits.{LegalHistoriesKeepLimits};
+ghost use Rattle.history_laws.specs.Limits.{JobsSpendTokens, LegalHistoriesKeepLimits};
 
-/// Enters, openings, templates, tokens and credits are within their limits, and there are no more jobs of miners'
-/// own than tokens: each of them spends one.
+/// Enters, openings, open channels of a session, templates, tokens and credits are within their limits, and there are
+/// no more jobs of miners' own than tokens: each of them spends one. All other jobs are those of templates.
 pub fn legal_histories_keep_limits()
     ensures { LegalHistoriesKeepLimits }
+{}
+
+/// Each job of a miner's own spends the token of an earlier Grant, which no other job spends.
+pub fn jobs_spend_tokens()
+    ensures { JobsSpendTokens }
 {}
