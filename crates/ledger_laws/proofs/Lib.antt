@@ -8,3 +8,4 @@ pub mod Kept
 pub mod Records
 pub mod Sizes
 pub mod Started
+pub mod WorkedSession
