@@ -5,6 +5,7 @@ pub mod Fitting
 pub mod Legality
 pub mod Limits
 pub mod OneMore
+pub mod Openings
 pub mod Places
 pub mod Serving
 pub mod Staying

@@ -1,0 +1,33 @@
+-- Open channels are as the rules allow (this project's own).
+use Rattle.std.specs.Prelude.{IsTrue, ◌≡◌, ◌⊎◌, ℕ, false, Some, List, [], ◌∷◌, length}
+use Rattle.std.specs.List.{AllByRecursion}
+use Rattle.pool_history.specs.declared.events.Event.{Event}
+use Rattle.pool_history.specs.declared.settings.Rules.{Rules}
+use Rattle.pool_history.specs.Accounts.{is_known}
+use Rattle.pool_history.specs.Channels.{OpenChannel, channels_of, class_at, class_of}
+use Rattle.pool_history.specs.Legal.{Legal, is_class, is_lead_length, is_nameless}
+use Rattle.pool_history.specs.Refusing.{held_leads}
+use Rattle.pool_history.specs.Sessions.{past_of, rules_of}
+use Rattle.pool_history.specs.Spaces.{overlap}
+
+-- a channel that the rules allow: its lead has a length of its kind, its class may be a channel's now and before each
+-- place, and its account is known, or it is a V1 channel that has none yet
+pub record IsAllowed (rules : Rules) (channel : OpenChannel) : Type 0 where
+  pub lead : IsTrue (is_lead_length channel.kind (length channel.lead))
+  pub class : IsTrue (is_class rules (class_of channel))
+  pub classes : (at : ℕ) → IsTrue (is_class rules (class_at channel at))
+  pub account : IsTrue (is_known rules channel.account) ⊎ IsTrue (is_nameless channel.kind channel.account)
+
+-- no lead of these begins another, at whatever places they stand
+abbrev pub AreLeadsApart : List (List ℕ) → Type 0
+AreLeadsApart [] = Unit {0}
+AreLeadsApart (lead ∷ later) = AllByRecursion (λ other. overlap lead other ≡ false) later × AreLeadsApart later
+
+-- each open channel is allowed, and their leads are apart
+pub record ChannelsFit (rules : Rules) (past : List Event) : Type 0 where
+  pub allowed : AllByRecursion (IsAllowed rules) (channels_of past)
+  pub leads : AreLeadsApart (held_leads past)
+
+-- so they are in each legal history
+abbrev pub OpenChannelsFit : Type 0
+OpenChannelsFit = (history : List Event) (rules : Rules) → Legal history → rules_of (past_of history) ≡ Some rules → ChannelsFit rules (past_of history)
