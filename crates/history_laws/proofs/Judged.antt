@@ -19,16 +19,16 @@ use Rattle.pool_history.specs.declared.settings.Rules.{Rules}
 use Rattle.pool_history.specs.declared.shares.Checked.{Checked}
 use Rattle.pool_history.specs.declared.shares.Submission.{Submission}
 use Rattle.pool_history.specs.Accounts.{account_of, is_empty}
-use Rattle.pool_history.specs.Answering.{Step, briefing, classing, closing, committing, crediting, kept, naming, opening, permits, step, step_as, step_by, step_for, step_in, step_under, told, unless_refused, number_of}
+use Rattle.pool_history.specs.Answering.{Answer, Step, briefing, classing, closing, committing, crediting, kept, naming, opening, permits, step, step_as, step_by, step_for, step_in, step_under, told, unless_refused, number_of}
 use Rattle.pool_history.specs.Channels.{OpenChannel, channel_in, channels_of, class_of}
-use Rattle.pool_history.specs.Crediting.{class_of_share, first_failed, has_room, headers, is_new, last_failed, work_of}
+use Rattle.pool_history.specs.Crediting.{class_of_share, first_failed, has_room, headers, is_new, last_failed}
 use Rattle.pool_history.specs.Jobs.{future_of, jobs_of, live_job}
 use Rattle.pool_history.specs.Judging.{Admitted, Share, admitted, briefing_of, found, is_in_time, is_known_job, is_version, provided, rebuilt, serves, share_of}
-use Rattle.pool_history.specs.Legal.{allowed_flags}
+use Rattle.pool_history.specs.Legal.{allowed_flags, mining}
 use Rattle.pool_history.specs.Refusing.{class_for, custom_refusal, grant_refusal, lead_for, most_enters, name_refusal, open_refusal, own_channel, template_refusal, tip_refusal, update_refusal}
 use Rattle.pool_history.specs.Sessions.{Entrance, credits, enters, entrance, past_of, present, rules_of, grants}
 use Rattle.std.specs.Prelude.{bit_and, nat_eq, nat_lt}
-use Rattle.history_laws.specs.Answered.{fails_early, is_early, CreditsAreCommitted, IsJudged, MaySubmit, SharesAreBriefed, SharesAreJudged, credit_of}
+use Rattle.history_laws.specs.Answered.{fails_early, is_early, CreditsAreCommitted, IsCommitted, IsJudged, MayNotSubmit, MaySubmit, SharesAreBriefed, SharesAreJudged, SharesNeedASession, credit_of}
 use Rattle.history_laws.proofs.Legalities.{some-none}
 use Rattle.history_laws.proofs.Entrances.{none-some, some-same}
 
@@ -98,8 +98,7 @@ judged h worker may checked events answer a =
           → WasBooked may.rules (past_of h) may.session share s ⊎ WasRefused may.rules (past_of h) may.session share s → IsJudged h worker may share events answer
       judged-by h worker may share s events answer made replied (inl b) = record {
         credited = (λ e. b.none, λ n. made ∙ ap (λ t. option_to_list t.event) b.step_is);
-        work = λ with is n.
-            replied ∙ ap (λ t. t.reply) b.step_is ∙ ap (λ w. reply.Credited (work_of w)) (ok-same (sym b.is_admitted ∙ is));
+        work = λ n. (b.with, b.is_admitted, replied ∙ ap (λ t. t.reply) b.step_is);
         refused = λ code failed. absurd (none-some (sym b.none ∙ failed));
       }
       judged-by h worker may share s events answer made replied (inr r) = record {
@@ -107,7 +106,7 @@ judged h worker may checked events answer a =
           λ e. absurd (cons-nil (sym e ∙ made ∙ ap (λ t. option_to_list t.event) r.step_is)),
           λ n. absurd (some-none (sym r.failed ∙ n)),
         );
-        work = λ with is n. absurd (some-none (sym r.failed ∙ n));
+        work = λ n. absurd (some-none (sym r.failed ∙ n));
         refused = λ code failed. (
           made ∙ ap (λ t. option_to_list t.event) r.step_is,
           replied ∙ ap (λ t. t.reply) r.step_is ∙ ap reply.Refused (some-same (sym r.failed ∙ failed)),
@@ -278,14 +277,102 @@ pub step-credits : (past : List Event) (worker : ℕ) (asked : Request) (o : Opt
 step-credits past worker asked None = inr tt
 step-credits past worker asked (Some rules) = step_by-credits rules past worker asked
 
+-- a request of a share: only a session that mines may ask it
+record AsksAShare (asked : Request) : Type 0 where
+  pub by : (rules : Rules) (past : List Event) (worker : ℕ) → step_by rules past worker asked ≡ step_for rules past asked (present past worker)
+  pub mines : (entered : Entrance) → permits asked entered ≡ mining entered
+
+asks-commit : (checked : Checked) → AsksAShare (request.Commit checked)
+asks-commit checked = record { by = λ rules past worker. refl; mines = λ entered. refl }
+
+asks-brief : (sub : Submission) → AsksAShare (request.Brief sub)
+asks-brief sub = record { by = λ rules past worker. refl; mines = λ entered. refl }
+
+-- a worker whose shares are all told that it has no session
+record IsTold (h : List Event) (worker : ℕ) : Type 0 where
+  pub never : MaySubmit h worker → ⊥
+  pub told_so : (asked : Request) → AsksAShare asked → step (past_of h) worker asked ≡ told reply.NoSession
+
+told-mining : (h : List Event) (worker : ℕ) (rules : Rules) → rules_of (past_of h) ≡ Some rules → (session : ℕ) → present (past_of h) worker ≡ Some session
+    → (entered : Entrance) → entrance (past_of h) session ≡ Some entered → (b : Bool) → mining entered ≡ b → MaySubmit h worker ⊎ IsTold h worker
+told-mining h worker rules r session p entered e true m =
+    inl (record { rules = rules; session = session; entered = entered; are_rules = r; is_present = p; is_entered = e; mines = m })
+told-mining h worker rules r session p entered e false m = inr (record {
+  never = λ may.
+      false≢true (sym m ∙ ap mining (some-same (sym e ∙ ap (entrance (past_of h)) (some-same (sym p ∙ may.is_present)) ∙ may.is_entered)) ∙ may.mines);
+  told_so = λ asked asks.
+      ap (λ o. step_under o (past_of h) worker asked) r ∙ asks.by rules (past_of h) worker ∙ ap (step_for rules (past_of h) asked) p
+      ∙ ap (step_as rules (past_of h) asked session) e
+      ∙ ap (λ b. cond b (step_in rules (past_of h) session asked) (told reply.NoSession)) (asks.mines entered ∙ m);
+})
+
+told-entered : (h : List Event) (worker : ℕ) (rules : Rules) → rules_of (past_of h) ≡ Some rules → (session : ℕ) → present (past_of h) worker ≡ Some session
+    → (o : Option Entrance) → entrance (past_of h) session ≡ o → MaySubmit h worker ⊎ IsTold h worker
+told-entered h worker rules r session p None e = inr (record {
+  never = λ may. none-some (sym e ∙ ap (entrance (past_of h)) (some-same (sym p ∙ may.is_present)) ∙ may.is_entered);
+  told_so = λ asked asks.
+      ap (λ o. step_under o (past_of h) worker asked) r ∙ asks.by rules (past_of h) worker ∙ ap (step_for rules (past_of h) asked) p
+      ∙ ap (step_as rules (past_of h) asked session) e;
+})
+told-entered h worker rules r session p (Some entered) e = told-mining h worker rules r session p entered e (mining entered) refl
+
+told-present : (h : List Event) (worker : ℕ) (rules : Rules) → rules_of (past_of h) ≡ Some rules → (o : Option ℕ) → present (past_of h) worker ≡ o
+    → MaySubmit h worker ⊎ IsTold h worker
+told-present h worker rules r None p = inr (record {
+  never = λ may. none-some (sym p ∙ may.is_present);
+  told_so = λ asked asks.
+      ap (λ o. step_under o (past_of h) worker asked) r ∙ asks.by rules (past_of h) worker ∙ ap (step_for rules (past_of h) asked) p;
+})
+told-present h worker rules r (Some session) p = told-entered h worker rules r session p (entrance (past_of h) session) refl
+
+told-under : (h : List Event) (worker : ℕ) (o : Option Rules) → rules_of (past_of h) ≡ o → MaySubmit h worker ⊎ IsTold h worker
+told-under h worker None r = inr (record {
+  never = λ may. none-some (sym r ∙ may.are_rules);
+  told_so = λ asked asks. ap (λ o. step_under o (past_of h) worker asked) r;
+})
+told-under h worker (Some rules) r = told-present h worker rules r (present (past_of h) worker) refl
+
+-- an answer whose step is told so
+no-session : (h : List Event) (worker : ℕ) (asked : Request) (events : List Event) (answer : Reply) → step (past_of h) worker asked ≡ told reply.NoSession
+    → Answer h worker asked events answer → (events ≡ []) × (answer ≡ reply.NoSession)
+no-session h worker asked events answer s a = (a.events_are ∙ ap (λ t. option_to_list t.event) s, a.reply_is ∙ ap (λ t. t.reply) s)
+
+may-not : (h : List Event) (worker : ℕ) → IsTold h worker → MayNotSubmit h worker
+may-not h worker t = record {
+  never = t.never;
+  booking = λ checked events answer. no-session h worker (request.Commit checked) events answer (t.told_so (request.Commit checked) (asks-commit checked));
+  asking = λ sub events answer. no-session h worker (request.Brief sub) events answer (t.told_so (request.Brief sub) (asks-brief sub));
+}
+
+pub sessions-needed : SharesNeedASession
+sessions-needed h worker = by (told-under h worker (rules_of (past_of h)) refl) where
+  by : MaySubmit h worker ⊎ IsTold h worker → MaySubmit h worker ⊎ MayNotSubmit h worker
+  by (inl may) = inl may
+  by (inr t) = inr (may-not h worker t)
+
+-- events of one each
+heads : {x y : Event} → x ∷ [] ≡ y ∷ [] → x ≡ y
+heads h = cc
+
+-- a Commit that made a Credit was judged so
+committed-by : (h : List Event) (worker : ℕ) (asked : Request) (checked : Checked) → asked ≡ request.Commit checked → (answer : Reply) (session : ℕ) (share : Share)
+    → Answer h worker asked (credit_of session share ∷ []) answer → MaySubmit h worker ⊎ MayNotSubmit h worker → IsCommitted h worker asked session share
+committed-by h worker asked checked is answer session share a (inr not) =
+    absurd (cons-nil (not.booking checked (credit_of session share ∷ []) answer (subst (λ r. Answer h worker r (credit_of session share ∷ []) answer) is a)).0)
+committed-by h worker asked checked is answer session share a (inl may) = by_first (first_failed may.rules (past_of h) may.session (share_of checked.sub)) refl where
+  j : IsJudged h worker may (share_of checked.sub) (credit_of session share ∷ []) answer
+  j = judged h worker may checked (credit_of session share ∷ []) answer (subst (λ r. Answer h worker r (credit_of session share ∷ []) answer) is a)
+
+  by_first : (o : Option Failed) → first_failed may.rules (past_of h) may.session (share_of checked.sub) ≡ o → IsCommitted h worker asked session share
+  by_first None none = record { checked = checked; is_commit = is; may = may; is_its = heads (j.credited.1 none); none = none }
+  by_first (Some code) failed = absurd (cons-nil (j.refused code failed).0)
+
 pub credits-committed : CreditsAreCommitted
 credits-committed h worker asked answer session share a = by_made (step-credits (past_of h) worker asked (rules_of (past_of h))) where
   by_event : (o : Option Event) → option_to_list o ≡ credit_of session share ∷ [] → NoCredit o → ⊥
   by_event None e n = cons-nil (sym e)
-  by_event (Some e') e n = subst (λ x. NoCredit (Some x)) (heads e) n where
-    heads : {x y : Event} → x ∷ [] ≡ y ∷ [] → x ≡ y
-    heads h = cc
+  by_event (Some made) e n = subst (λ x. NoCredit (Some x)) (heads e) n
 
-  by_made : OnlyByCommit asked (step (past_of h) worker asked) → (checked : Checked) × (asked ≡ request.Commit checked)
-  by_made (inl c) = c
+  by_made : OnlyByCommit asked (step (past_of h) worker asked) → IsCommitted h worker asked session share
+  by_made (inl (checked, is)) = committed-by h worker asked checked is answer session share a (sessions-needed h worker)
   by_made (inr n) = absurd (by_event (step (past_of h) worker asked).event (sym a.events_are) n)

@@ -1,5 +1,6 @@
 pub mod Allowed
 pub mod Answering
+pub mod Called
 pub mod CallsServed
 pub mod Causes
 pub mod ChannelsFit

@@ -1,5 +1,5 @@
 -- Answers keep a history legal, and credit a share exactly where no condition fails (this project's own).
-use Rattle.std.specs.Prelude.{IsTrue, ◌≡◌, ◌↔◌, ℕ, None, Some, Ok, List, [], ◌∷◌, ◌++◌, Bool, true, false, Option}
+use Rattle.std.specs.Prelude.{IsTrue, ◌≡◌, ◌↔◌, ◌⊎◌, ℕ, None, Some, Ok, List, [], ◌∷◌, ◌++◌, Bool, true, false, Option}
 use Rattle.pool_history.specs.declared.asking.Request.{Request}
 use Rattle.pool_history.specs.declared.asking.Request.TheVariants as request
 use Rattle.pool_history.specs.declared.events.Event.{Event}
@@ -41,8 +41,8 @@ credit_of session share = event.Credit session share.channel share.job share.non
 -- refused by the first that fails, without event
 pub record IsJudged (history : List Event) (worker : ℕ) (may : MaySubmit history worker) (share : Share) (events : List Event) (answer : Reply) : Type 0 where
   pub credited : (events ≡ credit_of may.session share ∷ []) ↔ (first_failed may.rules (past_of history) may.session share ≡ None)
-  pub work : (with : Admitted) → admitted may.rules (past_of history) may.session share ≡ Ok with
-      → first_failed may.rules (past_of history) may.session share ≡ None → answer ≡ reply.Credited (work_of with)
+  pub work : first_failed may.rules (past_of history) may.session share ≡ None
+      → (with : Admitted) × (admitted may.rules (past_of history) may.session share ≡ Ok with) × (answer ≡ reply.Credited (work_of with))
   pub refused : (code : Failed) → first_failed may.rules (past_of history) may.session share ≡ Some code
       → (events ≡ []) × (answer ≡ reply.Refused code)
 
@@ -85,8 +85,28 @@ SharesAreBriefed =
     (history : List Event) (worker : ℕ) (may : MaySubmit history worker) (sub : Submission) (events : List Event) (answer : Reply)
     → Answer history worker (request.Brief sub) events answer → IsBriefed history worker may (share_of sub) events answer
 
--- a Credit is made by no other request
+-- a worker that may not submit shares is told that it has no session, whether its share is to be booked or briefed
+pub record MayNotSubmit (history : List Event) (worker : ℕ) : Type 0 where
+  pub never : MaySubmit history worker → ⊥
+  pub booking : (checked : Checked) (events : List Event) (answer : Reply) → Answer history worker (request.Commit checked) events answer
+      → (events ≡ []) × (answer ≡ reply.NoSession)
+  pub asking : (sub : Submission) (events : List Event) (answer : Reply) → Answer history worker (request.Brief sub) events answer
+      → (events ≡ []) × (answer ≡ reply.NoSession)
+
+-- so it is of every other worker
+abbrev pub SharesNeedASession : Type 0
+SharesNeedASession = (history : List Event) (worker : ℕ) → MaySubmit history worker ⊎ MayNotSubmit history worker
+
+-- a Credit was asked for: a worker that may submit shares booked this one in its own session, and no condition failed
+pub record IsCommitted (history : List Event) (worker : ℕ) (asked : Request) (session : ℕ) (share : Share) : Type 0 where
+  pub checked : Checked
+  pub is_commit : asked ≡ request.Commit checked
+  pub may : MaySubmit history worker
+  pub is_its : credit_of session share ≡ credit_of may.session (share_of checked.sub)
+  pub none : first_failed may.rules (past_of history) may.session (share_of checked.sub) ≡ None
+
+-- no request but a Commit makes a Credit, and a Commit none but this
 abbrev pub CreditsAreCommitted : Type 0
 CreditsAreCommitted =
     (history : List Event) (worker : ℕ) (asked : Request) (answer : Reply) (session : ℕ) (share : Share)
-    → Answer history worker asked (credit_of session share ∷ []) answer → (checked : Checked) × (asked ≡ request.Commit checked)
+    → Answer history worker asked (credit_of session share ∷ []) answer → IsCommitted history worker asked session share

@@ -1,5 +1,5 @@
--- Every answer on a legal history can be told: its fields are of the types of its message (Stratum V2, "Data Types
--- Mapping"; the limits of classes, sessions and scripts are this project's own).
+-- What an answer on a legal history says is in the ranges that its types keep, where these are narrower than a number
+-- (Stratum V2, "Data Types Mapping"; the limits of classes, sessions and scripts are this project's own).
 use Rattle.std.specs.Prelude.{◌≤◌, ◌<◌, ◌^◌, ℕ, List, length}
 use Rattle.std.specs.List.{AllByRecursion}
 use Rattle.pool_history.specs.declared.asking.Request.{Request}

@@ -1,6 +1,6 @@
 //! What answers do to a legal history.
 
-ghost use Rattle.history_laws.specs.Answered.{AnswersKeepLegality, CreditsAreCommitted, SharesAreBriefed, SharesAreJudged};
+ghost use Rattle.history_laws.specs.Answered.{AnswersKeepLegality, CreditsAreCommitted, SharesAreBriefed, SharesAreJudged, SharesNeedASession};
 ghost use Rattle.history_laws.specs.Fitting.{AnswersFit};
 
 /// The events of an answer keep a legal history legal.
@@ -20,13 +20,18 @@ pub fn shares_are_briefed()
     ensures { SharesAreBriefed }
 {}
 
-/// Only a share that is to be booked makes a Credit.
+/// A worker may submit shares, or each of its shares is answered that it has no session, without event.
+pub fn shares_need_a_session()
+    ensures { SharesNeedASession }
+{}
+
+/// Only a share that is to be booked makes a Credit: that of its worker's own session, where no condition fails.
 pub fn credits_are_committed()
     ensures { CreditsAreCommitted }
 {}
 
-/// The answer to any request on a legal history can be told: classes, leads, sessions and scripts are in the ranges
-/// that their types keep, and each note of the news fits its message.
+/// What the answer to any request on a legal history says is in the ranges of its types: classes, leads, sessions and
+/// scripts, and each note of the news.
 pub fn answers_fit()
     ensures { AnswersFit }
 {}

@@ -16,7 +16,7 @@ mod staying;
 
 pub use answers::{
     answers_fit, answers_keep_legality, credits_are_committed, shares_are_briefed,
-    shares_are_judged,
+    shares_are_judged, shares_need_a_session,
 };
 pub use credited::{credits_are_booked, credits_fit, no_share_twice};
 pub use legality::{
@@ -32,6 +32,8 @@ pub use openings::open_channels_fit;
 pub use places::{
     channels_by_places, entrances_by_places, present_by_places, present_is_some_workers,
 };
-pub use serving::{calls_are_judged, calls_keep_legality};
+pub use serving::{
+    calls_are_answered, calls_are_judged, calls_keep_legality, credits_are_called, fronts_rise,
+};
 pub use spaces::{are_apart, spaces_are_disjoint};
 pub use staying::{channels_are_numbered, channels_stay, classes_stay, credits_stay, jobs_stay};

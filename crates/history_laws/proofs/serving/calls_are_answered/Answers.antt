@@ -1,0 +1,5 @@
+use Rattle.history_laws.proofs.Called.{calls-answered}
+use Rattle.history_laws.proofs.serving.calls_are_answered.Goals as goal
+
+pub returns : goal.returns
+returns c = calls-answered
