@@ -6,3 +6,4 @@ pub mod Placed
 pub mod Ranges
 pub mod Shares
 pub mod Sums
+pub mod WorkedBlock

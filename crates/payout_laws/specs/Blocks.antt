@@ -27,16 +27,16 @@ abbrev pub settled_block : Option ℕ → ℕ → Block → Settled
 settled_block window basis_points block = settlement window basis_points block.reward block.credits
 
 -- a block stands among the others at its credit's place, whatever came later
-pub record IsBlockAt (newer older : List Booked) (block : Booked) (reward : ℕ) : Type 0 where
+pub record IsBlockAt (newer older : List Booked) (credit : Booked) (reward : ℕ) : Type 0 where
   pub later : List Block
   pub counted : length later ≡ count_by (λ credit. is_some credit.reward) newer
-  pub there : blocks_of (newer ++ block ∷ older) ≡ later ++ record { reward = reward; credits = block ∷ older } ∷ blocks_of older
+  pub there : blocks_of (newer ++ credit ∷ older) ≡ later ++ record { reward = reward; credits = credit ∷ older } ∷ blocks_of older
 
 -- the blocks are the credits with a reward, each at its place, and there are no others
 pub record AreBlocks (credits : List Booked) : Type 0 where
   pub counted : length (blocks_of credits) ≡ count_by (λ credit. is_some credit.reward) credits
-  pub each : (newer older : List Booked) (block : Booked) (reward : ℕ) → credits ≡ newer ++ block ∷ older → block.reward ≡ Some reward
-      → IsBlockAt newer older block reward
+  pub each : (newer older : List Booked) (credit : Booked) (reward : ℕ) → credits ≡ newer ++ credit ∷ older → credit.reward ≡ Some reward
+      → IsBlockAt newer older credit reward
 
 abbrev pub BlocksAreCredits : Type 0
 BlocksAreCredits = (credits : List Booked) → AreBlocks credits

@@ -33,15 +33,15 @@ pub record IsConserved (basis_points reward : ℕ) (parts : List Part) (settled 
   pub weights : sum_by (λ paid. paid.weight) settled.payments ≡ all_weights parts
 
 -- a block of a history under its rules: its credit, those before it, and its reward
-pub record IsBlockOf (history : List Event) (rules : Rules) (block : Booked) (older : List Booked) (reward : ℕ) : Type 0 where
+pub record IsBlockOf (history : List Event) (rules : Rules) (credit : Booked) (older : List Booked) (reward : ℕ) : Type 0 where
   pub rules_are : rules_of (past_of history) ≡ Some rules
   pub newer : List Booked
-  pub stands : booked (past_of history) ≡ newer ++ block ∷ older
-  pub rewarded : block.reward ≡ Some reward
+  pub stands : booked (past_of history) ≡ newer ++ credit ∷ older
+  pub rewarded : credit.reward ≡ Some reward
 
 -- each block's reward is its payouts plus the pool's part
 abbrev pub RewardsAreConserved : Type 0
 RewardsAreConserved =
-    (history : List Event) (rules : Rules) (block : Booked) (older : List Booked) (reward : ℕ)
-    → Legal history → IsBlockOf history rules block older reward
-    → IsConserved rules.fee reward (parts_of rules.window (block ∷ older)) (settlement rules.window rules.fee reward (block ∷ older))
+    (history : List Event) (rules : Rules) (credit : Booked) (older : List Booked) (reward : ℕ)
+    → Legal history → IsBlockOf history rules credit older reward
+    → IsConserved rules.fee reward (parts_of rules.window (credit ∷ older)) (settlement rules.window rules.fee reward (credit ∷ older))

@@ -9,8 +9,8 @@ use Rattle.pool_history.specs.Sessions.{past_of}
 use Rattle.history_laws.specs.Credited.{IsBookedAfter, share_in}
 use Rattle.payout_laws.specs.Conservation.{IsBlockOf}
 
--- a credit was booked after the events before it; it is a block, its hash being at most the target of the tip that it
--- was booked with, exactly where it is one of the whole history, with the reward of its job and the credits before it
+-- a credit was booked after the events before it; its hash is at most the target of the tip that it was booked with
+-- exactly where it is a block of the whole history, with the reward of its job and the credits before it
 pub record IsBlockByPlace (before after : List Event) (session : ℕ) (share : Share) (credit : Event) : Type 0 where
   pub was : IsBookedAfter before session share credit
   pub exactly : IsTrue (is_block was.rules.pool_script was.with share)
