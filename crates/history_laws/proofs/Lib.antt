@@ -16,6 +16,7 @@ pub mod Judged
 pub mod Keeping
 pub mod Legalities
 pub mod Living
+pub mod Lowest
 pub mod NotesFit
 pub mod Opening
 pub mod Placing

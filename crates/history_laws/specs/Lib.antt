@@ -4,6 +4,7 @@ pub mod Credited
 pub mod Fitting
 pub mod Legality
 pub mod Limits
+pub mod Lowest
 pub mod OneMore
 pub mod Openings
 pub mod Places

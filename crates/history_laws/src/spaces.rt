@@ -1,7 +1,8 @@
-//! When extranonces can't meet.
+//! When extranonces can't meet, and which lead comes next.
 
 ghost use Rattle.std.specs.Prelude.{IsTrue, ◌↔◌};
 ghost use Rattle.history_laws.specs.Apart.{ShareNone, SpacesAreDisjoint};
+ghost use Rattle.history_laws.specs.Lowest.{LowestIsLeast};
 
 use pool_history::Lead;
 
@@ -19,4 +20,10 @@ pub fn are_apart(a: &Lead, b: &Lead) -> bool
 /// After each event of a legal history the spaces of two different open channels are disjoint.
 pub fn spaces_are_disjoint()
     ensures { SpacesAreDisjoint }
+{}
+
+/// The lead that an opening gets is the free one of its length that comes first in byte order, and it gets none
+/// exactly where none of that length is free.
+pub fn lowest_is_least()
+    ensures { LowestIsLeast }
 {}
