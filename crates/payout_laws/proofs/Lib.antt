@@ -5,5 +5,6 @@ pub mod Members
 pub mod Placed
 pub mod Ranges
 pub mod Shares
+pub mod Summed
 pub mod Sums
 pub mod WorkedBlock

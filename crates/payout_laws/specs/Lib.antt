@@ -2,3 +2,4 @@ pub mod Blocks
 pub mod Conservation
 pub mod Payouts
 pub mod Placed
+pub mod Summaries

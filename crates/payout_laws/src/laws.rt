@@ -4,6 +4,7 @@ ghost use Rattle.payout_laws.specs.Blocks.{BalancesAreRewards, BlocksAreCredits,
 ghost use Rattle.payout_laws.specs.Conservation.{RewardsAreConserved};
 ghost use Rattle.payout_laws.specs.Payouts.{BalancesAreSums, PayoutsAreQuotients};
 ghost use Rattle.payout_laws.specs.Placed.{BlocksByPlaces};
+ghost use Rattle.payout_laws.specs.Summaries.{SummariesAreOfBlocks};
 
 /// Each block of a legal history: its reward is its payouts plus the pool's part. The part beyond the fee is
 /// less than one satoshi for each account with a weight, and each payout is its exact share, rounded down.
@@ -40,4 +41,11 @@ pub fn balances_are_sums()
 /// The balances of all accounts and what the pool has are together the rewards of all blocks.
 pub fn balances_are_rewards()
     ensures { BalancesAreRewards }
+{}
+
+/// The summary of a history that begins with rules has each account with a credit once, and no other, with the work of
+/// its credits and what all blocks owe it, what the pool keeps of them, and how many blocks and credits there are. In a
+/// legal history the credits are its Credit events.
+pub fn summaries_are_of_blocks()
+    ensures { SummariesAreOfBlocks }
 {}

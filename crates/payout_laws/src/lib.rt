@@ -9,6 +9,7 @@ pub use fees::fee_of;
 pub use laws::{
     balances_are_rewards, balances_are_sums, blocks_are_credits, blocks_by_places,
     payouts_are_quotients, rewards_are_conserved, settlements_are_of_blocks,
+    summaries_are_of_blocks,
 };
 
 #[cfg(test)]
