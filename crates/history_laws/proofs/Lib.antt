@@ -18,6 +18,7 @@ pub mod Legalities
 pub mod Living
 pub mod Lowest
 pub mod NotesFit
+pub mod Numbering
 pub mod Opening
 pub mod Placing
 pub mod Ranges

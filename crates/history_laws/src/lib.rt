@@ -36,4 +36,6 @@ pub use serving::{
     calls_are_answered, calls_are_judged, calls_keep_legality, credits_are_called, fronts_rise,
 };
 pub use spaces::{are_apart, lowest_is_least, spaces_are_disjoint};
-pub use staying::{channels_are_numbered, channels_stay, classes_stay, credits_stay, jobs_stay};
+pub use staying::{
+    channels_are_numbered, channels_stay, classes_stay, credits_stay, jobs_are_numbered, jobs_stay,
+};
