@@ -19,7 +19,7 @@ pub record IsKept (history : List Event) : Type 0 where
   pub legal : Legal history
   pub has_ledger : AllCanBeKept history
 
--- a history begins so: a Start whose fields are of their types and whose rules are in their ranges
+-- such a Start alone is kept: its fields are of their types and its rules are in their ranges
 abbrev pub StartsAreKept : Type 0
 StartsAreKept = (rules : Rules) → AreRules rules → IsTrue (are_in_range rules) → IsKept (event.Start rules ∷ [])
 
