@@ -1,5 +1,5 @@
 -- The open channels of a legal history are as its rules allow.
-use Rattle.std.proofs.Common.{◌⊎◌, inl, inr, ◌≡◌, ℕ, ◌+◌, true, false, not, Option, None, Some, List, [], ◌∷◌, length, map, refl, subst, sym, ◌∙◌}
+use Rattle.std.proofs.Common.{◌⊎◌, inl, inr, ◌≡◌, ℕ, ◌+◌, true, false, not, Option, None, Some, List, [], ◌∷◌, ◌++◌, length, map, refl, subst, sym, ◌∙◌}
 use Rattle.std.proofs.Math.Dec.{eqb}
 use Rattle.std.proofs.lemmas.Bool.{and_parts, cond_both, false≢true}
 use Rattle.std.specs.Prelude.{nat_lt}
@@ -12,16 +12,18 @@ use Rattle.pool_history.specs.declared.events.Kind.TheVariants as kind
 use Rattle.pool_history.specs.declared.settings.Rules.{Rules}
 use Rattle.pool_history.specs.Accounts.{is_known}
 use Rattle.pool_history.specs.Channels.{OpenChannel, account_or, channel_moves, channels_of, class_before, named, opened, reclassed}
-use Rattle.pool_history.specs.Legal.{LegalPast, cause_by, cause_of, is_class, is_lead_length, is_just, is_nameless, is_opening_account, may_become, may_get, mining, provided}
+use Rattle.pool_history.specs.Legal.{LegalPast, cause_by, cause_of, is_class, is_lead_length, is_just, is_nameless, is_next_lead, is_opening_account, may_become, may_get, mining, provided}
 use Rattle.pool_history.specs.Refusing.{held_leads, own_channel}
 use Rattle.pool_history.specs.Sessions.{past_of, rules_of}
 use Rattle.pool_history.specs.Spaces.{lowest, overlap}
 use Rattle.pool_history.proofs.PlacesOfClasses.{all-end, all-filter, all-map}
-use Rattle.history_laws.specs.Openings.{AreLeadsApart, IsAllowed, OpenChannelsFit}
-use Rattle.history_laws.proofs.Causes.{IsOpening, IsUncaused, opening_of, provided-both, uncaused, within-next}
+use Rattle.history_laws.specs.Lowest.{IsLowestFree}
+use Rattle.history_laws.specs.Openings.{AreLeadsApart, IsAllowed, OpenChannelsFit, OpeningsGetLowest}
+use Rattle.history_laws.proofs.Causes.{IsOpening, IsUncaused, legal_opening, opening_of, provided-both, uncaused, within-next}
 use Rattle.history_laws.proofs.Entrances.{some-same}
-use Rattle.history_laws.proofs.Holding.{Apart, channels-apart}
-use Rattle.history_laws.proofs.Legalities.{rules-older}
+use Rattle.history_laws.proofs.Holding.{Apart, channels-apart, just-some}
+use Rattle.history_laws.proofs.Legalities.{none_caused, rules-older}
+use Rattle.history_laws.proofs.Lowest.{found-lowest}
 
 -- what an Open, a Name and a Class of a legal history say, by the rules
 pub rules-opening : (rules : Rules) (past : List Event) (session : ℕ) (k : Kind) (account : List ℕ) (class : ℕ) (lead : List ℕ) → rules_of past ≡ Some rules
@@ -67,12 +69,27 @@ pub or-known : (rules : Rules) (k : Kind) (account name : List ℕ) → is_known
 or-known rules k [] name known before = inl known
 or-known rules k (x ∷ account) name known before = before
 
+-- the lead of an opening is the lowest that is free
+pub next-lowest : (past : List Event) (k : Kind) (lead : List ℕ) → is_next_lead past k lead ≡ true → IsLowestFree (length lead) (held_leads past) lead
+next-lowest past k lead next =
+    found-lowest (length lead) (held_leads past) lead
+    (just-some lead (lowest (length lead) (held_leads past))
+    (and_parts (is_lead_length k (length lead)) (is_just lead (lowest (length lead) (held_leads past))) next).1)
+
+pub openings-lowest : OpeningsGetLowest
+openings-lowest before after session k account class lead l =
+    let o : (rules : Rules) × IsOpening rules (past_of before) session k account class lead =
+    legal_opening (past_of before) session k account class lead
+    (none_caused (before ++ event.Open session k account class lead ∷ after) l before (event.Open session k account class lead) after refl) in
+    next-lowest (past_of before) k lead o.1.next
+
 -- what is opened, named and set is allowed
 pub opened-allowed : (rules : Rules) (past : List Event) (session id : ℕ) (k : Kind) (account : List ℕ) (class : ℕ) (lead : List ℕ)
     → IsOpening rules past session k account class lead
     → IsAllowed rules (record { id = id; session = session; kind = k; account = account; lead = lead; opening_class = class; sets = [] })
 opened-allowed rules past session id k account class lead o = record {
   lead = (and_parts (is_lead_length k (length lead)) (is_just lead (lowest (length lead) (held_leads past))) o.next).0;
+  bytes = (next-lowest past k lead o.next).is_string.each;
   class = o.in_range;
   classes = λ at. o.in_range;
   account = opening-account rules k account o.account_said;
@@ -81,13 +98,14 @@ opened-allowed rules past session id k account class lead o = record {
 pub named-allowed : (rules : Rules) (id : ℕ) (account : List ℕ) (c : OpenChannel) → is_known rules account ≡ true → IsAllowed rules c → IsAllowed rules (named id account c)
 named-allowed rules id account c known a =
     cond_both (eqb c.id id) (record c { account = account_or c.account account }) c (IsAllowed rules)
-    (λ t. record { lead = a.lead; class = a.class; classes = a.classes; account = or-known rules c.kind c.account account known a.account }) (λ f. a)
+    (λ t. record { lead = a.lead; bytes = a.bytes; class = a.class; classes = a.classes; account = or-known rules c.kind c.account account known a.account }) (λ f. a)
 
 pub reclassed-allowed : (rules : Rules) (at id class : ℕ) (c : OpenChannel) → is_class rules class ≡ true → IsAllowed rules c → IsAllowed rules (reclassed at id class c)
 reclassed-allowed rules at id class c may a =
     cond_both (eqb c.id id) (record c { sets = record { at = at; class = class } ∷ c.sets }) c (IsAllowed rules)
     (λ t. record {
       lead = a.lead;
+      bytes = a.bytes;
       class = may;
       classes = λ place.
           cond_both (nat_lt at place) class (class_before place c.sets c.opening_class) (λ n. is_class rules n ≡ true) (λ before. may) (λ later. a.classes place);

@@ -28,7 +28,7 @@ pub use one_more::{
     channels_one_more, counts_one_more, credits_one_more, entrances_one_more, grants_one_more,
     headers_one_more, jobs_one_more, present_one_more, rules_one_more, spending_one_more,
 };
-pub use openings::open_channels_fit;
+pub use openings::{open_channels_fit, openings_get_lowest};
 pub use places::{
     channels_by_places, entrances_by_places, present_by_places, present_is_some_workers,
 };
