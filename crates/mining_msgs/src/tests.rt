@@ -1,5 +1,7 @@
 //! Each message in the bytes of the standard's tables, the defects, and the worked session.
 
+mod fields;
+
 use crate::{
     Mining, MsgError, NewExtendedMiningJob, OpenExtendedMiningChannel,
     OpenExtendedMiningChannelSuccess, SetExtranoncePrefix, SetNewPrevHash, SetupConnection,
@@ -16,7 +18,7 @@ struct Case {
     frame: &'static str,
 }
 
-const CASES: [Case; 23] = [
+const CASES: [Case; 25] = [
     Case {
         name: "SetupConnection",
         frame: "0000001f000001030104010703020103c3a965070103c3a96703c3a96803c3a96903c3a96a",
@@ -54,6 +56,10 @@ const CASES: [Case; 23] = [
         frame: "0080153100000403020105030201010d0c0b0a07030201141414141414141414141414141414141414141414141414141414141414147f",
     },
     Case {
+        name: "NewMiningJob without a time",
+        frame: "0080152d000004030201050302010007030201141414141414141414141414141414141414141414141414141414141414147f",
+    },
+    Case {
         name: "UpdateChannel",
         frame: "008016280000040302010000c842121212121212121212121212121212121212121212121212121212121212127f",
     },
@@ -88,6 +94,10 @@ const CASES: [Case; 23] = [
     Case {
         name: "NewExtendedMiningJob",
         frame: "00801f5d00000403020105030201010d0c0b0a070302010102212121212121212121212121212121212121212121212121212121212121212122222222222222222222222222222222222222222222222222222222222222220300b6b6b60300b7b7b7",
+    },
+    Case {
+        name: "NewExtendedMiningJob without a time or version rolling",
+        frame: "00801f590000040302010503020100070302010002212121212121212121212121212121212121212121212121212121212121212122222222222222222222222222222222222222222222222222222222222222220300b6b6b60300b7b7b7",
     },
     Case {
         name: "SetNewPrevHash",
