@@ -1,0 +1,23 @@
+use Rattle.std.proofs.Common.{◌≤◌, length, drop}
+use Rattle.std.proofs.lemmas.List.{take-append-le}
+use Rattle.pool_io.proofs.Stepping.{brought_bytes, brought_idle}
+use Rattle.frame_listing.proofs.Running.{turns_to, turns_to_end}
+use Rattle.frame_listing.proofs.command.Command.turn.Goals as goal
+
+pub returns-in-Bytes-clause-goes : goal.returns-in-Bytes-clause-goes
+returns-in-Bytes-clause-goes g c = λ turns before between.
+    let within : c.in-Bytes.count ≤ length c.take.new.buffer = c.in-Bytes.ensures.bound.1 in
+    let same = take-append-le c.in-Bytes.count c.take.new.buffer (drop c.min-room.result c.args.buffer.now) within in
+    let goes = rw same at (c.bytes.ensures.goes before between.steps between.made) in
+    turns_to turns before (g.S.Source.left c.take.new.self) (g.T.Sink.held c.bytes.new.sink) _ c.bytes.new.self c.bytes.result
+    (brought_bytes turns _ _ between.steps c.in-Bytes.count c.take.new.buffer between.brought c.in-Bytes.ensures.turns) goes
+
+pub returns-in-Idle-clause-goes : goal.returns-in-Idle-clause-goes
+returns-in-Idle-clause-goes g c = λ turns before between.
+    turns_to turns before (g.S.Source.left c.take.new.self) (g.T.Sink.held c.args.sink.now) _ c.idle.new.self c.idle.result
+    (brought_idle turns _ _ between.steps c.take.new.buffer between.brought c.in-Idle.ensures.turns) (c.idle.ensures.goes before (g.T.Sink.held c.args.sink.now) between.steps between.made)
+
+pub returns-in-End-clause-goes : goal.returns-in-End-clause-goes
+returns-in-End-clause-goes g c = λ turns before between.
+    turns_to_end turns before _ _ (g.T.Sink.held c.end.new.sink) between.steps c.take.new.buffer c.end.result between.brought c.in-End.ensures.turns
+    (c.end.ensures.ends before between.steps between.made)

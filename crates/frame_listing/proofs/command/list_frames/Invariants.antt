@@ -1,0 +1,15 @@
+use Rattle.std.proofs.Common.{◌≡◌, ◌≤◌, length}
+use Rattle.frame_listing.specs.Standing.{IsBetween, IsBelow, remaining}
+use Rattle.frame_listing.proofs.command.list_frames.Given as goal
+
+abbrev pub invariant-loop-end : goal.invariant-loop-end
+invariant-loop-end g l = record {
+  between : IsBetween (g.S.Source.left l.initial.source) (g.T.Sink.held l.initial.sink) (g.S.Source.left l.source) (g.T.Sink.held l.sink) l.command;
+  below : IsBelow l.command;
+  read_later : g.S.Source.faults l.initial.source ≤ g.S.Source.faults l.source;
+  write_later : g.T.Sink.faults l.initial.sink ≤ g.T.Sink.faults l.sink;
+  room : length l.buffer ≡ 4096;
+}
+
+abbrev pub decreases-loop-end : goal.decreases-loop-end
+decreases-loop-end g l = remaining l.command
