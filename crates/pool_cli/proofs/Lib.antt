@@ -1,4 +1,5 @@
-pub mod JobBytes
 pub mod Hosting
+pub mod JobBytes
+pub mod ListStatuses
 pub mod OneForm
 pub mod Statuses

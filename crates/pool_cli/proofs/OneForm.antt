@@ -7,9 +7,9 @@ use Rattle.fixed_job.specs.declared.judge.Job.{Job}
 use Rattle.pool_cli.specs.Numbers.{IsNumber}
 use Rattle.pool_io.specs.Seen.{Seen}
 use Rattle.pool_cli.specs.declared.words.Form.{Form}
-use Rattle.pool_cli.specs.declared.words.Form.TheVariants.{SoloFixed}
-use Rattle.pool_cli.specs.Forms.{IsJob, IsSoloFixed, IsForm}
-use Rattle.pool_cli.specs.Running.{FixedRan, NotGiven, Does, IsWithinLimits}
+use Rattle.pool_cli.specs.declared.words.Form.TheVariants.{SoloFixed, Frames}
+use Rattle.pool_cli.specs.Forms.{IsJob, IsSoloFixed, IsFrames, IsForm}
+use Rattle.pool_cli.specs.Running.{FixedRan, FramesRan, NotGiven, Does, IsWithinLimits}
 
 one_number : (text other : List ℕ) (m n : ℕ) → text ≡ other → IsNumber text m → IsNumber other n → m ≡ n
 one_number text other m n same a b = sym a.value ∙ ap (λ t. Rattle.std.specs.Str.Parse.digits_value 10 t) same ∙ b.value
@@ -46,6 +46,17 @@ pub was_asked : {S T : Type 0} (read_faults : S → ℕ) (held : T → Option (L
     → (class : ℕ) (job : Job) → IsSoloFixed words class job → FixedRan read_faults held write_faults class job old new status ⊎ NotGiven old new status
 was_asked {S} {T} read_faults held write_faults words (SoloFixed other work) old new status is does class job asked =
     rw (one_class words class other job work asked is, one_work words class other job work asked is) does
+was_asked {S} {T} read_faults held write_faults words Frames old new status is does class job asked =
+    absurd (let both = sym is ∙ asked.spelled in cc)
+
+-- the words are `frames`, so the frames were listed
+pub was_frames : {S T : Type 0} (read_faults : S → ℕ) (held : T → Option (List ℕ)) (write_faults : T → ℕ) (words : List (List ℕ)) (form : Form) (old new : Seen S T) (status : ℕ)
+    → IsForm words form → Does read_faults held write_faults form old new status
+    → IsFrames words → FramesRan read_faults held write_faults old new status ⊎ NotGiven old new status
+was_frames {S} {T} read_faults held write_faults words (SoloFixed class job) old new status is does asked =
+    absurd (let both = sym asked ∙ is.spelled in cc)
+was_frames {S} {T} read_faults held write_faults words Frames old new status is does asked = does
 
 pub within_limits : (words : List (List ℕ)) (form : Form) → IsForm words form → IsWithinLimits form
 within_limits words (SoloFixed class job) is = is.limit
+within_limits words Frames is = tt

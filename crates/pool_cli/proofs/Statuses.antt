@@ -8,12 +8,14 @@ use Rattle.fixed_job.specs.declared.judge.Job.{Job}
 use Rattle.fixed_job.specs.declared.submission.Submission.{Submission}
 use Rattle.fixed_job.specs.declared.command.FixedEnd.{FixedEnd}
 use Rattle.fixed_job.specs.declared.command.FixedEnd.TheVariants as end
+use Rattle.frame_listing.specs.declared.command.ListEnd.{ListEnd}
+use Rattle.frame_listing.specs.declared.command.ListEnd.TheVariants as list
 use Rattle.fixed_job.specs.Reading.{IsWhole, Stops}
 use Rattle.fixed_job.specs.Ending.{EndsBy, EndsAs, IsFault, Answers, Equal, HasBrought, HasSpelled}
 use Rattle.std.specs.Prelude.{Contains}
 use Rattle.pool_cli.specs.declared.words.Form.{Form}
-use Rattle.pool_cli.specs.declared.words.Form.TheVariants.{SoloFixed}
-use Rattle.pool_cli.specs.Running.{Does, status_of, FixedRan, NotGiven, Told, HandsBack, ReachesEither, IsFaultStatus}
+use Rattle.pool_cli.specs.declared.words.Form.TheVariants.{SoloFixed, Frames}
+use Rattle.pool_cli.specs.Running.{Does, status_of, listing_status, FixedRan, NotGiven, Told, HandsBack, ReachesEither, IsFaultStatus}
 
 module _ (class : ℕ) (job : Job) (steps : List Step) (given : List ℕ) where
   pub at_done : (e : FixedEnd) → 0 ≡ status_of e → EndsBy class job steps given e → Answers IsWhole Equal class job steps given
@@ -71,7 +73,7 @@ fault_status end.IdleOut fault = absurd fault
 fault_status end.BytesOut fault = absurd fault
 
 -- what the host refused has a fault's status
-not_given_status : {S T : Type 0} (old new : Seen S T) (status : ℕ) → NotGiven old new status → IsFaultStatus status
+pub not_given_status : {S T : Type 0} (old new : Seen S T) (status : ℕ) → NotGiven old new status → IsFaultStatus status
 not_given_status old new status refused =
     elim refused.cause [ inl memory ↦ inr (inr (inr memory)) | inr failed ↦ inr (inr (inl failed.0)) ]
 
@@ -133,8 +135,22 @@ status_listed end.Memory = (6, omega arith, refl)
 status_listed end.IdleOut = (7, omega arith, refl)
 status_listed end.BytesOut = (7, omega arith, refl)
 
+listing_listed : (e : ListEnd) → Contains statuses (listing_status e)
+listing_listed list.Done = (0, omega arith, refl)
+listing_listed list.BadFrame = (2, omega arith, refl)
+listing_listed list.ReadFault = (3, omega arith, refl)
+listing_listed list.WriteFault = (4, omega arith, refl)
+listing_listed list.Memory = (6, omega arith, refl)
+listing_listed list.IdleOut = (7, omega arith, refl)
+listing_listed list.BytesOut = (7, omega arith, refl)
+
+not_given_listed : {S T : Type 0} (old new : Seen S T) (status : ℕ) → NotGiven old new status → Contains statuses status
+not_given_listed old new status refused =
+    elim refused.cause [ inl memory ↦ rw memory (6, omega arith, refl) | inr failed ↦ rw failed.0 (5, omega arith, refl) ]
+
 pub does_listed : {S T : Type 0} (read_faults : S → ℕ) (held : T → Option (List ℕ)) (write_faults : T → ℕ) (form : Form) (old new : Seen S T) (status : ℕ)
     → Does read_faults held write_faults form old new status → Contains statuses status
 does_listed read_faults held write_faults (SoloFixed class job) old new status (inl r) = rw r.answer (status_listed r.end)
-does_listed read_faults held write_faults (SoloFixed class job) old new status (inr refused) =
-    elim refused.cause [ inl memory ↦ rw memory (6, omega arith, refl) | inr failed ↦ rw failed.0 (5, omega arith, refl) ]
+does_listed read_faults held write_faults (SoloFixed class job) old new status (inr refused) = not_given_listed old new status refused
+does_listed read_faults held write_faults Frames old new status (inl r) = rw r.answer (listing_listed r.end)
+does_listed read_faults held write_faults Frames old new status (inr refused) = not_given_listed old new status refused

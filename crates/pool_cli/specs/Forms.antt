@@ -4,7 +4,7 @@ use Rattle.std.specs.Int.{w32, to_le_bytes}
 use Rattle.hex.specs.Hex.{decode_sized}
 use Rattle.fixed_job.specs.declared.judge.Job.{Job}
 use Rattle.pool_cli.specs.declared.words.Form.{Form}
-use Rattle.pool_cli.specs.declared.words.Form.TheVariants.{SoloFixed}
+use Rattle.pool_cli.specs.declared.words.Form.TheVariants.{SoloFixed, Frames}
 use Rattle.pool_cli.specs.Numbers.{IsNumber}
 
 -- the bytes are the job's previous hash, merkle root and nbits, as they stand in a header
@@ -25,9 +25,14 @@ pub record IsSoloFixed (words : List (List ℕ)) (class : ℕ) (job : Job) : Typ
   pub decoded : decode_sized digits 68 ≡ Ok bytes
   pub is_job : IsJob bytes job
 
+-- `frames`
+abbrev pub IsFrames : List (List ℕ) → Type 0
+IsFrames words = words ≡ codes "frames" ∷ []
+
 -- the words are of this form
 abbrev pub IsForm : List (List ℕ) → Form → Type 0
 IsForm words (SoloFixed class job) = IsSoloFixed words class job
+IsForm words Frames = IsFrames words
 
 -- the words are none of the forms
 abbrev pub HasNoForm : List (List ℕ) → Type 0

@@ -1,4 +1,4 @@
--- What the top call says of the command `solo fixed`.
+-- What the top call says of the commands `solo fixed` and `frames`.
 use Rattle.std.specs.Prelude.{ℕ, ◌≡◌, ◌≤◌, ◌⊎◌, List, [], ◌∷◌, ◌++◌, Option, Some}
 use Rattle.pool_base.specs.Counts.{Rose}
 use Rattle.pool_io.specs.declared.turn.Turn.{Turn}
@@ -11,8 +11,14 @@ use Rattle.fixed_job.specs.declared.submission.Submission.{Submission}
 use Rattle.fixed_job.specs.declared.command.FixedEnd.{FixedEnd}
 use Rattle.fixed_job.specs.declared.command.FixedEnd.TheVariants.{Done, OtherFrame, IdleOut, BytesOut, ReadFault, WriteFault, Memory}
 use Rattle.pool_cli.specs.declared.words.Form.{Form}
-use Rattle.pool_cli.specs.declared.words.Form.TheVariants.{SoloFixed}
+use Rattle.pool_cli.specs.declared.words.Form.TheVariants.{SoloFixed, Frames}
 use Rattle.fixed_job.specs.Reading.{bounds, IsWhole, Stops, ReachesLimit}
+use Rattle.sv2_frames.specs.Framing.{FrameValue}
+use Rattle.frame_listing.specs.declared.flaw.Flaw.{Flaw}
+use Rattle.frame_listing.specs.declared.command.ListEnd.{ListEnd}
+use Rattle.frame_listing.specs.declared.command.ListEnd.TheVariants as list
+use Rattle.frame_listing.specs.Reading as listed
+use Rattle.frame_listing.specs.Ending as listing
 use Rattle.fixed_job.specs.Answers.{answers_to}
 use Rattle.fixed_job.specs.Ending.{Ran, EndsAs}
 
@@ -54,14 +60,43 @@ pub record NotGiven {S T : Type 0} (old new : Seen S T) (status : ℕ) : Type 0 
   pub sinks : new.sinks.lent ≡ old.sinks.lent
   pub cause : (status ≡ 8) ⊎ ((status ≡ 7) × Rose old.faults new.faults)
 
+-- the status of each end of a listing
+abbrev pub listing_status : ListEnd → ℕ
+listing_status list.Done = 0
+listing_status list.BadFrame = 3
+listing_status list.ReadFault = 4
+listing_status list.WriteFault = 5
+listing_status list.Memory = 8
+listing_status list.IdleOut = 10
+listing_status list.BytesOut = 10
+
+-- A source and a sink were given, the frames of the one were listed in the other, and both came back.
+pub record FramesRan {S T : Type 0} (read_faults : S → ℕ) (held : T → Option (List ℕ)) (write_faults : T → ℕ)
+    (old new : Seen S T) (status : ℕ) : Type 0 where
+  pub source : S
+  pub sink : T
+  pub sources : CameBack old.sources new.sources source
+  pub sinks : CameBack old.sinks new.sinks sink
+  pub end : ListEnd
+  pub answer : status ≡ listing_status end
+  pub ran : listing.Ran old.input old.output (held sink) end
+  pub whole : (told : List Turn) (frames : List FrameValue) → old.input ≡ Some told → listed.IsWhole (steps_of told) frames → listing.EndsAs list.Done end
+  pub stops : (told : List Turn) (frames : List FrameValue) (flaw : Flaw) → old.input ≡ Some told → listed.Stops (steps_of told) frames flaw → listing.EndsAs list.BadFrame end
+  pub idle_out : (told : List Turn) (frames : List FrameValue) → old.input ≡ Some told → listed.ReachesLimit (IsIdleOut bounds) (steps_of told) frames → listing.EndsAs list.IdleOut end
+  pub bytes_out : (told : List Turn) (frames : List FrameValue) → old.input ≡ Some told → listed.ReachesLimit (IsBytesOut bounds) (steps_of told) frames → listing.EndsAs list.BytesOut end
+  pub read_fault : end ≡ list.ReadFault → Rose 0 (read_faults source)
+  pub write_fault : end ≡ list.WriteFault → Rose 0 (write_faults sink)
+
 -- what the words asked for was done
 abbrev pub Does : {S T : Type 0} → (S → ℕ) → (T → Option (List ℕ)) → (T → ℕ) → Form → Seen S T → Seen S T → ℕ → Type 0
 Does read_faults held write_faults (SoloFixed class job) old new status =
     FixedRan read_faults held write_faults class job old new status ⊎ NotGiven old new status
+Does read_faults held write_faults Frames old new status = FramesRan read_faults held write_faults old new status ⊎ NotGiven old new status
 
 -- the numbers of a form are within their limits
 abbrev pub IsWithinLimits : Form → Type 0
 IsWithinLimits (SoloFixed class job) = class ≤ 60
+IsWithinLimits Frames = Unit {0}
 
 -- a sink came back that holds these bytes more than standard output did
 abbrev pub HandsBack : {S T : Type 0} → (T → Option (List ℕ)) → Seen S T → Seen S T → List ℕ → Type 0
@@ -83,6 +118,30 @@ Told Ends Compare Gives class job input = (told : List Turn) → input ≡ Some 
 -- 36,000 Idle answers in a row, or 2^40 bytes
 abbrev pub ReachesEither : List Step → List Submission → Type 0
 ReachesEither steps shares = ReachesLimit (IsIdleOut bounds) steps shares ⊎ ReachesLimit (IsBytesOut bounds) steps shares
+
+-- where standard input tells its turns: a listing of them ends so, and its text was given
+abbrev pub Prints : (List Step → List ℕ → Type 0) → (List ℕ → Type 0) → Option (List Turn) → Type 0
+Prints Ends Gives input = (told : List Turn) → input ≡ Some told → (given : List ℕ) × Ends (steps_of told) given × Gives given
+
+-- what each status says of the steps and of the text
+abbrev pub PrintsDone : List Step → List ℕ → Type 0
+PrintsDone steps given = listing.EndsBy steps given list.Done
+
+abbrev pub PrintsBad : List Step → List ℕ → Type 0
+PrintsBad steps given = listing.EndsBy steps given list.BadFrame
+
+abbrev pub PrintsLimit : List Step → List ℕ → Type 0
+PrintsLimit steps given = listing.EndsBy steps given list.IdleOut ⊎ listing.EndsBy steps given list.BytesOut
+
+abbrev pub PrintsReadFault : List Step → List ℕ → Type 0
+PrintsReadFault steps given = listing.EndsBy steps given list.ReadFault
+
+abbrev pub PrintsWriteFault : List Step → List ℕ → Type 0
+PrintsWriteFault steps given = listing.EndsBy steps given list.WriteFault
+
+-- 36,000 Idle answers in a row, or 2^40 bytes, behind these good frames
+abbrev pub ListsToLimit : List Step → List FrameValue → Type 0
+ListsToLimit steps frames = listed.ReachesLimit (IsIdleOut bounds) steps frames ⊎ listed.ReachesLimit (IsBytesOut bounds) steps frames
 
 -- the status is that of a fault or of want of memory
 abbrev pub IsFaultStatus : ℕ → Type 0

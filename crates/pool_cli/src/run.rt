@@ -8,11 +8,15 @@ ghost use Rattle.fixed_job.specs.declared.submission.Submission.{Submission};
 ghost use Rattle.fixed_job.specs.declared.judge.Job.{Job as Work};
 ghost use Rattle.fixed_job.specs.Ending.{Equal, HasBrought, HasSpelled};
 ghost use Rattle.fixed_job.specs.Reading.{IsWhole, Stops};
-ghost use Rattle.pool_cli.specs.Forms.{IsSoloFixed, HasNoForm};
-ghost use Rattle.pool_cli.specs.Running.{FixedRan, NotGiven, Does, IsWithinLimits, Told, HandsBack, ReachesEither, ReadRose, WriteRose, IsFaultStatus};
+ghost use Rattle.sv2_frames.specs.Framing.{FrameValue};
+ghost use Rattle.frame_listing.specs.declared.flaw.Flaw.{Flaw};
+ghost use Rattle.frame_listing.specs.Reading as listed;
+ghost use Rattle.pool_cli.specs.Forms.{IsSoloFixed, IsFrames, HasNoForm};
+ghost use Rattle.pool_cli.specs.Running.{FixedRan, FramesRan, Prints, PrintsDone, PrintsBad, PrintsLimit, PrintsReadFault, PrintsWriteFault, ListsToLimit, NotGiven, Does, IsWithinLimits, Told, HandsBack, ReachesEither, ReadRose, WriteRose, IsFaultStatus};
 
 use crate::words::{Form, Word, form_of};
 use fixed_job::{FixedEnd, Job, judge_shares};
+use frame_listing::{ListEnd, list_frames};
 use pool_io::{Host, HostError};
 use std::alloc::Global;
 
@@ -54,6 +58,29 @@ pub fn run<H: Host>(alloc: Global, host: &mut H, words: &[Word]) -> u8
     ensures is_limit { (class : ℕ) (job : Work) (told : List Turn) (shares : List Submission) → IsSoloFixed words.now class job
         → (H.seen host.old).input ≡ Some told → ReachesEither (steps_of told) shares → (result ≡ 10) ⊎ IsFaultStatus result }
 
+    // `frames`: 0, the whole input is good frames, and the sink that came back has their lines. 3: it has the lines
+    // of the good frames and the last line of the first bad one. 10: the lines of what came before a limit.
+    ensures listed { IsFrames words.now → result ≡ 0
+        → Prints PrintsDone (HandsBack H.T.held (H.seen host.old) (H.seen host.new)) (H.seen host.old).input }
+    ensures listed_bad { IsFrames words.now → result ≡ 3
+        → Prints PrintsBad (HandsBack H.T.held (H.seen host.old) (H.seen host.new)) (H.seen host.old).input }
+    ensures listed_limit { IsFrames words.now → result ≡ 10
+        → Prints PrintsLimit (HandsBack H.T.held (H.seen host.old) (H.seen host.new)) (H.seen host.old).input }
+
+    // 4: the lines of all that was read. 5: a front of the text.
+    ensures listed_read_fault { IsFrames words.now → result ≡ 4
+        → Prints PrintsReadFault (HandsBack H.T.held (H.seen host.old) (H.seen host.new)) (H.seen host.old).input }
+    ensures listed_write_fault { IsFrames words.now → result ≡ 5
+        → Prints PrintsWriteFault (HandsBack H.T.held (H.seen host.old) (H.seen host.new)) (H.seen host.old).input }
+
+    // The other way round.
+    ensures is_listed { (told : List Turn) (frames : List FrameValue) → IsFrames words.now
+        → (H.seen host.old).input ≡ Some told → listed.IsWhole (steps_of told) frames → (result ≡ 0) ⊎ IsFaultStatus result }
+    ensures is_listed_bad { (told : List Turn) (frames : List FrameValue) (flaw : Flaw) → IsFrames words.now
+        → (H.seen host.old).input ≡ Some told → listed.Stops (steps_of told) frames flaw → (result ≡ 3) ⊎ IsFaultStatus result }
+    ensures is_listed_limit { (told : List Turn) (frames : List FrameValue) → IsFrames words.now
+        → (H.seen host.old).input ≡ Some told → ListsToLimit (steps_of told) frames → (result ≡ 10) ⊎ IsFaultStatus result }
+
     // A fault is told only where a count rose: the source's, the sink's, the host's.
     ensures read_fault { result ≡ 4 → ReadRose H.S.faults (H.seen host.old) (H.seen host.new) }
     ensures write_fault { result ≡ 5 → WriteRose H.T.faults (H.seen host.old) (H.seen host.new) }
@@ -79,7 +106,31 @@ fn perform<H: Host>(alloc: Global, host: &mut H, form: Form) -> u8
 {
     match form {
         Form::SoloFixed { class, job } => solo_fixed(alloc, host, class, &job),
+        Form::Frames => frames(alloc, host),
     }
+}
+
+/// The command `frames` over standard input and output.
+fn frames<H: Host>(alloc: Global, host: &mut H) -> u8
+    ensures ran { FramesRan H.S.faults H.T.held H.T.faults (H.seen host.old) (H.seen host.new) result
+        ⊎ NotGiven (H.seen host.old) (H.seen host.new) result }
+    ensures later { (H.seen host.old).faults ≤ (H.seen host.new).faults }
+{
+    let mut source = match host.input() {
+        Ok(source) => source,
+        Err(error) => return refused(error),
+    };
+    let mut sink = match host.output() {
+        Ok(sink) => sink,
+        Err(error) => {
+            host.done_source(source);
+            return refused(error);
+        }
+    };
+    let end = list_frames(alloc, &mut source, &mut sink);
+    host.done_source(source);
+    host.done_sink(sink);
+    listing_status(end)
 }
 
 /// The command `solo fixed` over standard input and output.
@@ -117,7 +168,7 @@ fn refused(error: HostError) -> u8
     }
 }
 
-ghost use Rattle.pool_cli.specs.Running.{status_of};
+ghost use Rattle.pool_cli.specs.Running.{status_of, listing_status};
 
 fn status(end: FixedEnd) -> u8
     ensures { result ≡ status_of end }
@@ -129,5 +180,18 @@ fn status(end: FixedEnd) -> u8
         FixedEnd::WriteFault => 5,
         FixedEnd::Memory => MEMORY,
         FixedEnd::IdleOut | FixedEnd::BytesOut => 10,
+    }
+}
+
+fn listing_status(end: ListEnd) -> u8
+    ensures { result ≡ listing_status end }
+{
+    match end {
+        ListEnd::Done => 0,
+        ListEnd::BadFrame => 3,
+        ListEnd::ReadFault => 4,
+        ListEnd::WriteFault => 5,
+        ListEnd::Memory => MEMORY,
+        ListEnd::IdleOut | ListEnd::BytesOut => 10,
     }
 }

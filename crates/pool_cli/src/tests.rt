@@ -23,6 +23,8 @@ fn digits(word: &str) -> &str {
         "other-job" => "00801a1800000100000000000000020000001dac2b7c29ab5f4901000000",
         "other-channel" => "00801a1800000200000000000000010000001dac2b7c29ab5f4901000000",
         "plain" => "00001a1800000100000000000000010000001dac2b7c29ab5f4901000000",
+        // A SetupConnection of versions 2 and 2.
+        "setup" => "00000010000000020002000000000000000000000000",
         // The answers to them.
         "credited" => "00801c1400000100000000000000010000000000000000080000",
         "weak" => "00801d1b0000010000000000000012646966666963756c74792d746f6f2d6c6f77",
@@ -99,9 +101,19 @@ fn outcome(
     turns: Vec<Turn>,
     failing: Failing,
 ) -> Result<(u8, Option<Vec<u8>>), Fail> {
-    let mut host = host(alloc, turns, failing)?;
     let line = format!(in alloc; "solo fixed {class} JOB")?;
-    let words = words(alloc, line.as_str())?;
+    outcome_of(alloc, line.as_str(), turns, failing)
+}
+
+/// What a run of these words answers, and what the sink that came back holds.
+fn outcome_of(
+    alloc: Global,
+    line: &str,
+    turns: Vec<Turn>,
+    failing: Failing,
+) -> Result<(u8, Option<Vec<u8>>), Fail> {
+    let mut host = host(alloc, turns, failing)?;
+    let words = words(alloc, line)?;
     let status = run(alloc, &mut host, &words);
     let held = match host.sinks() {
         [sink] => Some(sink.bytes().to_vec(alloc)?),
@@ -135,6 +147,51 @@ fn shares_of_the_first_block_are_judged_as_worked(rt: HostRuntime) -> Result<(),
             found,
             (status, Some(bytes(alloc, answers)?)),
             "at {shares}"
+        );
+    }
+    Ok(())
+}
+
+#[test]
+fn frames_are_listed_with_their_status(rt: HostRuntime) -> Result<(), Fail> {
+    let alloc = rt.alloc();
+    for (frames, failing, status, text) in [
+        (
+            "setup",
+            NONE,
+            0,
+            "frame 0 ext 0000 kind 00 length 16 SetupConnection\n",
+        ),
+        (
+            "0080150900000100000001000000 02",
+            NONE,
+            3,
+            "bad 0 field 2 count\n",
+        ),
+        (
+            "setup 000071",
+            NONE,
+            3,
+            "frame 0 ext 0000 kind 00 length 16 SetupConnection\nbad 1 cut 3\n",
+        ),
+        (
+            "setup share",
+            Failing(Some(1), None, None),
+            4,
+            "frame 0 ext 0000 kind 00 length 16 SetupConnection\n",
+        ),
+        (
+            "setup share",
+            Failing(None, Some(1), None),
+            5,
+            "frame 0 ext 0000 kind 00 length 16 SetupConnection\n",
+        ),
+    ] {
+        let found = outcome_of(alloc, "frames", pieces(alloc, frames)?, failing)?;
+        assert_eq!(rt;
+            found,
+            (status, Some(Vec::from_slice(alloc, text.as_bytes())?)),
+            "at {frames}"
         );
     }
     Ok(())

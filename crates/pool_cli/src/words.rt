@@ -2,7 +2,8 @@
 ghost use Rattle.std.specs.Prelude.{◌≡◌, ◌↔◌, ◌<◌, ◌^◌, ℕ, List, string_bytes, length, IsTrue, IfSome, IfNone, Ok};
 ghost use Rattle.hex.specs.Hex.{decode_sized};
 ghost use Rattle.pool_cli.specs.Numbers.{IsNumber};
-ghost use Rattle.pool_cli.specs.Forms.{IsJob, IsForm};
+ghost use Rattle.fixed_job.specs.declared.judge.Job.{Job as Work};
+ghost use Rattle.pool_cli.specs.Forms.{IsJob, IsSoloFixed, IsFrames, IsForm};
 
 use fixed_job::Job;
 use hex::FromHex;
@@ -47,12 +48,35 @@ impl Word {
 pub enum Form {
     /// `solo fixed CLASS JOBHEX`
     SoloFixed { class: u8, job: Job },
+    /// `frames`
+    Frames,
 }
 
 /// The form that the words have, if they have one.
 pub fn form_of(words: &[Word]) -> Option<Form>
     ensures found { IfSome result (IsForm words.now) }
     ensures none { IfNone result ((form : _) → IsForm words.now form → ⊥) }
+{
+    if is_frames(words) {
+        return Some(Form::Frames);
+    }
+    solo_fixed_form(words)
+}
+
+/// Whether the words are `frames`.
+fn is_frames(words: &[Word]) -> bool
+    ensures { IsTrue result ↔ IsFrames words.now }
+{
+    match words {
+        [word] => word.says("frames"),
+        _ => false,
+    }
+}
+
+/// The form `solo fixed CLASS JOBHEX`, if the words have it.
+fn solo_fixed_form(words: &[Word]) -> Option<Form>
+    ensures found { IfSome result (IsForm words.now) }
+    ensures none { IfNone result ((class : ℕ) (job : Work) → IsSoloFixed words.now class job → ⊥) }
 {
     let [solo, fixed, class, job] = words else {
         return None;

@@ -3,10 +3,11 @@ use Rattle.pool_base.specs.Lists.{Begins}
 use Rattle.fixed_job.specs.declared.judge.Job.{Job}
 use Rattle.fixed_job.specs.Ending.{Equal, HasBrought, HasSpelled}
 use Rattle.fixed_job.specs.Reading.{IsWhole, Stops}
-use Rattle.pool_cli.specs.declared.words.Form.TheVariants.{SoloFixed}
-use Rattle.pool_cli.specs.Forms.{IsSoloFixed}
-use Rattle.pool_cli.specs.Running.{FixedRan, NotGiven, ReachesEither}
-use Rattle.pool_cli.proofs.OneForm.{was_asked}
+use Rattle.pool_cli.specs.declared.words.Form.TheVariants.{SoloFixed, Frames}
+use Rattle.pool_cli.specs.Forms.{IsSoloFixed, IsFrames}
+use Rattle.pool_cli.specs.Running.{FixedRan, FramesRan, NotGiven, ReachesEither, PrintsDone, PrintsBad, PrintsLimit, PrintsReadFault, PrintsWriteFault}
+use Rattle.pool_cli.proofs.OneForm.{was_asked, was_frames}
+use Rattle.pool_cli.proofs.ListStatuses.{at_listed, at_bad, at_list_limit, at_list_read_fault, at_list_write_fault, prints_at, is_listed, is_listed_bad, is_listed_limit}
 use Rattle.pool_cli.proofs.Statuses.{told_at, at_done, at_other_frame, at_limit, at_read_fault, at_write_fault, is_other_frame, is_limit, does_listed}
 use Rattle.pool_cli.proofs.run.run.Goals as goal
 use Rattle.pool_cli.proofs.run.run.Goals.{After-perform}
@@ -58,3 +59,52 @@ returns-in-None-clause-is_other_frame g c = λ class job told shares form. absur
 
 pub returns-in-None-clause-is_limit : goal.returns-in-None-clause-is_limit
 returns-in-None-clause-is_limit g c = λ class job told shares form. absurd (c.in-None.ensures.none (SoloFixed class job) form)
+
+-- the frames were listed
+asked_frames : (g : _) (c : After-perform g) → IsFrames c.args.words.now
+    → FramesRan g.H.S.Source.faults g.H.T.Sink.held g.H.T.Sink.faults (g.H.Host.seen c.args.host.now) (g.H.Host.seen c.perform.new.host) c.perform.result
+    ⊎ NotGiven (g.H.Host.seen c.args.host.now) (g.H.Host.seen c.perform.new.host) c.perform.result
+asked_frames g c words =
+    was_frames g.H.S.Source.faults g.H.T.Sink.held g.H.T.Sink.faults c.args.words.now c.in-Some.form (g.H.Host.seen c.args.host.now) (g.H.Host.seen c.perform.new.host) c.perform.result
+    c.in-Some.ensures.found c.perform.ensures.does words
+
+pub returns-in-Some-clause-listed : goal.returns-in-Some-clause-listed
+returns-in-Some-clause-listed g c = λ words is.
+    prints_at g.H.S.Source.faults g.H.T.Sink.held g.H.T.Sink.faults _ _ _ (asked_frames g c words) 0 PrintsDone (λ e. omega arith) (λ e. omega arith) (λ steps given e same ends. at_listed steps given e same ends) is
+
+pub returns-in-Some-clause-listed_bad : goal.returns-in-Some-clause-listed_bad
+returns-in-Some-clause-listed_bad g c = λ words is.
+    prints_at g.H.S.Source.faults g.H.T.Sink.held g.H.T.Sink.faults _ _ _ (asked_frames g c words) 3 PrintsBad (λ e. omega arith) (λ e. omega arith) (λ steps given e same ends. at_bad steps given e same ends) is
+
+pub returns-in-Some-clause-listed_limit : goal.returns-in-Some-clause-listed_limit
+returns-in-Some-clause-listed_limit g c = λ words is.
+    prints_at g.H.S.Source.faults g.H.T.Sink.held g.H.T.Sink.faults _ _ _ (asked_frames g c words) 10 PrintsLimit (λ e. omega arith) (λ e. omega arith) (λ steps given e same ends. at_list_limit steps given e same ends) is
+
+pub returns-in-Some-clause-listed_read_fault : goal.returns-in-Some-clause-listed_read_fault
+returns-in-Some-clause-listed_read_fault g c = λ words is.
+    prints_at g.H.S.Source.faults g.H.T.Sink.held g.H.T.Sink.faults _ _ _ (asked_frames g c words) 4 PrintsReadFault (λ e. omega arith) (λ e. omega arith) (λ steps given e same ends. at_list_read_fault steps given e same ends) is
+
+pub returns-in-Some-clause-listed_write_fault : goal.returns-in-Some-clause-listed_write_fault
+returns-in-Some-clause-listed_write_fault g c = λ words is.
+    prints_at g.H.S.Source.faults g.H.T.Sink.held g.H.T.Sink.faults _ _ _ (asked_frames g c words) 5 PrintsWriteFault (λ e. omega arith) (λ e. omega arith) (λ steps given e same ends. at_list_write_fault steps given e same ends) is
+
+pub returns-in-Some-clause-is_listed : goal.returns-in-Some-clause-is_listed
+returns-in-Some-clause-is_listed g c = λ told frames words.
+    is_listed g.H.S.Source.faults g.H.T.Sink.held g.H.T.Sink.faults _ _ _ (asked_frames g c words) told frames
+
+pub returns-in-Some-clause-is_listed_bad : goal.returns-in-Some-clause-is_listed_bad
+returns-in-Some-clause-is_listed_bad g c = λ told frames flaw words.
+    is_listed_bad g.H.S.Source.faults g.H.T.Sink.held g.H.T.Sink.faults _ _ _ (asked_frames g c words) told frames flaw
+
+pub returns-in-Some-clause-is_listed_limit : goal.returns-in-Some-clause-is_listed_limit
+returns-in-Some-clause-is_listed_limit g c = λ told frames words.
+    is_listed_limit g.H.S.Source.faults g.H.T.Sink.held g.H.T.Sink.faults _ _ _ (asked_frames g c words) told frames
+
+pub returns-in-None-clause-is_listed : goal.returns-in-None-clause-is_listed
+returns-in-None-clause-is_listed g c = λ told frames words. absurd (c.in-None.ensures.none Frames words)
+
+pub returns-in-None-clause-is_listed_bad : goal.returns-in-None-clause-is_listed_bad
+returns-in-None-clause-is_listed_bad g c = λ told frames flaw words. absurd (c.in-None.ensures.none Frames words)
+
+pub returns-in-None-clause-is_listed_limit : goal.returns-in-None-clause-is_listed_limit
+returns-in-None-clause-is_listed_limit g c = λ told frames words. absurd (c.in-None.ensures.none Frames words)
