@@ -1,0 +1,21 @@
+#!/bin/sh
+# Builds the program, and lists the frames of a captured session, one line each; then the same with the last
+# frame cut off, and with a payload that is no message of its kind.
+set -eu
+cd "$(dirname "$0")/.."
+
+program=crates/pool_cli/out/pool_cli
+echo "building (proving it takes some minutes the first time)"
+(cd crates/pool_cli && rt run -- frames < /dev/null > /tmp/maqefwi-build.$$ 2>&1) || { cat /tmp/maqefwi-build.$$; exit 1; }
+rm -f /tmp/maqefwi-build.$$
+
+bytes() { tr -d ' \n' | sed 's/../\\x&/g' | xargs -0 printf '%b'; }
+captured() { grep -v '^#' examples/session.hex; }
+listed() { "$program" frames && echo "status 0" || echo "status $?"; }
+
+echo "the session:"
+captured | bytes | listed
+echo "the session, with the last byte cut off:"
+captured | bytes | head -c -1 | listed
+echo "a NewMiningJob whose optional time has a count of 2:"
+printf '008015090000010000000100000002' | bytes | listed
