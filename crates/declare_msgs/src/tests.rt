@@ -1,10 +1,13 @@
 //! Each message in the bytes of the project's tables, and the defects.
 
-use crate::{Declare, DeclareMiningJob, MsgError, read};
+use crate::{
+    AllocateMiningJobToken, AllocateMiningJobTokenSuccess, Declare, DeclareMiningJob,
+    DeclareMiningJobError, DeclareMiningJobSuccess, MsgError, PushSolution, read,
+};
 use std::alloc::Global;
 use std::process::Abort;
 use std::test::Fail;
-use sv2_types::{ReadError, Seq32};
+use sv2_types::{ReadError, Seq32, U256};
 
 // A message's name and its whole frame, each field written by hand from the tables.
 struct Case {
@@ -90,6 +93,118 @@ fn each_message_is_read_whole_alone(rt: HostRuntime) -> Result<(), Fail> {
     Ok(())
 }
 
+/// The payload of the case's frame.
+fn payload_of(rt: &impl Abort, alloc: Global, name: &str) -> Result<Vec<u8>, Fail> {
+    for case in &CASES {
+        if case.name == name {
+            let frame = hex::decode(alloc, case.frame)?;
+            assert!(rt; frame.len() >= 6, "{name}");
+            return Ok(frame[6..].to_vec(alloc)?);
+        }
+    }
+    Err(Fail::from("there is no such case"))
+}
+
+#[test]
+fn fields_of_tokens_stand_by_their_names(rt: HostRuntime) -> Result<(), Fail> {
+    let payload = payload_of(&rt, rt.alloc(), "AllocateMiningJobToken")?;
+    let asked = AllocateMiningJobToken {
+        user_identifier: "éa",
+        request_id: 0x0102_0305,
+    };
+    assert!(rt; read(0x50, &payload) == Ok(Declare::AllocateMiningJobToken(asked)));
+
+    let payload = payload_of(&rt, rt.alloc(), "AllocateMiningJobToken.Success")?;
+    let granted = AllocateMiningJobTokenSuccess {
+        request_id: 0x0102_0304,
+        mining_job_token: &[0xa1; 3],
+        coinbase_tx_outputs: &[0xb2; 3],
+    };
+    assert!(rt; read(0x51, &payload) == Ok(Declare::AllocateMiningJobTokenSuccess(granted)));
+    Ok(())
+}
+
+#[test]
+fn fields_of_a_declaration_stand_by_their_names(rt: HostRuntime) -> Result<(), Fail> {
+    let payload = payload_of(&rt, rt.alloc(), "DeclareMiningJob")?;
+    let hashes = [[0x23; 32], [0x24; 32]];
+    let declared = DeclareMiningJob {
+        request_id: 0x0102_0304,
+        mining_job_token: &[0xa1; 3],
+        version: 0x0102_0306,
+        coinbase_tx_prefix: &[0xb3; 3],
+        coinbase_tx_suffix: &[0xb4; 3],
+        wtxid_list: Seq32::of(&hashes),
+        excess_data: &[0xb6; 3],
+    };
+    assert!(rt; read(0x57, &payload) == Ok(Declare::DeclareMiningJob(declared)));
+    Ok(())
+}
+
+#[test]
+fn fields_of_answers_to_a_declaration_stand_by_their_names(rt: HostRuntime) -> Result<(), Fail> {
+    let payload = payload_of(&rt, rt.alloc(), "DeclareMiningJob.Success")?;
+    let taken = DeclareMiningJobSuccess {
+        request_id: 0x0102_0304,
+        new_mining_job_token: &[0xa1; 3],
+    };
+    assert!(rt; read(0x58, &payload) == Ok(Declare::DeclareMiningJobSuccess(taken)));
+
+    let payload = payload_of(&rt, rt.alloc(), "DeclareMiningJob.Error")?;
+    let refused = DeclareMiningJobError {
+        request_id: 0x0102_0304,
+        error_code: "éb",
+        error_details: &[0xb2; 3],
+    };
+    assert!(rt; read(0x59, &payload) == Ok(Declare::DeclareMiningJobError(refused)));
+    Ok(())
+}
+
+#[test]
+fn fields_of_missing_transactions_stand_by_their_names(rt: HostRuntime) -> Result<(), Fail> {
+    let payload = payload_of(&rt, rt.alloc(), "ProvideMissingTransactions")?;
+    match read(0x55, &payload) {
+        Ok(Declare::ProvideMissingTransactions(asked)) => {
+            assert_eq!(rt; asked.request_id, 0x0102_0304);
+            assert_eq!(rt; asked.unknown_tx_position_list.len(), 3);
+            for (at, position) in [(0, 0), (1, 7), (2, 65_535)] {
+                assert_eq!(rt; asked.unknown_tx_position_list.get(at), Some(position));
+            }
+        }
+        _ => assert!(rt; false, "no positions are asked for"),
+    }
+
+    let payload = payload_of(&rt, rt.alloc(), "ProvideMissingTransactions.Success")?;
+    match read(0x56, &payload) {
+        Ok(Declare::ProvideMissingTransactionsSuccess(sent)) => {
+            assert_eq!(rt; sent.request_id, 0x0102_0304);
+            assert_eq!(rt; sent.transaction_list.len(), 3);
+            assert!(rt; sent.transaction_list.get(0) == Some(&[]));
+            assert!(rt; sent.transaction_list.get(1) == Some(&[0xc1, 0xc2]));
+            assert!(rt; sent.transaction_list.get(2) == Some(&[0xc3]));
+        }
+        _ => assert!(rt; false, "no transactions are sent"),
+    }
+    Ok(())
+}
+
+#[test]
+fn fields_of_a_solution_stand_by_their_names(rt: HostRuntime) -> Result<(), Fail> {
+    let payload = payload_of(&rt, rt.alloc(), "PushSolution")?;
+    let mut prev_hash = [0x11; 32];
+    prev_hash[31] = 0x7f;
+    let found = PushSolution {
+        extranonce: &[0xa0; 2],
+        prev_hash: U256::of(prev_hash),
+        nonce: 0x0102_0306,
+        ntime: 0x0102_0307,
+        nbits: 0x0102_0308,
+        version: 0x0102_0309,
+    };
+    assert!(rt; read(0x60, &payload) == Ok(Declare::PushSolution(found)));
+    Ok(())
+}
+
 // A payload, and why it is none of its kind.
 struct Refused {
     name: &'static str,
@@ -164,7 +279,7 @@ fn what_is_too_long_does_not_fit(rt: HostRuntime) -> Result<(), Fail> {
         });
         assert_eq!(rt; message.fits(), fits, "{length} bytes");
     }
-    // One byte string of 16,777,206 bytes leaves no payload of fewer than 2^24 bytes.
+    // A byte string of 16,777,206 bytes gives a payload of 2^24 - 1 bytes, the longest that fits.
     for (length, fits) in [(16_777_206, true), (16_777_207, false)] {
         let mut spelled = vec![in rt.alloc(); 0u8; length + 3]?;
         assert!(rt; spelled.len() > 3);
