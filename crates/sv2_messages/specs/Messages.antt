@@ -54,7 +54,7 @@ pub record Fits (table : List Row) (message : Message) : Type 0 where
   pub row : types_of table message.kind ≡ Some types
   pub fields : HaveSpelling types message.fields
 
--- the extension type of a message's frame: the channel bit for the kinds 15 to 21, which name a channel first and are not part of opening one
+-- the extension type of a message's frame: the channel bit for the kinds 15 to 21, as the standard's table of messages has it
 abbrev pub ext_of : ℕ → ℕ
 ext_of kind = if nat_lt 0x14 kind && nat_lt kind 0x22 then 0x8000 else 0
 

@@ -1,6 +1,6 @@
 //! Reads the fields of a message in their order. It takes no memory.
 
-ghost use Rattle.std.specs.Prelude.{◌≡◌, ◌+◌, ◌<◌, ◌≤◌, length, drop};
+ghost use Rattle.std.specs.Prelude.{◌≡◌, ◌+◌, ◌<◌, ◌≤◌, length, drop, OnErr};
 ghost use Rattle.sv2_types.specs.Fields.{U8, U16, U32, U64, UINT256, BOOL, F32, STR0_255, B0_255, B0_32, B0_64K, OPTION_U32, SEQ0_255_U256, SEQ0_64K_U256, SEQ0_64K_U16, SEQ0_64K_B0_16M, Number, Truth, Bytes, Perhaps, Numbers, Parts};
 ghost use Rattle.sv2_types.specs.Reading.{numbers_of, parts_at};
 ghost use Rattle.sv2_messages.specs.Reading.{Reads, Ends};
@@ -50,7 +50,8 @@ impl<'a> FieldReader<'a> {
 
     /// A U8.
     pub fn u8(&mut self) -> Result<u8, MsgError>
-        ensures { Reads U8 (λ v. Number v) self.old result self.new }
+        ensures value { Reads U8 (λ v. Number v) self.old result self.new }
+        ensures err { OnErr result (self.new ≡ self.old) }
     {
         let mut reader = Reader::new(self.rest);
         match reader.u8() {
@@ -64,7 +65,8 @@ impl<'a> FieldReader<'a> {
 
     /// A U16.
     pub fn u16(&mut self) -> Result<u16, MsgError>
-        ensures { Reads U16 (λ v. Number v) self.old result self.new }
+        ensures value { Reads U16 (λ v. Number v) self.old result self.new }
+        ensures err { OnErr result (self.new ≡ self.old) }
     {
         let mut reader = Reader::new(self.rest);
         match reader.u16() {
@@ -78,7 +80,8 @@ impl<'a> FieldReader<'a> {
 
     /// A U32.
     pub fn u32(&mut self) -> Result<u32, MsgError>
-        ensures { Reads U32 (λ v. Number v) self.old result self.new }
+        ensures value { Reads U32 (λ v. Number v) self.old result self.new }
+        ensures err { OnErr result (self.new ≡ self.old) }
     {
         let mut reader = Reader::new(self.rest);
         match reader.u32() {
@@ -92,7 +95,8 @@ impl<'a> FieldReader<'a> {
 
     /// A U64.
     pub fn u64(&mut self) -> Result<u64, MsgError>
-        ensures { Reads U64 (λ v. Number v) self.old result self.new }
+        ensures value { Reads U64 (λ v. Number v) self.old result self.new }
+        ensures err { OnErr result (self.new ≡ self.old) }
     {
         let mut reader = Reader::new(self.rest);
         match reader.u64() {
@@ -106,7 +110,8 @@ impl<'a> FieldReader<'a> {
 
     /// A U256.
     pub fn u256(&mut self) -> Result<U256, MsgError>
-        ensures { Reads UINT256 (λ v. Bytes v) self.old result self.new }
+        ensures value { Reads UINT256 (λ v. Bytes v) self.old result self.new }
+        ensures err { OnErr result (self.new ≡ self.old) }
     {
         let mut reader = Reader::new(self.rest);
         match reader.u256() {
@@ -120,7 +125,8 @@ impl<'a> FieldReader<'a> {
 
     /// A BOOL.
     pub fn boolean(&mut self) -> Result<bool, MsgError>
-        ensures { Reads BOOL (λ v. Truth v) self.old result self.new }
+        ensures value { Reads BOOL (λ v. Truth v) self.old result self.new }
+        ensures err { OnErr result (self.new ≡ self.old) }
     {
         let mut reader = Reader::new(self.rest);
         match reader.boolean() {
@@ -134,7 +140,8 @@ impl<'a> FieldReader<'a> {
 
     /// An F32, carried as bytes.
     pub fn f32_bytes(&mut self) -> Result<[u8; 4], MsgError>
-        ensures { Reads F32 (λ v. Bytes v) self.old result self.new }
+        ensures value { Reads F32 (λ v. Bytes v) self.old result self.new }
+        ensures err { OnErr result (self.new ≡ self.old) }
     {
         let mut reader = Reader::new(self.rest);
         match reader.f32_bytes() {
@@ -148,7 +155,8 @@ impl<'a> FieldReader<'a> {
 
     /// A STR0_255.
     pub fn str255(&mut self) -> Result<&'a str, MsgError>
-        ensures { Reads STR0_255 (λ v. Bytes v.now) self.old result self.new }
+        ensures value { Reads STR0_255 (λ v. Bytes v.now) self.old result self.new }
+        ensures err { OnErr result (self.new ≡ self.old) }
     {
         let mut reader = Reader::new(self.rest);
         match reader.str255() {
@@ -162,7 +170,8 @@ impl<'a> FieldReader<'a> {
 
     /// A B0_255.
     pub fn b255(&mut self) -> Result<&'a [u8], MsgError>
-        ensures { Reads B0_255 (λ v. Bytes v.now) self.old result self.new }
+        ensures value { Reads B0_255 (λ v. Bytes v.now) self.old result self.new }
+        ensures err { OnErr result (self.new ≡ self.old) }
     {
         let mut reader = Reader::new(self.rest);
         match reader.b255() {
@@ -176,7 +185,8 @@ impl<'a> FieldReader<'a> {
 
     /// A B0_32.
     pub fn b32(&mut self) -> Result<&'a [u8], MsgError>
-        ensures { Reads B0_32 (λ v. Bytes v.now) self.old result self.new }
+        ensures value { Reads B0_32 (λ v. Bytes v.now) self.old result self.new }
+        ensures err { OnErr result (self.new ≡ self.old) }
     {
         let mut reader = Reader::new(self.rest);
         match reader.b32() {
@@ -190,7 +200,8 @@ impl<'a> FieldReader<'a> {
 
     /// A B0_64K.
     pub fn b64k(&mut self) -> Result<&'a [u8], MsgError>
-        ensures { Reads B0_64K (λ v. Bytes v.now) self.old result self.new }
+        ensures value { Reads B0_64K (λ v. Bytes v.now) self.old result self.new }
+        ensures err { OnErr result (self.new ≡ self.old) }
     {
         let mut reader = Reader::new(self.rest);
         match reader.b64k() {
@@ -204,7 +215,8 @@ impl<'a> FieldReader<'a> {
 
     /// An OPTION[U32].
     pub fn option_u32(&mut self) -> Result<Option<u32>, MsgError>
-        ensures { Reads OPTION_U32 (λ v. Perhaps v) self.old result self.new }
+        ensures value { Reads OPTION_U32 (λ v. Perhaps v) self.old result self.new }
+        ensures err { OnErr result (self.new ≡ self.old) }
     {
         let mut reader = Reader::new(self.rest);
         match reader.option_u32() {
@@ -218,7 +230,8 @@ impl<'a> FieldReader<'a> {
 
     /// A SEQ0_255[U256].
     pub fn seq_u256(&mut self) -> Result<Seq32<'a>, MsgError>
-        ensures { Reads SEQ0_255_U256 (λ v. Parts v.items.now) self.old result self.new }
+        ensures value { Reads SEQ0_255_U256 (λ v. Parts v.items.now) self.old result self.new }
+        ensures err { OnErr result (self.new ≡ self.old) }
     {
         let mut reader = Reader::new(self.rest);
         match reader.seq_u256() {
@@ -232,7 +245,8 @@ impl<'a> FieldReader<'a> {
 
     /// A SEQ0_64K[U256].
     pub fn seq64k_u256(&mut self) -> Result<Seq32<'a>, MsgError>
-        ensures { Reads SEQ0_64K_U256 (λ v. Parts v.items.now) self.old result self.new }
+        ensures value { Reads SEQ0_64K_U256 (λ v. Parts v.items.now) self.old result self.new }
+        ensures err { OnErr result (self.new ≡ self.old) }
     {
         let mut reader = Reader::new(self.rest);
         match reader.seq64k_u256() {
@@ -246,7 +260,8 @@ impl<'a> FieldReader<'a> {
 
     /// A SEQ0_64K[U16].
     pub fn seq_u16(&mut self) -> Result<SeqU16<'a>, MsgError>
-        ensures { Reads SEQ0_64K_U16 (λ v. Numbers (numbers_of v.spelled.now)) self.old result self.new }
+        ensures value { Reads SEQ0_64K_U16 (λ v. Numbers (numbers_of v.spelled.now)) self.old result self.new }
+        ensures err { OnErr result (self.new ≡ self.old) }
     {
         let mut reader = Reader::new(self.rest);
         match reader.seq_u16() {
@@ -260,7 +275,8 @@ impl<'a> FieldReader<'a> {
 
     /// A SEQ0_64K[B0_16M].
     pub fn seq_bytes(&mut self) -> Result<SeqBytes<'a>, MsgError>
-        ensures { Reads SEQ0_64K_B0_16M (λ v. Parts (parts_at v.count v.spelled.now)) self.old result self.new }
+        ensures value { Reads SEQ0_64K_B0_16M (λ v. Parts (parts_at v.count v.spelled.now)) self.old result self.new }
+        ensures err { OnErr result (self.new ≡ self.old) }
     {
         let mut reader = Reader::new(self.rest);
         match reader.seq_bytes() {

@@ -4,10 +4,10 @@ use Rattle.sv2_types.specs.Spelling.{spelled_str255}
 use Rattle.sv2_messages.proofs.Steps.{passed, refused}
 use Rattle.sv2_messages.proofs.reading.FieldReader.str255.Goals as goal
 
-pub returns-in-Ok : goal.returns-in-Ok
-returns-in-Ok c =
+pub returns-in-Ok-clause-value : goal.returns-in-Ok-clause-value
+returns-in-Ok-clause-value c =
     passed STR0_255 (Bytes c.in-Ok.value.now) (spelled_str255 c.in-Ok.value.now) _ _ _ _ _ _ _
     (record { admits = c.in-Ok.ensures.fits; form = refl }) c.self.view_is c.new-reader.ensures c.in-Ok.ensures.spelled c.at.ensures c.pass.ensures
 
-pub returns-in-Err : goal.returns-in-Err
-returns-in-Err c = refused STR0_255 _ _ _ _ _ c.self.view_is c.new-reader.ensures c.in-Err.ensures.refused
+pub returns-in-Err-clause-value : goal.returns-in-Err-clause-value
+returns-in-Err-clause-value c = refused STR0_255 _ _ _ _ _ c.self.view_is c.new-reader.ensures c.in-Err.ensures.refused
