@@ -1,6 +1,9 @@
 //! Each message in the bytes of the standard's tables, the defects, and the worked session.
 
-use crate::{MsgError, NewTemplate, SetNewPrevHash, SubmitSolution, Template, read};
+use crate::{
+    CoinbaseOutputConstraints, MsgError, NewTemplate, RequestTransactionData,
+    RequestTransactionDataError, SetNewPrevHash, SubmitSolution, Template, read,
+};
 use std::alloc::Global;
 use std::process::Abort;
 use std::test::Fail;
@@ -12,7 +15,7 @@ struct Case {
     frame: &'static str,
 }
 
-const CASES: [Case; 7] = [
+const CASES: [Case; 8] = [
     Case {
         name: "CoinbaseOutputConstraints",
         frame: "000070060000040302010301",
@@ -20,6 +23,10 @@ const CASES: [Case; 7] = [
     Case {
         name: "NewTemplate",
         frame: "0000716f0000080706050403020101060302010703020103a4a4a4090302010e070605040302010b0302010300b8b8b80d0302010221212121212121212121212121212121212121212121212121212121212121212222222222222222222222222222222222222222222222222222222222222222",
+    },
+    Case {
+        name: "NewTemplate for the present tip",
+        frame: "0000716f0000080706050403020100060302010703020103a4a4a4090302010e070605040302010b0302010300b8b8b80d0302010221212121212121212121212121212121212121212121212121212121212121212222222222222222222222222222222222222222222222222222222222222222",
     },
     Case {
         name: "SetNewPrevHash",
@@ -83,6 +90,123 @@ fn each_message_is_read_whole_alone(rt: HostRuntime) -> Result<(), Fail> {
     for case in &CASES {
         is_read_whole_alone(&rt, rt.alloc(), case)?;
     }
+    Ok(())
+}
+
+/// The payload of the case's frame.
+fn payload_of(rt: &impl Abort, alloc: Global, name: &str) -> Result<Vec<u8>, Fail> {
+    for case in &CASES {
+        if case.name == name {
+            let frame = hex::decode(alloc, case.frame)?;
+            assert!(rt; frame.len() >= 6, "{name}");
+            return Ok(frame[6..].to_vec(alloc)?);
+        }
+    }
+    Err(Fail::from("there is no such case"))
+}
+
+/// The number whose bytes are all this one, but for the highest, 7f.
+fn number(byte: u8) -> U256 {
+    let mut bytes = [byte; 32];
+    bytes[31] = 0x7f;
+    U256::of(bytes)
+}
+
+#[test]
+fn fields_of_constraints_stand_by_their_names(rt: HostRuntime) -> Result<(), Fail> {
+    let payload = payload_of(&rt, rt.alloc(), "CoinbaseOutputConstraints")?;
+    let asked = CoinbaseOutputConstraints {
+        max_additional_size: 0x0102_0304,
+        max_additional_sigops: 0x0103,
+    };
+    assert!(rt; read(0x70, &payload) == Ok(Template::CoinbaseOutputConstraints(asked)));
+    Ok(())
+}
+
+#[test]
+fn fields_of_a_template_stand_by_their_names(rt: HostRuntime) -> Result<(), Fail> {
+    let merkle_path = [[0x21; 32], [0x22; 32]];
+    for (name, future_template) in [
+        ("NewTemplate", true),
+        ("NewTemplate for the present tip", false),
+    ] {
+        let payload = payload_of(&rt, rt.alloc(), name)?;
+        let template = NewTemplate {
+            template_id: 0x0102_0304_0506_0708,
+            future_template,
+            version: 0x0102_0306,
+            coinbase_tx_version: 0x0102_0307,
+            coinbase_prefix: &[0xa4; 3],
+            coinbase_tx_input_sequence: 0x0102_0309,
+            coinbase_tx_value_remaining: 0x0102_0304_0506_070e,
+            coinbase_tx_outputs_count: 0x0102_030b,
+            coinbase_tx_outputs: &[0xb8; 3],
+            coinbase_tx_locktime: 0x0102_030d,
+            merkle_path: Seq32::of(&merkle_path),
+        };
+        assert!(rt;
+            read(0x71, &payload) == Ok(Template::NewTemplate(template)),
+            "{name}"
+        );
+    }
+    Ok(())
+}
+
+#[test]
+fn fields_of_a_tip_stand_by_their_names(rt: HostRuntime) -> Result<(), Fail> {
+    let payload = payload_of(&rt, rt.alloc(), "SetNewPrevHash")?;
+    let tip = SetNewPrevHash {
+        template_id: 0x0102_0304_0506_0708,
+        prev_hash: number(0x11),
+        header_timestamp: 0x0102_0306,
+        nbits: 0x0102_0307,
+        target: number(0x14),
+    };
+    assert!(rt; read(0x72, &payload) == Ok(Template::SetNewPrevHash(tip)));
+    Ok(())
+}
+
+#[test]
+fn fields_of_transaction_data_stand_by_their_names(rt: HostRuntime) -> Result<(), Fail> {
+    let payload = payload_of(&rt, rt.alloc(), "RequestTransactionData")?;
+    let asked = RequestTransactionData {
+        template_id: 0x0102_0304_0506_0708,
+    };
+    assert!(rt; read(0x73, &payload) == Ok(Template::RequestTransactionData(asked)));
+
+    let payload = payload_of(&rt, rt.alloc(), "RequestTransactionData.Success")?;
+    match read(0x74, &payload) {
+        Ok(Template::RequestTransactionDataSuccess(sent)) => {
+            assert_eq!(rt; sent.template_id, 0x0102_0304_0506_0708);
+            assert!(rt; sent.excess_data == [0xb1; 3].as_slice());
+            assert_eq!(rt; sent.transaction_list.len(), 3);
+            assert!(rt; sent.transaction_list.get(0) == Some(&[]));
+            assert!(rt; sent.transaction_list.get(1) == Some(&[0xc1, 0xc2]));
+            assert!(rt; sent.transaction_list.get(2) == Some(&[0xc3]));
+        }
+        _ => assert!(rt; false, "no transactions are sent"),
+    }
+
+    let payload = payload_of(&rt, rt.alloc(), "RequestTransactionData.Error")?;
+    let refused = RequestTransactionDataError {
+        template_id: 0x0102_0304_0506_0708,
+        error_code: "éb",
+    };
+    assert!(rt; read(0x75, &payload) == Ok(Template::RequestTransactionDataError(refused)));
+    Ok(())
+}
+
+#[test]
+fn fields_of_a_solution_stand_by_their_names(rt: HostRuntime) -> Result<(), Fail> {
+    let payload = payload_of(&rt, rt.alloc(), "SubmitSolution")?;
+    let found = SubmitSolution {
+        template_id: 0x0102_0304_0506_0708,
+        version: 0x0102_0305,
+        header_timestamp: 0x0102_0306,
+        header_nonce: 0x0102_0307,
+        coinbase_tx: &[0xb4; 3],
+    };
+    assert!(rt; read(0x76, &payload) == Ok(Template::SubmitSolution(found)));
     Ok(())
 }
 
@@ -237,6 +361,36 @@ fn any_odd_byte_is_a_future_template(rt: HostRuntime) -> Result<(), Fail> {
     match read(0x71, &payload) {
         Ok(Template::NewTemplate(template)) => assert!(rt; template.future_template),
         _ => assert!(rt; false, "it is no template"),
+    }
+    Ok(())
+}
+
+fn is_fit(message: &Option<Template<'_>>) -> bool {
+    match message {
+        Some(message) => message.fits(),
+        None => false,
+    }
+}
+
+#[test]
+fn what_is_too_long_does_not_fit(rt: HostRuntime) -> Result<(), Fail> {
+    let bytes = [0; 256];
+    for (length, fits) in [(255, true), (256, false)] {
+        let template = future_template(&bytes[..length], Seq32::of(&[]));
+        assert_eq!(rt; is_fit(&template), fits, "{length} bytes");
+    }
+    let hashes = [[0; 32]; 256];
+    for (length, fits) in [(255, true), (256, false)] {
+        let template = future_template(&[], Seq32::of(&hashes[..length]));
+        assert_eq!(rt; is_fit(&template), fits, "{length} hashes");
+    }
+    for (length, fits) in [(65_535, true), (65_536, false)] {
+        let coinbase = vec![in rt.alloc(); 0u8; length]?;
+        assert_eq!(rt;
+            is_fit(&solution(&coinbase)),
+            fits,
+            "{length} bytes of a coinbase"
+        );
     }
     Ok(())
 }
