@@ -16,16 +16,19 @@ pub struct TooLong(pub u32);
 /// How many bytes a header has.
 pub(crate) const HEADER_LEN: usize = 6;
 
-/// A header, as it is read.
-#[derive(Clone, Copy, Debug)]
-pub(crate) struct Header {
-    pub(crate) ext: u16,
-    pub(crate) kind: u8,
-    pub(crate) len: u32,
+/// A frame's header. Bit 15 of the extension type is the channel bit, which is not tested here.
+#[derive(Clone, Copy, Debug, PartialEq, Eq)]
+pub struct FrameHeader {
+    /// The extension type.
+    pub ext: u16,
+    /// The message type.
+    pub kind: u8,
+    /// How many bytes the payload has.
+    pub len: u32,
 }
 
 /// The header at the front, where all of it is there.
-pub(crate) fn header_at(bytes: &[u8]) -> Option<Header>
+pub(crate) fn header_at(bytes: &[u8]) -> Option<FrameHeader>
     ensures none { IfNone result (length bytes.now < 6) }
     ensures header { IfSome result (λ h. bytes.now ≡ header_of h.ext h.kind h.len ++ drop 6 bytes.now) }
     ensures says { IfSome result (λ h. h.len ≡ payload_length bytes.now) }
@@ -35,7 +38,7 @@ pub(crate) fn header_at(bytes: &[u8]) -> Option<Header>
     let ext = reader.u16().ok()?;
     let kind = reader.u8().ok()?;
     let len = reader.u24().ok()?;
-    Some(Header { ext, kind, len })
+    Some(FrameHeader { ext, kind, len })
 }
 
 /// Where the first frame of these bytes ends, or its header where that says more than the limit or is

@@ -1,8 +1,8 @@
 //! A stream that comes in pieces, cut into its frames. It holds one frame at most.
 
-ghost use Rattle.std.specs.Prelude.{◌≡◌, ◌⊎◌, ◌↔◌, ℕ, ◌+◌, ◌≤◌, [], ◌++◌, length, take, IsSome, IsNone, IfSome, IfOk, IfErr, IsOkAnd, IsErrAnd};
+ghost use Rattle.std.specs.Prelude.{◌≡◌, ◌⊎◌, ◌↔◌, ℕ, ◌+◌, ◌<◌, ◌≤◌, ◌^◌, [], ◌++◌, length, take, drop, IsSome, IsNone, IfSome, IfNone, IfOk, IfErr, IsOkAnd, IsErrAnd};
 
-use crate::buffer::{TooLong, frame_in, take_in};
+use crate::buffer::{FrameHeader, TooLong, frame_in, header_at, take_in};
 use crate::framing::Frame;
 use std::alloc::{AllocError, Global};
 use std::marker::Model;
@@ -28,6 +28,7 @@ impl Model for Splitter {
 }
 
 impl Splitter {
+    ghost use Rattle.sv2_frames.specs.Framing.{header_of};
     ghost use Rattle.sv2_frames.specs.Holding.{frame_end, HoldsFrame, HoldsOver, IsFull, IsHeldFrame, IsCutWithin};
 
     /// A splitter that holds nothing. `limit` is the greatest payload that is taken, in bytes.
@@ -78,6 +79,15 @@ impl Splitter {
         ensures cut { IsCutWithin self.new }
     {
         self.held = 0;
+    }
+
+    /// The header of the present frame, once all six bytes of it are held. It is not tested against the limit.
+    pub fn header(&self) -> Option<FrameHeader>
+        ensures none { IfNone result (length self.now.held < 6) }
+        ensures header { IfSome result (λ h. self.now.held ≡ header_of h.ext h.kind h.len ++ drop 6 self.now.held) }
+        ensures fits { IfSome result (λ h. h.len < 2 ^ 24) }
+    {
+        header_at(&self.buffer[..self.held])
     }
 
     /// How many bytes are held.

@@ -2,7 +2,7 @@
 
 ghost use Rattle.std.specs.Prelude.{⊤};
 
-use crate::{Frame, RunEnd, Splitter, TakeFrames, TooLong, write_frame};
+use crate::{Frame, FrameHeader, RunEnd, Splitter, TakeFrames, TooLong, write_frame};
 use std::alloc::{AllocError, Global};
 use std::test::Fail;
 
@@ -150,5 +150,32 @@ fn what_is_cut_off_stays_held(rt: HostRuntime) -> Result<(), Fail> {
     let mut splitter = Splitter::new(rt.alloc(), 13)?;
     assert_eq!(rt; splitter.run(&[stream.as_slice()], &mut seen), RunEnd::Done);
     assert_eq!(rt; (seen.count, splitter.held()), (2, 5));
+    Ok(())
+}
+
+#[test]
+fn a_header_is_told_once_all_of_it_is_held(rt: HostRuntime) -> Result<(), Fail> {
+    let stream = b"\x00\x80\x15\x02\x00\x00ab\x02\x01\x71\x0d\x00\x00".as_slice();
+    let mut splitter = Splitter::new(rt.alloc(), 12)?;
+    assert_eq!(rt; splitter.feed(&stream[..5]), 5);
+    assert_eq!(rt; splitter.header(), None);
+    assert_eq!(rt; splitter.feed(&stream[5..]), 3);
+    let first = FrameHeader {
+        ext: 0x8000,
+        kind: 0x15,
+        len: 2,
+    };
+    assert_eq!(rt; splitter.header(), Some(first));
+    splitter.drop_frame();
+    assert_eq!(rt; splitter.header(), None);
+
+    // One over the limit is told too.
+    assert_eq!(rt; splitter.feed(&stream[8..]), 6);
+    let second = FrameHeader {
+        ext: 0x0102,
+        kind: 0x71,
+        len: 13,
+    };
+    assert_eq!(rt; splitter.header(), Some(second));
     Ok(())
 }

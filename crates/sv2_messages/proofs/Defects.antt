@@ -3,8 +3,7 @@ use Rattle.std.proofs.Common.{◌≡◌, ◌≢◌, ℕ, ◌+◌, Option, None, 
 use Rattle.std.proofs.lemmas.List.{take-append-drop}
 use Rattle.sv2_types.specs.declared.error.ReadError.{ReadError}
 use Rattle.sv2_types.specs.Fields.{FieldType, FieldValue, Spells}
-use Rattle.sv2_types.specs.Reading.{size, defect}
-use Rattle.sv2_types.proofs.Laws.{value_at}
+use Rattle.sv2_types.specs.Reading.{size, value_at, defect}
 use Rattle.sv2_types.proofs.Items.{IsBytes}
 use Rattle.sv2_messages.specs.declared.error.MsgError.{MsgError}
 use Rattle.sv2_messages.specs.declared.error.MsgError.TheVariants.{UnknownKind, BadField, Trailing}

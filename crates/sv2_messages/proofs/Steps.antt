@@ -4,8 +4,8 @@ use Rattle.std.proofs.lemmas.List.{drop_at, nil_from_length}
 use Rattle.sv2_types.specs.declared.error.ReadError.{ReadError}
 use Rattle.sv2_types.specs.Cursor.{Cursor, Moves, rest_of}
 use Rattle.sv2_types.specs.Fields.{FieldType, FieldValue, Spells}
-use Rattle.sv2_types.specs.Reading.{size, defect}
-use Rattle.sv2_types.proofs.Laws.{value_at, value_at-spelled, size-spelled, defect-spelled}
+use Rattle.sv2_types.specs.Reading.{size, value_at, defect}
+use Rattle.sv2_types.proofs.Laws.{value_at-spelled, size-spelled, defect-spelled}
 use Rattle.sv2_messages.specs.declared.error.MsgError.TheVariants.{BadField, Trailing}
 use Rattle.sv2_messages.specs.Reading.{Left, field_by, field_at, end_at}
 

@@ -2,8 +2,7 @@
 use Rattle.std.specs.Prelude.{◌≡◌, ◌≢◌, ℕ, ◌+◌, Option, None, Some, Result, Ok, Err, List, [], ◌∷◌, ◌++◌, length, drop}
 use Rattle.sv2_types.specs.declared.error.ReadError.{ReadError}
 use Rattle.sv2_types.specs.Fields.{FieldType, FieldValue}
-use Rattle.sv2_types.specs.Reading.{size, defect}
-use Rattle.sv2_types.proofs.Laws.{value_at}
+use Rattle.sv2_types.specs.Reading.{size, value_at, defect}
 use Rattle.sv2_messages.specs.declared.error.MsgError.{MsgError}
 use Rattle.sv2_messages.specs.declared.error.MsgError.TheVariants.{UnknownKind, BadField, Trailing}
 use Rattle.sv2_messages.specs.Messages.{Message, Row, types_of, AreSpelled}

@@ -1,36 +1,14 @@
 -- A spelling is read as its value, has no defect, and begins no other.
-use Rattle.std.proofs.Common.{◌≡◌, ◌==◌, ℕ, ◌+◌, ◌%◌, ◌≤◌, Bool, true, false, if◌then◌else◌, Option, None, Some, List, ◌∷◌, ◌++◌, length, take, drop, refl, sym, ap, ◌∙◌, arith}
+use Rattle.std.proofs.Common.{◌≡◌, ◌==◌, ℕ, ◌+◌, ◌%◌, ◌≤◌, Bool, true, false, Option, None, Some, List, ◌∷◌, ◌++◌, length, take, drop, refl, sym, ap, ◌∙◌, arith}
 use Rattle.std.proofs.lemmas.List.{length-append, take_at, drop_at}
 use Rattle.std.proofs.lemmas.Bool.{le-ltb}
 use Rattle.std.proofs.lemmas.Str.{is_utf8-from_IsUtf8}
 use Rattle.std.specs.Str.{IsUtf8}
-use Rattle.std.specs.Simd.{first_chunks}
 use Rattle.sv2_types.specs.Spelling.{spelled_u32, spelled_boolean, spelled_str255, spelled_b255, spelled_option_u32}
 use Rattle.sv2_types.specs.Fields.{FieldType, FieldValue, U8, U16, U24, U32, U64, UINT256, BOOL, F32, STR0_255, B0_255, B0_32, B0_64K, B0_16M, OPTION_U32, SEQ0_255_U256, SEQ0_64K_U256, SEQ0_64K_U16, SEQ0_64K_B0_16M, Number, Truth, Bytes, Perhaps, Numbers, Parts, Admits, spelling, SpellsTruth, Spells}
-use Rattle.sv2_types.specs.Reading.{said, size, defect, missing, text_defect, numbers_at, parts_at}
+use Rattle.sv2_types.specs.Reading.{said, size, value_at, defect, missing, text_defect}
 use Rattle.sv2_types.proofs.Numbers.{said-u8, said-u16, said-u24, said-u32, said-u64}
 use Rattle.sv2_types.proofs.Items.{first_chunks-items, length-items, numbers_at-numbers, length-numbers, parts_at-parts, parts_size-parts}
-
--- the value at the front of the bytes
-abbrev pub value_at : FieldType → List ℕ → FieldValue
-value_at U8 rest = Number (said 1 rest)
-value_at U16 rest = Number (said 2 rest)
-value_at U24 rest = Number (said 3 rest)
-value_at U32 rest = Number (said 4 rest)
-value_at U64 rest = Number (said 8 rest)
-value_at UINT256 rest = Bytes (take 32 rest)
-value_at BOOL rest = Truth (said 1 rest % 2 == 1)
-value_at F32 rest = Bytes (take 4 rest)
-value_at STR0_255 rest = Bytes (take (said 1 rest) (drop 1 rest))
-value_at B0_255 rest = Bytes (take (said 1 rest) (drop 1 rest))
-value_at B0_32 rest = Bytes (take (said 1 rest) (drop 1 rest))
-value_at B0_64K rest = Bytes (take (said 2 rest) (drop 2 rest))
-value_at B0_16M rest = Bytes (take (said 3 rest) (drop 3 rest))
-value_at OPTION_U32 rest = Perhaps (if said 1 rest == 0 then None else Some (said 4 (drop 1 rest)))
-value_at SEQ0_255_U256 rest = Parts (first_chunks 32 (said 1 rest) (drop 1 rest))
-value_at SEQ0_64K_U256 rest = Parts (first_chunks 32 (said 2 rest) (drop 2 rest))
-value_at SEQ0_64K_U16 rest = Numbers (numbers_at (said 2 rest) (drop 2 rest))
-value_at SEQ0_64K_B0_16M rest = Parts (parts_at (said 2 rest) (drop 2 rest))
 
 -- content behind its length
 content_at : (n : ℕ) (content rest : List ℕ) → n ≡ length content → take n (content ++ rest) ≡ content

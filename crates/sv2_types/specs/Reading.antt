@@ -1,11 +1,12 @@
 -- Where a value begins the bytes that are left, and what is wrong where none does.
-use Rattle.std.specs.Prelude.{◌≡◌, ℕ, zero, suc, ◌+◌, ◌*◌, ◌/◌, ◌^◌, ◌<◌, Bool, if◌then◌else◌, nat_lt, Option, None, Some, Result, IsOkAnd, List, [], ◌∷◌, ◌++◌, length, take, drop}
+use Rattle.std.specs.Prelude.{◌≡◌, ℕ, zero, suc, ◌+◌, ◌*◌, ◌/◌, ◌%◌, ◌^◌, ◌<◌, ◌==◌, Bool, if◌then◌else◌, nat_lt, Option, None, Some, Result, IsOkAnd, List, [], ◌∷◌, ◌++◌, length, take, drop}
 use Rattle.std.specs.List.{flat_map, AllByRecursion}
+use Rattle.std.specs.Simd.{first_chunks}
 use Rattle.std.specs.Str.{is_utf8}
 use Rattle.sv2_types.specs.Spelling.{spelled_b16m}
 use Rattle.sv2_types.specs.declared.error.ReadError.{ReadError}
 use Rattle.sv2_types.specs.declared.error.ReadError.TheVariants.{Short, LengthTooGreat, NotUtf8, CountTooGreat}
-use Rattle.sv2_types.specs.Fields.{FieldType, FieldValue, U8, U16, U24, U32, U64, UINT256, BOOL, F32, STR0_255, B0_255, B0_32, B0_64K, B0_16M, OPTION_U32, SEQ0_255_U256, SEQ0_64K_U256, SEQ0_64K_U16, SEQ0_64K_B0_16M, Truth, Admits, spelling, SpellsTruth, Spells}
+use Rattle.sv2_types.specs.Fields.{FieldType, FieldValue, U8, U16, U24, U32, U64, UINT256, BOOL, F32, STR0_255, B0_255, B0_32, B0_64K, B0_16M, OPTION_U32, SEQ0_255_U256, SEQ0_64K_U256, SEQ0_64K_U16, SEQ0_64K_B0_16M, Number, Truth, Bytes, Perhaps, Numbers, Parts, Admits, spelling, SpellsTruth, Spells}
 use Rattle.sv2_types.specs.Cursor.{Cursor, Moves}
 
 -- the number with these bytes, low byte first
@@ -63,6 +64,27 @@ size SEQ0_255_U256 rest = 1 + 32 * said 1 rest
 size SEQ0_64K_U256 rest = 2 + 32 * said 2 rest
 size SEQ0_64K_U16 rest = 2 + 2 * said 2 rest
 size SEQ0_64K_B0_16M rest = 2 + parts_size (said 2 rest) (drop 2 rest)
+
+-- the value at the front of the bytes
+abbrev pub value_at : FieldType → List ℕ → FieldValue
+value_at U8 rest = Number (said 1 rest)
+value_at U16 rest = Number (said 2 rest)
+value_at U24 rest = Number (said 3 rest)
+value_at U32 rest = Number (said 4 rest)
+value_at U64 rest = Number (said 8 rest)
+value_at UINT256 rest = Bytes (take 32 rest)
+value_at BOOL rest = Truth (said 1 rest % 2 == 1)
+value_at F32 rest = Bytes (take 4 rest)
+value_at STR0_255 rest = Bytes (take (said 1 rest) (drop 1 rest))
+value_at B0_255 rest = Bytes (take (said 1 rest) (drop 1 rest))
+value_at B0_32 rest = Bytes (take (said 1 rest) (drop 1 rest))
+value_at B0_64K rest = Bytes (take (said 2 rest) (drop 2 rest))
+value_at B0_16M rest = Bytes (take (said 3 rest) (drop 3 rest))
+value_at OPTION_U32 rest = Perhaps (if said 1 rest == 0 then None else Some (said 4 (drop 1 rest)))
+value_at SEQ0_255_U256 rest = Parts (first_chunks 32 (said 1 rest) (drop 1 rest))
+value_at SEQ0_64K_U256 rest = Parts (first_chunks 32 (said 2 rest) (drop 2 rest))
+value_at SEQ0_64K_U16 rest = Numbers (numbers_at (said 2 rest) (drop 2 rest))
+value_at SEQ0_64K_B0_16M rest = Parts (parts_at (said 2 rest) (drop 2 rest))
 
 -- the bytes end before the value does
 abbrev pub missing : ℕ → List ℕ → Option ReadError
