@@ -4,7 +4,7 @@ use Rattle.std.specs.Option.{is_some}
 use Rattle.std.proofs.lemmas.Bool.{and_parts, eqb-true}
 use Rattle.std.proofs.lemmas.List.Folds.{list_any-append}
 use Rattle.block_header.specs.Hash.{meets}
-use Rattle.fixed_job.specs.declared.submission.Submission.{Submission}
+use Rattle.mining_msgs.specs.declared.shares.SubmitSharesStandard.{SubmitSharesStandard}
 use Rattle.fixed_job.specs.declared.submission.Rolled.{Rolled}
 use Rattle.fixed_job.specs.declared.judge.Job.{Job}
 use Rattle.fixed_job.specs.declared.judge.Refusal.{Refusal}
@@ -23,7 +23,7 @@ same_rolled a b same =
     λ i. record { version = version i; ntime = ntime i; nonce = nonce i }
 
 -- one more submission
-submitted_more : (shares : List Submission) (s : Submission) (r : Rolled)
+submitted_more : (shares : List SubmitSharesStandard) (s : SubmitSharesStandard) (r : Rolled)
     → is_submitted (shares ++ s ∷ []) r ≡ (is_submitted shares r || (is_ours s && is_same r (rolled_of s)))
 submitted_more shares s r =
     list_any-append (λ t. is_ours t && is_same r (rolled_of t)) shares (s ∷ [])
@@ -76,17 +76,17 @@ false_unless : (b : Bool) → (b ≡ true → ⊥) → b ≡ false
 false_unless true never = absurd (never refl)
 false_unless false never = refl
 
-module _ (class : ℕ) (job : Job) (shares : List Submission) (s : Submission) (r : Rolled) where
+module _ (class : ℕ) (job : Job) (shares : List SubmitSharesStandard) (s : SubmitSharesStandard) (r : Rolled) where
   -- after a refusal nothing more is submitted that meets the class
   refused_by : meets (hash_of job r) class ≡ true
-      → Failure (s.channel == 1) (s.job == 1) (meets (hash_of job (rolled_of s)) class) (is_submitted shares (rolled_of s))
+      → Failure (s.channel_id == 1) (s.job_id == 1) (meets (hash_of job (rolled_of s)) class) (is_submitted shares (rolled_of s))
       → (is_submitted shares r || (is_ours s && is_same r (rolled_of s))) ≡ is_submitted shares r
   refused_by strong (other_channel none) =
       or_none (is_submitted shares r) (is_ours s && is_same r (rolled_of s))
-      (not_first (is_ours s) (is_same r (rolled_of s)) (not_first (s.channel == 1) (s.job == 1) none))
+      (not_first (is_ours s) (is_same r (rolled_of s)) (not_first (s.channel_id == 1) (s.job_id == 1) none))
   refused_by strong (other_job none) =
       or_none (is_submitted shares r) (is_ours s && is_same r (rolled_of s))
-      (not_first (is_ours s) (is_same r (rolled_of s)) (not_second (s.channel == 1) (s.job == 1) none))
+      (not_first (is_ours s) (is_same r (rolled_of s)) (not_second (s.channel_id == 1) (s.job_id == 1) none))
   refused_by strong (too_weak weak) =
       let never : is_same r (rolled_of s) ≡ true → ⊥ = λ same.
       let equal = ap (λ q. meets (hash_of job q) class) (same_rolled r (rolled_of s) same) in
@@ -103,4 +103,4 @@ module _ (class : ℕ) (job : Job) (shares : List Submission) (s : Submission) (
   refused_more strong some =
       submitted_more shares s r
       ∙ refused_by strong
-      (failure_of (s.channel == 1) (s.job == 1) (meets (hash_of job (rolled_of s)) class) (is_submitted shares (rolled_of s)) some)
+      (failure_of (s.channel_id == 1) (s.job_id == 1) (meets (hash_of job (rolled_of s)) class) (is_submitted shares (rolled_of s)) some)

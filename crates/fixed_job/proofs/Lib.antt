@@ -1,6 +1,7 @@
+pub mod Answering
 pub mod Keeping
 pub mod OneEnd
 pub mod Only
-pub mod Putting
 pub mod Running
+pub mod Sharing
 pub mod Streaming

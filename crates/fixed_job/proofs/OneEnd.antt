@@ -1,14 +1,16 @@
 -- The steps that a source brings decide the end, but for faults and want of memory.
-use Rattle.std.proofs.Common.{◌≡◌, ℕ, ◌+◌, ◌<◌, ◌≤◌, List, [], ◌∷◌, ◌++◌, length, take, Some, None, refl, sym, ap, ◌∙◌, append-nil, arith, length-append, inl, inr}
+use Rattle.std.proofs.Common.{◌≡◌, ℕ, ◌≤◌, List, [], ◌++◌, length, take, refl, sym, ap, ◌∙◌, arith, length-append, inl, inr}
 use Rattle.std.proofs.lemmas.List.{take-append-le}
-use Rattle.pool_io.specs.Steps.{Step, bytes_in, idles_after, IsAtLimit, IsFree, IsFreeBefore, IsIdleOut, IsBytesOut}
-use Rattle.pool_io.proofs.Stepping.{bytes_in-append, bytes_in-idle}
-use Rattle.fixed_job.specs.declared.submission.Submission.{Submission}
+use Rattle.pool_io.specs.Steps.{Step, bytes_in, IsAtLimit, IsIdleOut, IsBytesOut}
+use Rattle.pool_io.proofs.Stepping.{bytes_in-append}
+use Rattle.pool_turns.specs.Limits.{bounds}
+use Rattle.pool_turns.proofs.Fronts.{longer, shorter, fronts_of, free_of, idle_or_bytes}
+use Rattle.mining_msgs.specs.declared.shares.SubmitSharesStandard.{SubmitSharesStandard}
 use Rattle.fixed_job.specs.declared.judge.Job.{Job}
 use Rattle.fixed_job.specs.declared.command.FixedEnd.{FixedEnd}
 use Rattle.fixed_job.specs.declared.command.FixedEnd.TheVariants as end
 use Rattle.fixed_job.specs.Submitting.{Spell, IsRest}
-use Rattle.fixed_job.specs.Reading.{bounds, IsWhole, Stops, ReachesLimit}
+use Rattle.fixed_job.specs.Reading.{IsWhole, Stops, ReachesLimit}
 use Rattle.fixed_job.specs.Ending.{EndsBy, EndsAs}
 use Rattle.fixed_job.proofs.Streaming.{Spell-more}
 use Rattle.fixed_job.proofs.Only.{none_short, none_other, one_reading}
@@ -16,28 +18,7 @@ use Rattle.fixed_job.proofs.Only.{none_short, none_other, one_reading}
 none_empty : IsRest []
 none_empty = none_short [] (omega arith)
 
--- which of two fronts of one list is the longer
-data Fronts {A : Type 0} (a b : List A) : Type 0 where
-  longer : (part : List A) → b ≡ a ++ part → Fronts a b
-  shorter : (x : A) (part : List A) → a ≡ b ++ x ∷ part → Fronts a b
-
-fronts_of : {A : Type 0} (a b x y : List A) → a ++ x ≡ b ++ y → Fronts a b
-fronts_of [] b x y same = longer b refl
-fronts_of (p ∷ a) [] x y same = shorter p a refl
-fronts_of (p ∷ a) (q ∷ b) x y same =
-    let head : p ≡ q = cc in
-    let tail : a ++ x ≡ b ++ y = cc in
-    elim (fronts_of a b x y tail) [
-      | longer part is ↦ longer part (ap (λ l. q ∷ l) is ∙ ap (λ h. h ∷ (a ++ part)) (sym head))
-      | shorter z part is ↦ shorter z part (ap (λ l. p ∷ l) is ∙ ap (λ h. h ∷ (b ++ z ∷ part)) head)
-    ]
-
--- a limit that a front reaches isn't free
-free_of : (steps front rest : List Step) → IsFree bounds steps → steps ≡ front ++ rest → IsAtLimit bounds front → ⊥
-free_of steps front [] free split at = free.1 (rw (split, append-nil front) at)
-free_of steps front (x ∷ rest) free split at = free.0 front x rest split at
-
-whole_stops : (steps : List Step) (shares others : List Submission) → IsWhole steps shares → Stops steps others → ⊥
+whole_stops : (steps : List Step) (shares others : List SubmitSharesStandard) → IsWhole steps shares → Stops steps others → ⊥
 whole_stops steps shares others whole (inl (front, rest, split, other)) =
     let spelled : Spell (bytes_in steps) others (other.held ++ bytes_in rest) =
     rw (split, bytes_in-append front rest) (Spell-more (bytes_in front) others other.held (bytes_in rest) other.spelled) in
@@ -48,10 +29,10 @@ whole_stops steps shares others whole (inr cut) =
     cut.some (sym same.1)
 
 module _ (IsOut : List Step → Type 0) (at : (front : List Step) → IsOut front → IsAtLimit bounds front) where
-  whole_limit : (steps : List Step) (shares others : List Submission) → IsWhole steps shares → ReachesLimit IsOut steps others → ⊥
+  whole_limit : (steps : List Step) (shares others : List SubmitSharesStandard) → IsWhole steps shares → ReachesLimit IsOut steps others → ⊥
   whole_limit steps shares others whole limit = free_of steps limit.front limit.rest whole.free limit.split (at limit.front limit.reached)
 
-  stops_limit : (steps : List Step) (shares others : List Submission) → Stops steps shares → ReachesLimit IsOut steps others → ⊥
+  stops_limit : (steps : List Step) (shares others : List SubmitSharesStandard) → Stops steps shares → ReachesLimit IsOut steps others → ⊥
   stops_limit steps shares others (inl (front, rest, split, other)) limit =
       elim (fronts_of front limit.front rest limit.rest (sym split ∙ limit.split)) [
         | shorter x part is ↦ other.free limit.front x part is (at limit.front limit.reached)
@@ -72,32 +53,10 @@ at_idle front out = inl out
 at_bytes : (front : List Step) → IsBytesOut bounds front → IsAtLimit bounds front
 at_bytes front out = inr out
 
--- a row of Idle answers ends with one
-last_idle : (n : ℕ) (x : Step) (steps : List Step) → 0 < idles_after n (x ∷ steps) → (front : List Step) × (x ∷ steps ≡ front ++ None ∷ [])
-last_idle n (Some byte) [] some = absurd (omega arith)
-last_idle n None [] some = ([], refl)
-last_idle n (Some byte) (y ∷ steps) some =
-    let more = last_idle 0 y steps some in (Some byte ∷ more.0, ap (λ l. Some byte ∷ l) more.1)
-last_idle n None (y ∷ steps) some =
-    let more = last_idle (n + 1) y steps some in (None ∷ more.0, ap (λ l. None ∷ l) more.1)
+idle_bytes : (steps : List Step) (shares others : List SubmitSharesStandard) → ReachesLimit (IsIdleOut bounds) steps shares → ReachesLimit (IsBytesOut bounds) steps others → ⊥
+idle_bytes steps shares others idle out = idle_or_bytes idle.front out.front idle.rest out.rest (sym idle.split ∙ out.split) idle.free out.free idle.reached out.reached
 
--- the same steps don't reach both limits first
-not_both : (front : List Step) → IsFreeBefore bounds front → IsIdleOut bounds front → IsBytesOut bounds front → ⊥
-not_both [] free idle out = omega (arith, idle)
-not_both (x ∷ steps) free idle out =
-    let last = last_idle 0 x steps (omega (arith, idle)) in
-    let same : bytes_in (x ∷ steps) ≡ bytes_in last.0 = ap bytes_in last.1 ∙ bytes_in-idle last.0 in
-    free last.0 None [] last.1 (inr (rw same at out))
-
-idle_bytes : (steps : List Step) (shares others : List Submission) → ReachesLimit (IsIdleOut bounds) steps shares → ReachesLimit (IsBytesOut bounds) steps others → ⊥
-idle_bytes steps shares others idle out =
-    elim (fronts_of idle.front out.front idle.rest out.rest (sym idle.split ∙ out.split)) [
-      | shorter x part is ↦ idle.free out.front x part is (inr out.reached)
-      | longer [] is ↦ not_both idle.front idle.free idle.reached (rw (is, append-nil idle.front) at out.reached)
-      | longer (x ∷ part) is ↦ out.free idle.front x part is (inl idle.reached)
-    ]
-
-module _ (class : ℕ) (job : Job) (steps : List Step) (given : List ℕ) (shares : List Submission) where
+module _ (class : ℕ) (job : Job) (steps : List Step) (given : List ℕ) (shares : List SubmitSharesStandard) where
   pub whole_ends : (result : FixedEnd) → EndsBy class job steps given result → IsWhole steps shares → EndsAs end.Done result
   whole_ends end.Done ends whole = inl refl
   whole_ends end.OtherFrame ends whole = absurd (whole_stops steps shares ends.0 whole ends.1)

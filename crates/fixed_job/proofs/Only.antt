@@ -4,7 +4,7 @@ use Rattle.std.specs.Int.{w32, from_le_bytes}
 use Rattle.std.proofs.lemmas.List.{take_at, drop_at, take-append-le}
 use Rattle.std.proofs.lemmas.Nat.{from_le_bytes-to_le_bytes_4}
 use Rattle.sv2_types.specs.Spelling.{spelled_u32}
-use Rattle.fixed_job.specs.declared.submission.Submission.{Submission}
+use Rattle.mining_msgs.specs.declared.shares.SubmitSharesStandard.{SubmitSharesStandard}
 use Rattle.fixed_job.specs.Submitting.{Spell, IsFrame, IsHeader, IsOther, IsRest, Fits, payload_of}
 
 -- a four-byte number at the front of a list is told by its bytes
@@ -17,26 +17,26 @@ u32_front m n a b m_fits n_fits same =
     )
 
 -- a frame has 30 bytes, and its first six are a header
-pub IsFrame-length : (frame : List ℕ) (s : Submission) → IsFrame frame s → length frame ≡ 30
+pub IsFrame-length : (frame : List ℕ) (s : SubmitSharesStandard) → IsFrame frame s → length frame ≡ 30
 IsFrame-length frame s is = ap length is.spelled
 
-pub IsFrame-header : (frame : List ℕ) (s : Submission) → IsFrame frame s → IsHeader (take 6 frame)
+pub IsFrame-header : (frame : List ℕ) (s : SubmitSharesStandard) → IsFrame frame s → IsHeader (take 6 frame)
 IsFrame-header frame s is = (is.ext, is.bit, ap (take 6) is.spelled)
 
 -- the numbers of two payloads are the same
-same_submission : (s t : Submission) → Fits s → Fits t → payload_of s ≡ payload_of t → s ≡ t
+same_submission : (s t : SubmitSharesStandard) → Fits s → Fits t → payload_of s ≡ payload_of t → s ≡ t
 same_submission s t s_fits t_fits same =
-    let rest = λ (u : Submission). spelled_u32 u.sequence ++ (spelled_u32 u.job ++ (spelled_u32 u.nonce ++ (spelled_u32 u.ntime ++ spelled_u32 u.version))) in
-    let channel = u32_front s.channel t.channel (rest s) (rest t) s_fits.channel t_fits.channel same in
-    let sequence = u32_front s.sequence t.sequence (drop 4 (rest s)) (drop 4 (rest t)) s_fits.sequence t_fits.sequence channel.1 in
-    let job = u32_front s.job t.job (drop 8 (rest s)) (drop 8 (rest t)) s_fits.job t_fits.job sequence.1 in
+    let rest = λ (u : SubmitSharesStandard). spelled_u32 u.sequence_number ++ (spelled_u32 u.job_id ++ (spelled_u32 u.nonce ++ (spelled_u32 u.ntime ++ spelled_u32 u.version))) in
+    let channel = u32_front s.channel_id t.channel_id (rest s) (rest t) s_fits.channel t_fits.channel same in
+    let sequence = u32_front s.sequence_number t.sequence_number (drop 4 (rest s)) (drop 4 (rest t)) s_fits.sequence t_fits.sequence channel.1 in
+    let job = u32_front s.job_id t.job_id (drop 8 (rest s)) (drop 8 (rest t)) s_fits.job t_fits.job sequence.1 in
     let nonce = u32_front s.nonce t.nonce (drop 12 (rest s)) (drop 12 (rest t)) s_fits.nonce t_fits.nonce job.1 in
     let ntime = u32_front s.ntime t.ntime (drop 16 (rest s)) (drop 16 (rest t)) s_fits.ntime t_fits.ntime nonce.1 in
     let version = u32_front s.version t.version [] [] s_fits.version t_fits.version (append-nil (spelled_u32 s.version) ∙ ntime.1 ∙ sym (append-nil (spelled_u32 t.version))) in
-    λ i. record { channel = channel.0 i; sequence = sequence.0 i; job = job.0 i; nonce = nonce.0 i; ntime = ntime.0 i; version = version.0 i }
+    λ i. record { channel_id = channel.0 i; sequence_number = sequence.0 i; job_id = job.0 i; nonce = nonce.0 i; ntime = ntime.0 i; version = version.0 i }
 
 -- two frames at the front of one list are the same
-same_frame : (f g x y : List ℕ) (s t : Submission) → IsFrame f s → IsFrame g t → f ++ x ≡ g ++ y → (s ≡ t) × (x ≡ y)
+same_frame : (f g x y : List ℕ) (s t : SubmitSharesStandard) → IsFrame f s → IsFrame g t → f ++ x ≡ g ++ y → (s ≡ t) × (x ≡ y)
 same_frame f g x y s t f_is g_is same =
     let frames : f ≡ g = sym (take_at f x 30 (IsFrame-length f s f_is)) ∙ ap (take 30) same ∙ take_at g y 30 (IsFrame-length g t g_is) in
     let rests : x ≡ y = sym (drop_at f x 30 (IsFrame-length f s f_is)) ∙ ap (drop 30) same ∙ drop_at g y 30 (IsFrame-length g t g_is) in
@@ -53,7 +53,7 @@ none_other held more other frame later s is split =
     other.header (rw first (IsFrame-header frame s is))
 
 -- bytes are the frames of one list of submissions, up to where no frame begins
-pub one_reading : (bytes : List ℕ) (shares others : List Submission) (rest left : List ℕ)
+pub one_reading : (bytes : List ℕ) (shares others : List SubmitSharesStandard) (rest left : List ℕ)
     → Spell bytes shares rest → Spell bytes others left → IsRest rest → IsRest left → (shares ≡ others) × (rest ≡ left)
 one_reading bytes [] [] rest left spelled other none none_left = (refl, sym spelled ∙ other)
 one_reading bytes [] (t ∷ later) rest left spelled (frame, after, is, split, tail) none none_left = absurd (none frame after t is (sym spelled ∙ split))

@@ -1,43 +1,24 @@
 -- The command between its turns.
-use Rattle.std.proofs.Common.{◌≡◌, ℕ, ◌+◌, ◌^◌, ◌<◌, ◌≤◌, List, [], ◌∷◌, ◌++◌, length, map, Option, Some, None, refl, sym, ap, ◌∙◌, append_assoc, append-nil, arith, length-append, inl, inr}
-use Rattle.std.proofs.lemmas.List.{map-append}
+use Rattle.std.proofs.Common.{◌≡◌, ℕ, ◌+◌, ◌^◌, ◌<◌, ◌≤◌, List, [], ◌∷◌, ◌++◌, length, map, Option, Some, None, refl, sym, ap, ◌∙◌, append_assoc, append-nil, arith, length-append, inl}
 use Rattle.pool_base.specs.Lists.{Begins}
 use Rattle.pool_io.specs.declared.turn.Turn.{Turn}
 use Rattle.pool_io.specs.declared.source.Took.TheVariants as took
 use Rattle.pool_io.specs.Outside.{Adds, Takes}
-use Rattle.pool_io.specs.Steps.{Step, bytes_in, steps_of, idles_after, IsAtLimit, IsFree, Brought}
+use Rattle.pool_io.specs.Steps.{Step, bytes_in, steps_of, idles_after, Brought}
 use Rattle.pool_io.proofs.Stepping.{bytes_in-more, bytes_in-idle, idles_after-more, idles_after-idle, free_bytes, free_idle, within_limits, brought_all}
-use Rattle.fixed_job.specs.declared.submission.Submission.{Submission}
+use Rattle.pool_turns.specs.Limits.{bounds}
+use Rattle.pool_turns.proofs.Fronts.{free_none, cut_at}
+use Rattle.pool_turns.proofs.Puts.{Adds-none, Adds-more}
+use Rattle.mining_msgs.specs.declared.shares.SubmitSharesStandard.{SubmitSharesStandard}
 use Rattle.fixed_job.specs.declared.stream.Stream.{Stream}
 use Rattle.fixed_job.specs.declared.command.Command.{Command}
 use Rattle.fixed_job.specs.declared.command.FixedEnd.{FixedEnd}
 use Rattle.fixed_job.specs.declared.command.FixedEnd.TheVariants as end
 use Rattle.fixed_job.specs.Submitting.{Spell}
-use Rattle.fixed_job.specs.Answers.{answers_to}
-use Rattle.fixed_job.specs.Reading.{bounds}
+use Rattle.fixed_job.specs.declared.judge.Job.{Job}
+use Rattle.fixed_job.specs.Answers.{answers_after, answers_to}
 use Rattle.fixed_job.specs.Ending.{EndsBy, Ran}
-use Rattle.fixed_job.proofs.Putting.{Adds-more}
 use Rattle.fixed_job.specs.Standing.{Stands, BreaksIn, Made, Leaves, GoesTo, TurnsTo}
-
--- nothing more is held
-Adds-none : (held : Option (List ℕ)) → Adds held held []
-Adds-none None = tt
-Adds-none (Some bytes) = ap Some (sym (append-nil bytes))
-
--- no step was taken, so no limit is reached
-free_none : IsFree bounds []
-free_none = (
-  λ front x rest split at. none_before front x rest split,
-  λ at. none_at at,
-)
-  where
-    none_before : (front : List Step) (x : Step) (rest : List Step) → [] ≡ front ++ x ∷ rest → ⊥
-    none_before [] x rest split = cc
-    none_before (y ∷ front) x rest split = cc
-
-    none_at : IsAtLimit bounds [] → ⊥
-    none_at (inl idle) = omega (arith, idle)
-    none_at (inr out) = omega (arith, out)
 
 -- before the first turn
 pub made_first : (command : Command) → Stands [] [] command.stream → command.stream.answers.items ≡ [] → 0 ≡ command.taken → 0 ≡ command.idles
@@ -52,12 +33,17 @@ made_first command stands flushed taken idles before = record {
   flushed = flushed;
 }
 
--- an empty list at the end
-no_more : (steps rest : List Step) → (steps ++ []) ++ rest ≡ steps ++ rest
-no_more steps rest = ap (λ l. l ++ rest) (append-nil steps)
+-- want of memory before the first turn
+pub memory_first : (class : ℕ) (job : Job) (turns : Option (List Turn)) (before : Option (List ℕ)) → Ran class job turns before before end.Memory
+unfolding answers_after
+memory_first class job turns before = record {
+  given = [];
+  put = Adds-none before;
+  ends = λ told is. ([], ([], steps_of told, [], refl, refl), ([], refl));
+}
 
 -- the answers by a stream of the same class and job
-as_before : (old new : Stream) → new.judge.class ≡ old.judge.class → new.judge.job ≡ old.judge.job → (shares : List Submission)
+as_before : (old new : Stream) → new.judge.class ≡ old.judge.class → new.judge.job ≡ old.judge.job → (shares : List SubmitSharesStandard)
     → answers_to old.judge.class old.judge.job shares ≡ answers_to new.judge.class new.judge.job shares
 as_before old new class job shares =
     sym (ap (λ z. answers_to z new.judge.job shares) class ∙ ap (λ j. answers_to old.judge.class j shares) job)
@@ -71,14 +57,14 @@ memory_leaves before now steps more old new class job made = record {
   put = made.put;
   ends = λ rest. (
     made.stands.shares,
-    (steps, more ++ rest, old.stream.held.items, append_assoc steps more rest, made.stands.spelled),
+    (steps, more ++ rest, old.stream.splitter.held, append_assoc steps more rest, made.stands.spelled),
     (old.stream.answers.items, made.stands.answered ∙ as_before old.stream new class job made.stands.shares),
   );
 }
 
 -- After a piece: what of it is spelled, and that the submissions are answered.
 pub record Answered (steps : List Step) (piece given : List ℕ) (new : Stream) : Type 0 where
-  pub shares : List Submission
+  pub shares : List SubmitSharesStandard
   pub held : List ℕ
   pub part : List ℕ
   pub left : List ℕ
@@ -93,7 +79,7 @@ answered_whole before now steps piece old new made stands =
     let after = stands (bytes_in steps) made.given made.stands in
     record {
       shares = after.shares;
-      held = new.held.items;
+      held = new.splitter.held;
       part = piece;
       left = [];
       split = sym (append-nil piece);
@@ -115,15 +101,6 @@ answered_part before now steps piece old new made breaks =
       spelled = rw (bytes_in-more steps breaks.front) after.spelled;
       answered = after.answered;
     }
-
--- a piece and what follows it, cut within the piece
-cut_at : (steps : List Step) (piece part left : List ℕ) (rest : List Step) → piece ≡ part ++ left
-    → (steps ++ map Some piece) ++ rest ≡ (steps ++ map Some part) ++ (map Some left ++ rest)
-cut_at steps piece part left rest split =
-    ap (λ p. (steps ++ map Some p) ++ rest) split
-    ∙ ap (λ m. (steps ++ m) ++ rest) (map-append Some part left)
-    ∙ ap (λ l. l ++ rest) (sym (append_assoc steps (map Some part) (map Some left)))
-    ∙ append_assoc (steps ++ map Some part) (map Some left) rest
 
 -- a put that failed: the sink has a front of the answers
 put_ends : (steps : List Step) (piece given front : List ℕ) (new : Stream) → Answered steps piece given new → Begins front new.answers.items
@@ -192,7 +169,7 @@ module _ (before now after : Option (List ℕ)) (steps : List Step) (piece : Lis
           rest = rest;
           split = refl;
           reached = omega (arith, all, ap length (bytes_in-more steps piece), length-append (bytes_in steps) piece);
-          held = new.held.items;
+          held = new.splitter.held;
           spelled = rw (bytes_in-more steps piece) stands.spelled;
           partial = stands.partial;
           free = free_bytes bounds steps made.free piece (omega arith) room_left;
@@ -202,10 +179,10 @@ module _ (before now after : Option (List ℕ)) (steps : List Step) (piece : Lis
     }
 
     pub made_more : (command : Command) → length (bytes_in steps) + length piece < 2 ^ 40
-        → command.stream.held.items ≡ new.held.items → command.stream.judge ≡ new.judge → command.stream.answers.items ≡ []
+        → command.stream.splitter ≡ new.splitter → command.stream.judge ≡ new.judge → command.stream.answers.items ≡ []
         → command.taken ≡ old.taken + length piece → command.idles ≡ 0
         → Made before after (steps ++ map Some piece) command
-    made_more command below held judge flushed taken idles =
+    made_more command below splitter judge flushed taken idles =
         let bytes : length (bytes_in (steps ++ map Some piece)) ≡ length (bytes_in steps) + length piece =
         ap length (bytes_in-more steps piece) ∙ length-append (bytes_in steps) piece in
         let none : idles_after 0 (steps ++ map Some piece) ≡ 0 = idles_after-more steps piece some in
@@ -220,8 +197,9 @@ module _ (before now after : Option (List ℕ)) (steps : List Step) (piece : Lis
           put = Adds-more before now after made.given new.answers.items made.put put;
           stands = record {
             shares = stands.shares;
-            spelled = rw (bytes_in-more steps piece, held) stands.spelled;
-            partial = rw held stands.partial;
+            spelled = rw (bytes_in-more steps piece, splitter) stands.spelled;
+            limit = rw splitter stands.limit;
+            partial = rw splitter stands.partial;
             answered = rw (flushed, judge) (append-nil (made.given ++ new.answers.items) ∙ stands.answered);
             keeps = rw judge stands.keeps;
           };
@@ -247,7 +225,7 @@ module _ (before now : Option (List ℕ)) (steps : List Step) (old : Command) (m
         rest = rest;
         split = refl;
         reached = omega (arith, last, made.idles, idles_after-idle steps);
-        held = old.stream.held.items;
+        held = old.stream.splitter.held;
         spelled = rw (bytes_in-idle steps) made.stands.spelled;
         partial = made.stands.partial;
         free = free_idle bounds steps made.free;

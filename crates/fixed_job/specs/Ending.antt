@@ -4,25 +4,26 @@ use Rattle.pool_base.specs.Lists.{Begins}
 use Rattle.pool_io.specs.declared.turn.Turn.{Turn}
 use Rattle.pool_io.specs.Outside.{Adds}
 use Rattle.pool_io.specs.Steps.{Step, steps_of, bytes_in, IsIdleOut, IsBytesOut}
-use Rattle.fixed_job.specs.declared.submission.Submission.{Submission}
+use Rattle.mining_msgs.specs.declared.shares.SubmitSharesStandard.{SubmitSharesStandard}
 use Rattle.fixed_job.specs.declared.judge.Job.{Job}
 use Rattle.fixed_job.specs.declared.command.FixedEnd.{FixedEnd}
 use Rattle.fixed_job.specs.declared.command.FixedEnd.TheVariants.{Done, OtherFrame, IdleOut, BytesOut, ReadFault, WriteFault, Memory}
 use Rattle.fixed_job.specs.Answers.{answers_to}
 use Rattle.fixed_job.specs.Submitting.{Spell}
-use Rattle.fixed_job.specs.Reading.{bounds, GoesOn, IsWhole, Stops, ReachesLimit}
+use Rattle.pool_turns.specs.Limits.{bounds}
+use Rattle.fixed_job.specs.Reading.{GoesOn, IsWhole, Stops, ReachesLimit}
 
 -- a front of the steps brings these submissions and goes on
-abbrev pub HasBrought : List Step → List Submission → Type 0
+abbrev pub HasBrought : List Step → List SubmitSharesStandard → Type 0
 HasBrought steps shares = (front : List Step) × (rest : List Step) × (steps ≡ front ++ rest) × GoesOn front shares
 
 -- the bytes of a front of the steps are the frames of these submissions, and then others
-abbrev pub HasSpelled : List Step → List Submission → Type 0
+abbrev pub HasSpelled : List Step → List SubmitSharesStandard → Type 0
 HasSpelled steps shares = (front : List Step) × (rest : List Step) × (held : List ℕ) × (steps ≡ front ++ rest) × Spell (bytes_in front) shares held
 
 -- the steps end so after some submissions, and what was given compares so with the answers to them
-abbrev pub Answers : (List Step → List Submission → Type 0) → (List ℕ → List ℕ → Type 0) → ℕ → Job → List Step → List ℕ → Type 0
-Answers Ends Compare class job steps given = (shares : List Submission) × Ends steps shares × Compare given (answers_to class job shares)
+abbrev pub Answers : (List Step → List SubmitSharesStandard → Type 0) → (List ℕ → List ℕ → Type 0) → ℕ → Job → List Step → List ℕ → Type 0
+Answers Ends Compare class job steps given = (shares : List SubmitSharesStandard) × Ends steps shares × Compare given (answers_to class job shares)
 
 abbrev pub Equal : List ℕ → List ℕ → Type 0
 Equal given answers = given ≡ answers

@@ -1,10 +1,10 @@
 -- What a submission rolls of the job's header.
 use Rattle.std.specs.Prelude.{◌==◌, Bool, ◌&&◌}
-use Rattle.fixed_job.specs.declared.submission.Submission.{Submission}
+use Rattle.mining_msgs.specs.declared.shares.SubmitSharesStandard.{SubmitSharesStandard}
 use Rattle.fixed_job.specs.declared.submission.Rolled.{Rolled}
 
 -- what a submission rolls of the header
-abbrev pub rolled_of : Submission → Rolled
+abbrev pub rolled_of : SubmitSharesStandard → Rolled
 rolled_of s = record { version = s.version; ntime = s.ntime; nonce = s.nonce }
 
 -- two headers of one job are the same

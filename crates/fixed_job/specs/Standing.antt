@@ -1,11 +1,12 @@
 -- Where the command stands between two bytes and between two turns.
-use Rattle.std.specs.Prelude.{ℕ, ◌+◌, ◌-◌, ◌*◌, ◌^◌, ◌<◌, ◌≡◌, true, List, [], ◌++◌, length, take, Option, Some, None}
+use Rattle.std.specs.Prelude.{ℕ, ◌+◌, ◌-◌, ◌*◌, ◌^◌, ◌<◌, ◌≡◌, true, List, [], ◌++◌, length, Option, Some, None}
 use Rattle.std.specs.List.{list_any}
 use Rattle.block_header.specs.Hash.{meets}
 use Rattle.pool_io.specs.declared.turn.Turn.{Turn}
 use Rattle.pool_io.specs.Outside.{Adds}
 use Rattle.pool_io.specs.Steps.{Step, bytes_in, idles_after, IsFree, Brought}
-use Rattle.fixed_job.specs.declared.submission.Submission.{Submission}
+use Rattle.sv2_frames.specs.Holding.{IsCutWithin}
+use Rattle.mining_msgs.specs.declared.shares.SubmitSharesStandard.{SubmitSharesStandard}
 use Rattle.fixed_job.specs.declared.judge.Job.{Job}
 use Rattle.fixed_job.specs.declared.submission.Rolled.{Rolled}
 use Rattle.fixed_job.specs.declared.judge.Judge.{Judge}
@@ -15,39 +16,40 @@ use Rattle.fixed_job.specs.declared.command.FixedEnd.{FixedEnd}
 use Rattle.fixed_job.specs.Ending.{EndsBy, Ran}
 use Rattle.fixed_job.specs.Answers.{hash_of, is_submitted, answers_to}
 use Rattle.fixed_job.specs.Rolling.{is_same}
-use Rattle.fixed_job.specs.Submitting.{Spell, IsHeader, IsPartial, IsOther}
-use Rattle.fixed_job.specs.Reading.{bounds}
+use Rattle.fixed_job.specs.Submitting.{Spell, IsPartial, IsOther}
+use Rattle.pool_turns.specs.Limits.{bounds}
 
 -- a header that meets the class was credited exactly where it was submitted
-abbrev pub Keeps : Judge → List Submission → Type 0
+abbrev pub Keeps : Judge → List SubmitSharesStandard → Type 0
 Keeps judge shares = (r : Rolled) → meets (hash_of judge.job r) judge.class ≡ true
     → list_any (is_same r) judge.credited.items ≡ is_submitted shares r
 
 -- the bytes seen are the frames of some submissions and a part of one more, and the submissions are answered
 pub record Stands (seen given : List ℕ) (stream : Stream) : Type 0 where
-  pub shares : List Submission
-  pub spelled : Spell seen shares stream.held.items
-  pub partial : IsPartial stream.held.items
+  pub shares : List SubmitSharesStandard
+  pub spelled : Spell seen shares stream.splitter.held
+  pub limit : stream.splitter.limit ≡ 24
+  pub partial : IsPartial stream.splitter.held
   pub answered : given ++ stream.answers.items ≡ answers_to stream.judge.class stream.judge.job shares
   pub keeps : Keeps stream.judge shares
 
--- the bytes seen are the frames of some submissions and one more that is held whole, and those before are answered
+-- the bytes seen are the frames of some submissions and what is held, and the submissions are answered
 pub record Fills (seen given : List ℕ) (stream : Stream) : Type 0 where
-  pub shares : List Submission
-  pub spelled : Spell seen shares stream.held.items
-  pub header : IsHeader (take 6 stream.held.items)
+  pub shares : List SubmitSharesStandard
+  pub spelled : Spell seen shares stream.splitter.held
+  pub limit : stream.splitter.limit ≡ 24
   pub answered : given ++ stream.answers.items ≡ answers_to stream.judge.class stream.judge.job shares
   pub keeps : Keeps stream.judge shares
 
 -- the bytes seen are the frames of some submissions and another header, and the submissions are answered
 pub record Breaks (seen given : List ℕ) (stream : Stream) : Type 0 where
-  pub shares : List Submission
+  pub shares : List SubmitSharesStandard
   pub held : List ℕ
   pub spelled : Spell seen shares held
   pub other : IsOther held
   pub answered : given ++ stream.answers.items ≡ answers_to stream.judge.class stream.judge.job shares
 
--- within the piece comes the last byte of another header
+-- within the piece comes another header
 pub record BreaksIn (piece : List ℕ) (old new : Stream) : Type 0 where
   pub front : List ℕ
   pub rest : List ℕ
@@ -87,10 +89,11 @@ abbrev pub TurnsTo : Option (List Turn) → Option (List ℕ) → Option (List T
 TurnsTo turns before left now command None = IsBetween turns before left now command
 TurnsTo turns before left now command (Some end) = Ran command.stream.judge.class command.stream.judge.job turns before now end
 
--- no limit is reached
+-- no limit is reached, and less than a frame is held
 pub record IsBelow (command : Command) : Type 0 where
   pub taken : command.taken < 2 ^ 40
   pub idles : command.idles < 36000
+  pub cut : IsCutWithin command.stream.splitter
 
 -- how much may still come: each turn takes some of it
 abbrev pub remaining : Command → ℕ

@@ -2,15 +2,15 @@
 use Rattle.std.specs.Prelude.{ℕ, ◌^◌, ◌≡◌, ◌<◌, ◌≤◌, ◌⊎◌, List, [], ◌∷◌, ◌++◌, length, take}
 use Rattle.sv2_types.specs.Spelling.{spelled_u32}
 use Rattle.sv2_frames.specs.Framing.{header_of, frame_of}
-use Rattle.fixed_job.specs.declared.submission.Submission.{Submission}
+use Rattle.mining_msgs.specs.declared.shares.SubmitSharesStandard.{SubmitSharesStandard}
 
 -- the channel bit of the extension type is set or not, and no other bit is
 abbrev pub IsPlainOrChannel : ℕ → Type 0
 IsPlainOrChannel ext = (ext ≡ 0) ⊎ (ext ≡ 0x8000)
 
 -- the fields of a submission in their order
-abbrev pub payload_of : Submission → List ℕ
-payload_of s = spelled_u32 s.channel ++ spelled_u32 s.sequence ++ spelled_u32 s.job
+abbrev pub payload_of : SubmitSharesStandard → List ℕ
+payload_of s = spelled_u32 s.channel_id ++ spelled_u32 s.sequence_number ++ spelled_u32 s.job_id
     ++ spelled_u32 s.nonce ++ spelled_u32 s.ntime ++ spelled_u32 s.version
 
 -- the six bytes begin a submission's frame
@@ -18,30 +18,34 @@ abbrev pub IsHeader : List ℕ → Type 0
 IsHeader bytes = (ext : ℕ) × IsPlainOrChannel ext × (bytes ≡ header_of ext 0x1a 24)
 
 -- each field has four bytes
-pub record Fits (s : Submission) : Type 0 where
-  pub channel : s.channel < 2 ^ 32
-  pub sequence : s.sequence < 2 ^ 32
-  pub job : s.job < 2 ^ 32
+pub record Fits (s : SubmitSharesStandard) : Type 0 where
+  pub channel : s.channel_id < 2 ^ 32
+  pub sequence : s.sequence_number < 2 ^ 32
+  pub job : s.job_id < 2 ^ 32
   pub nonce : s.nonce < 2 ^ 32
   pub ntime : s.ntime < 2 ^ 32
   pub version : s.version < 2 ^ 32
 
 -- the bytes are the whole frame of a submission
-pub record IsFrame (bytes : List ℕ) (s : Submission) : Type 0 where
+pub record IsFrame (bytes : List ℕ) (s : SubmitSharesStandard) : Type 0 where
   pub ext : ℕ
   pub bit : IsPlainOrChannel ext
   pub fits : Fits s
   pub spelled : bytes ≡ frame_of ext 0x1a (payload_of s)
 
 -- the bytes are the frames of these submissions, one after the other, and then the rest
-abbrev pub Spell : List ℕ → List Submission → List ℕ → Type 0
+abbrev pub Spell : List ℕ → List SubmitSharesStandard → List ℕ → Type 0
 Spell bytes [] rest = bytes ≡ rest
 Spell bytes (s ∷ later) rest = (frame : List ℕ) × (after : List ℕ) × IsFrame frame s × (bytes ≡ frame ++ after) × Spell after later rest
+
+-- where six bytes are there, they begin a submission's frame
+abbrev pub BeginsShare : List ℕ → Type 0
+BeginsShare bytes = 6 ≤ length bytes → IsHeader (take 6 bytes)
 
 -- less than a whole frame, and no bytes of another header
 pub record IsPartial (bytes : List ℕ) : Type 0 where
   pub short : length bytes < 30
-  pub header : 6 ≤ length bytes → IsHeader (take 6 bytes)
+  pub header : BeginsShare bytes
 
 -- the first six bytes are another header
 pub record IsOther (bytes : List ℕ) : Type 0 where
@@ -50,4 +54,4 @@ pub record IsOther (bytes : List ℕ) : Type 0 where
 
 -- no frame of a submission begins the bytes
 abbrev pub IsRest : List ℕ → Type 0
-IsRest bytes = (frame more : List ℕ) (s : Submission) → IsFrame frame s → bytes ≡ frame ++ more → ⊥
+IsRest bytes = (frame more : List ℕ) (s : SubmitSharesStandard) → IsFrame frame s → bytes ≡ frame ++ more → ⊥

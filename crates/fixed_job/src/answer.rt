@@ -1,40 +1,48 @@
-// The answers to shares (Stratum V2, "SubmitShares.Success" and "SubmitShares.Error").
-ghost use Rattle.std.specs.Prelude.{◌≡◌, ◌≤◌, ◌++◌, OnOk};
+//! The answers to shares (Stratum V2, "SubmitShares.Success" and "SubmitShares.Error").
+
+ghost use Rattle.std.specs.Prelude.{◌≡◌, ◌≤◌, ◌++◌, OnOk, OnErr};
+ghost use Rattle.sv2_messages.specs.Messages.{Fits, message_frame};
+ghost use Rattle.sv2_messages.specs.Tables.{mining};
+ghost use Rattle.mining_msgs.specs.Seen.{seen};
 ghost use Rattle.fixed_job.specs.Answers.{answer_of};
 
 use crate::judge::Refusal;
-use crate::submission::{CHANNEL_BIT, Submission};
+use mining_msgs::{Mining, SubmitSharesError, SubmitSharesStandard, SubmitSharesSuccess};
 use std::alloc::AllocError;
-use sv2_frames::write_frame;
-use sv2_types::{put_str255, put_u32, put_u64};
 
-const SUBMIT_SHARES_SUCCESS: u8 = 0x1c;
-
-const SUBMIT_SHARES_ERROR: u8 = 0x1d;
-
-/// Appends the answer's frame, with `payload` as room for its payload.
+/// Appends the answer's frame, or nothing where memory runs out.
 pub fn put_answer(
     answers: &mut Vec<u8>,
-    payload: &mut Vec<u8>,
     class: u8,
-    share: &Submission,
+    share: SubmitSharesStandard,
     refusal: Option<Refusal>,
 ) -> Result<(), AllocError>
     requires { class ≤ 60 }
-    ensures { OnOk result (answers.new.items ≡ answers.old.items ++ answer_of class share.now refusal) }
+    ensures ok { OnOk result (answers.new.items ≡ answers.old.items ++ answer_of class share refusal) }
+    ensures err { OnErr result (answers.new.items ≡ answers.old.items) }
 {
-    payload.clear();
-    put_u32(payload, share.channel)?;
-    put_u32(payload, share.sequence)?;
+    // In a tuple, since no proof covers a local of an enum whose structs borrow.
+    let answer = (answer_to(class, share, refusal),);
+    answer.0.frame(answers)
+}
+
+/// Credits one share of the class's work, or tells why none is credited.
+fn answer_to(class: u8, share: SubmitSharesStandard, refusal: Option<Refusal>) -> Mining<'static>
+    requires { class ≤ 60 }
+    ensures fits { Fits mining (seen result) }
+    ensures frame { message_frame mining (seen result) ≡ answer_of class share refusal }
+{
     match refusal {
-        None => {
-            put_u32(payload, 1)?;
-            put_u64(payload, 1 << class)?;
-            write_frame(answers, CHANNEL_BIT, SUBMIT_SHARES_SUCCESS, payload)
-        }
-        Some(refusal) => {
-            put_str255(payload, refusal.code())?;
-            write_frame(answers, CHANNEL_BIT, SUBMIT_SHARES_ERROR, payload)
-        }
+        None => Mining::SubmitSharesSuccess(SubmitSharesSuccess {
+            channel_id: share.channel_id,
+            last_sequence_number: share.sequence_number,
+            new_submits_accepted_count: 1,
+            new_shares_sum: 1 << class,
+        }),
+        Some(refusal) => Mining::SubmitSharesError(SubmitSharesError {
+            channel_id: share.channel_id,
+            sequence_number: share.sequence_number,
+            error_code: refusal.code(),
+        }),
     }
 }

@@ -1,21 +1,13 @@
-// The whole command, turn by turn.
-ghost use Rattle.std.specs.Prelude.{◌≡◌, ◌≤◌, ◌<◌, ◌+◌, ◌^◌, ℕ, List, Option, length, map, IfNone, ◌++◌, [], ◌∷◌};
+//! The whole command, turn by turn.
+
+ghost use Rattle.std.specs.Prelude.{◌≡◌, ◌≤◌, ◌<◌, ◌+◌, ◌^◌, ℕ, List, Option, length, map, IfNone, IfOk, ◌++◌, [], ◌∷◌};
 ghost use Rattle.pool_base.specs.Counts.{Rose};
 
 use crate::judge::Job;
-use crate::put_all::put_all;
 use crate::stream::{Stop, Stream};
 use pool_io::{Sink, SinkFailed, Source, Took};
-use std::alloc::Global;
-
-/// The most Idle answers in a row: an hour of a source that waits a tenth of a second.
-pub const IDLE_TURNS: u64 = 36_000;
-
-/// The most bytes that are taken.
-pub const MOST_BYTES: u64 = 1 << 40;
-
-/// The most bytes that are taken at once.
-const PIECE_LEN: usize = 4096;
+use pool_turns::{IDLE_TURNS, MOST_BYTES, PIECE_LEN, put_all};
+use std::alloc::{AllocError, Global};
 
 /// How the command ended.
 #[derive(Clone, Copy, Debug, PartialEq, Eq)]
@@ -49,22 +41,23 @@ impl Command {
     ghost use Rattle.fixed_job.specs.Ending.{EndsBy, Ran};
     ghost use Rattle.fixed_job.specs.Standing.{Made, GoesTo, TurnsTo, IsBetween, IsBelow, remaining};
 
-    fn new(alloc: Global, class: u8, job: &Job) -> Command
+    fn new(alloc: Global, class: u8, job: &Job) -> Result<Command, AllocError>
         requires { class ≤ 60 }
-        ensures class { result.stream.judge.class ≡ class }
-        ensures job { result.stream.judge.job ≡ job.now }
-        ensures made { (before : Option (List ℕ)) → Made before before [] result }
-        ensures below { IsBelow result }
+        ensures class { IfOk result (λ command. command.stream.judge.class ≡ class) }
+        ensures job { IfOk result (λ command. command.stream.judge.job ≡ job.now) }
+        ensures made { IfOk result (λ command. (before : Option (List ℕ)) → Made before before [] command) }
+        ensures below { IfOk result (λ command. IsBelow command) }
     {
-        Command {
-            stream: Stream::new(alloc, class, job),
+        Ok(Command {
+            stream: Stream::new(alloc, class, job)?,
             taken: 0,
             idles: 0,
-        }
+        })
     }
 
     /// Takes the bytes that came, and puts the answers to the frames that they complete.
     fn bytes<T: Sink>(&mut self, piece: &[u8], sink: &mut T) -> Option<FixedEnd>
+        requires below { IsBelow self.old }
         requires some { 0 < length piece.now }
         requires room { self.old.taken + length piece.now ≤ 2 ^ 40 }
         ensures goes { (before : Option (List ℕ)) (steps : List Step) → Made before (T.held sink.old) steps self.old
@@ -124,7 +117,7 @@ impl Command {
             → EndsBy self.now.stream.judge.class self.now.stream.judge.job steps made.given result }
         ensures no_fault { (result ≡ FixedEnd.WriteFault → ⊥) × (result ≡ FixedEnd.ReadFault → ⊥) }
     {
-        if self.stream.held.is_empty() {
+        if self.stream.splitter.held() == 0 {
             FixedEnd::Done
         } else {
             FixedEnd::OtherFrame
@@ -163,9 +156,10 @@ impl Command {
 
 ghost use Rattle.pool_io.specs.declared.turn.Turn.{Turn};
 ghost use Rattle.pool_io.specs.Steps.{steps_of, IsIdleOut, IsBytesOut};
-ghost use Rattle.fixed_job.specs.declared.submission.Submission.{Submission};
+ghost use Rattle.mining_msgs.specs.declared.shares.SubmitSharesStandard.{SubmitSharesStandard};
 ghost use Rattle.fixed_job.specs.Ending.{Ran, EndsAs};
-ghost use Rattle.fixed_job.specs.Reading.{bounds, IsWhole, Stops, ReachesLimit};
+ghost use Rattle.pool_turns.specs.Limits.{bounds};
+ghost use Rattle.fixed_job.specs.Reading.{IsWhole, Stops, ReachesLimit};
 
 /// Judges the shares that the source brings, and puts the answers. The class is 0 to 60.
 pub fn judge_shares<S: Source, T: Sink>(
@@ -181,13 +175,13 @@ pub fn judge_shares<S: Source, T: Sink>(
     ensures ran { Ran class job.now (S.left source.old) (T.held sink.old) (T.held sink.new) result }
 
     // The steps that the source tells decide the end, but for a fault or want of memory.
-    ensures whole { (told : List Turn) (shares : List Submission) → S.left source.old ≡ Some told
+    ensures whole { (told : List Turn) (shares : List SubmitSharesStandard) → S.left source.old ≡ Some told
         → IsWhole (steps_of told) shares → EndsAs FixedEnd.Done result }
-    ensures stops { (told : List Turn) (shares : List Submission) → S.left source.old ≡ Some told
+    ensures stops { (told : List Turn) (shares : List SubmitSharesStandard) → S.left source.old ≡ Some told
         → Stops (steps_of told) shares → EndsAs FixedEnd.OtherFrame result }
-    ensures idle_out { (told : List Turn) (shares : List Submission) → S.left source.old ≡ Some told
+    ensures idle_out { (told : List Turn) (shares : List SubmitSharesStandard) → S.left source.old ≡ Some told
         → ReachesLimit (IsIdleOut bounds) (steps_of told) shares → EndsAs FixedEnd.IdleOut result }
-    ensures bytes_out { (told : List Turn) (shares : List Submission) → S.left source.old ≡ Some told
+    ensures bytes_out { (told : List Turn) (shares : List SubmitSharesStandard) → S.left source.old ≡ Some told
         → ReachesLimit (IsBytesOut bounds) (steps_of told) shares → EndsAs FixedEnd.BytesOut result }
 
     // A fault is told only where a count rose.
@@ -196,7 +190,9 @@ pub fn judge_shares<S: Source, T: Sink>(
     ensures read_later { S.faults source.old ≤ S.faults source.new }
     ensures write_later { T.faults sink.old ≤ T.faults sink.new }
 {
-    let mut command = Command::new(alloc, class, job);
+    let Ok(mut command) = Command::new(alloc, class, job) else {
+        return FixedEnd::Memory;
+    };
     let mut buffer = [0; PIECE_LEN];
     loop {
         if let Some(end) = command.turn(source, sink, &mut buffer) {

@@ -1,10 +1,11 @@
-// Which share of the job is credited, and which is refused.
+//! Which share of the job is credited, and which is refused.
 ghost use Rattle.std.specs.Prelude.{◌≡◌, ◌≤◌, ℕ, List, [], ◌∷◌, ◌++◌, length, IfOk, OnOk};
 ghost use Rattle.std.specs.List.{list_any};
 ghost use Rattle.fixed_job.specs.Rolling.{is_same};
 
-use crate::submission::{Rolled, Submission};
+use crate::submission::{Rolled, rolled_of};
 use block_header::{Header, dsha, meets_class};
+use mining_msgs::SubmitSharesStandard;
 use std::alloc::{AllocError, Global};
 
 /// What a header has of the job: the hashes as they stand in the header.
@@ -81,14 +82,14 @@ impl Judge {
         dsha(&header.bytes())
     }
 
-    fn first_failed(&self, share: &Submission) -> Option<Refusal>
+    fn first_failed(&self, share: &SubmitSharesStandard) -> Option<Refusal>
         ensures { (earlier : List _) → Keeps self.now earlier
             → result ≡ first_failed self.now.class self.now.job earlier share.now }
     {
-        let rolled = share.rolled();
-        if share.channel != 1 {
+        let rolled = rolled_of(share);
+        if share.channel_id != 1 {
             Some(Refusal::InvalidChannelId)
-        } else if share.job != 1 {
+        } else if share.job_id != 1 {
             Some(Refusal::InvalidJobId)
         } else if !meets_class(&self.hash(&rolled), self.class) {
             Some(Refusal::DifficultyTooLow)
@@ -100,7 +101,7 @@ impl Judge {
     }
 
     /// The first condition that fails; where none does, the share is credited.
-    pub fn judge(&mut self, share: &Submission) -> Result<Option<Refusal>, AllocError>
+    pub fn judge(&mut self, share: &SubmitSharesStandard) -> Result<Option<Refusal>, AllocError>
         ensures verdict { (earlier : List _) → Keeps self.old earlier
             → IfOk result (λ refusal. refusal ≡ first_failed self.old.class self.old.job earlier share.now) }
         ensures keeps { (earlier : List _) → Keeps self.old earlier
@@ -110,7 +111,7 @@ impl Judge {
     {
         let refusal = self.first_failed(share);
         if refusal.is_none() {
-            self.credited.push(share.rolled())?;
+            self.credited.push(rolled_of(share))?;
         }
         Ok(refusal)
     }

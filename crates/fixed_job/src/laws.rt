@@ -1,4 +1,5 @@
-// Laws of the definitions.
+//! Laws of the definitions.
+
 ghost use Rattle.fixed_job.specs.Laws.{HasOneReading};
 
 /// Bytes are the frames of one list of submissions, up to where they stop being such frames: so the answers

@@ -6,11 +6,9 @@ mod answer;
 mod command;
 mod judge;
 mod laws;
-mod put_all;
 mod stream;
 mod submission;
 
 pub use command::{FixedEnd, judge_shares};
 pub use judge::{Job, Refusal};
 pub use laws::has_one_reading;
-pub use submission::Submission;

@@ -9,7 +9,7 @@ use Rattle.frame_listing.specs.declared.command.ListEnd.{ListEnd}
 use Rattle.frame_listing.specs.declared.command.ListEnd.TheVariants as end
 use Rattle.frame_listing.specs.Reading.{IsWhole, Stops}
 use Rattle.frame_listing.specs.Ending.{EndsBy, EndsAs, IsFault}
-use Rattle.pool_cli.specs.Running.{listing_status, FramesRan, NotGiven, Prints, PrintsDone, PrintsBad, PrintsLimit, PrintsReadFault, PrintsWriteFault, HandsBack, ListsToLimit, IsFaultStatus}
+use Rattle.pool_cli.specs.Running.{listing_status, FramesRan, NotGiven, Prints, PrintsDone, PrintsBad, PrintsLimit, PrintsReadFault, PrintsWriteFault, PrintsMemory, HasNoSink, HandsBack, ListsToLimit, IsFaultStatus}
 use Rattle.pool_cli.proofs.Statuses.{not_given_status}
 
 module _ (steps : List Step) (given : List ℕ) where
@@ -58,6 +58,15 @@ module _ (steps : List Step) (given : List ℕ) where
   at_list_write_fault end.ReadFault is ends = absurd (omega arith)
   at_list_write_fault end.Memory is ends = absurd (omega arith)
 
+  pub at_list_memory : (e : ListEnd) → 8 ≡ listing_status e → EndsBy steps given e → PrintsMemory steps given
+  at_list_memory end.Memory is ends = ends
+  at_list_memory end.Done is ends = absurd (omega arith)
+  at_list_memory end.BadFrame is ends = absurd (omega arith)
+  at_list_memory end.IdleOut is ends = absurd (omega arith)
+  at_list_memory end.BytesOut is ends = absurd (omega arith)
+  at_list_memory end.ReadFault is ends = absurd (omega arith)
+  at_list_memory end.WriteFault is ends = absurd (omega arith)
+
 fault_status : (e : ListEnd) → IsFault e → IsFaultStatus (listing_status e)
 fault_status end.ReadFault fault = inl refl
 fault_status end.WriteFault fault = inr (inl refl)
@@ -77,6 +86,15 @@ module _ {S T : Type 0} (read_faults : S → ℕ) (held : T → Option (List ℕ
       elim ran [
         | inl r ↦ (r.ran.given, at (steps_of told) r.ran.given r.end (sym is ∙ r.answer) (r.ran.ends told told_is), (r.sink, r.sinks.back, r.ran.put))
         | inr refused ↦ elim refused.cause [ inl memory ↦ absurd (not_8 (sym is ∙ memory)) | inr failed ↦ absurd (not_7 (sym is ∙ failed.0)) ]
+      ]
+
+  -- want of memory, of the host or of the command
+  pub prints_without_memory : status ≡ 8 → HasNoSink old new ⊎ Prints PrintsMemory (HandsBack held old new) old.input
+  prints_without_memory is =
+      elim ran [
+        | inl r ↦ inr (λ told told_is.
+            (r.ran.given, at_list_memory (steps_of told) r.ran.given r.end (sym is ∙ r.answer) (r.ran.ends told told_is), (r.sink, r.sinks.back, r.ran.put)))
+        | inr refused ↦ inl refused.none
       ]
 
   -- an end that the input decides

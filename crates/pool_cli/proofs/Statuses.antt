@@ -5,7 +5,7 @@ use Rattle.pool_io.specs.declared.turn.Turn.{Turn}
 use Rattle.pool_io.specs.Seen.{Seen}
 use Rattle.pool_io.specs.Steps.{Step, steps_of}
 use Rattle.fixed_job.specs.declared.judge.Job.{Job}
-use Rattle.fixed_job.specs.declared.submission.Submission.{Submission}
+use Rattle.mining_msgs.specs.declared.shares.SubmitSharesStandard.{SubmitSharesStandard}
 use Rattle.fixed_job.specs.declared.command.FixedEnd.{FixedEnd}
 use Rattle.fixed_job.specs.declared.command.FixedEnd.TheVariants as end
 use Rattle.frame_listing.specs.declared.command.ListEnd.{ListEnd}
@@ -15,7 +15,7 @@ use Rattle.fixed_job.specs.Ending.{EndsBy, EndsAs, IsFault, Answers, Equal, HasB
 use Rattle.std.specs.Prelude.{Contains}
 use Rattle.pool_cli.specs.declared.words.Form.{Form}
 use Rattle.pool_cli.specs.declared.words.Form.TheVariants.{SoloFixed, Frames}
-use Rattle.pool_cli.specs.Running.{Does, status_of, listing_status, FixedRan, NotGiven, Told, HandsBack, ReachesEither, IsFaultStatus}
+use Rattle.pool_cli.specs.Running.{Does, status_of, listing_status, FixedRan, NotGiven, Told, HandsBack, ReachesEither, IsFaultStatus, HasNoSink}
 
 module _ (class : ℕ) (job : Job) (steps : List Step) (given : List ℕ) where
   pub at_done : (e : FixedEnd) → 0 ≡ status_of e → EndsBy class job steps given e → Answers IsWhole Equal class job steps given
@@ -63,6 +63,15 @@ module _ (class : ℕ) (job : Job) (steps : List Step) (given : List ℕ) where
   at_write_fault end.ReadFault is ends = absurd (omega arith)
   at_write_fault end.Memory is ends = absurd (omega arith)
 
+  pub at_memory : (e : FixedEnd) → 8 ≡ status_of e → EndsBy class job steps given e → Answers HasSpelled Begins class job steps given
+  at_memory end.Memory is ends = ends
+  at_memory end.Done is ends = absurd (omega arith)
+  at_memory end.OtherFrame is ends = absurd (omega arith)
+  at_memory end.IdleOut is ends = absurd (omega arith)
+  at_memory end.BytesOut is ends = absurd (omega arith)
+  at_memory end.ReadFault is ends = absurd (omega arith)
+  at_memory end.WriteFault is ends = absurd (omega arith)
+
 fault_status : (e : FixedEnd) → IsFault e → IsFaultStatus (status_of e)
 fault_status end.ReadFault fault = inl refl
 fault_status end.WriteFault fault = inr (inl refl)
@@ -80,7 +89,7 @@ not_given_status old new status refused =
 module _ {S T : Type 0} (read_faults : S → ℕ) (held : T → Option (List ℕ)) (write_faults : T → ℕ) (class : ℕ) (job : Job) (old new : Seen S T) (status : ℕ)
     (ran : FixedRan read_faults held write_faults class job old new status ⊎ NotGiven old new status) where
   -- a status that no refusal of the host has
-  pub told_at : (n : ℕ) (Ends : List Step → List Submission → Type 0) (Compare : List ℕ → List ℕ → Type 0) → (n ≡ 8 → ⊥) → (n ≡ 7 → ⊥)
+  pub told_at : (n : ℕ) (Ends : List Step → List SubmitSharesStandard → Type 0) (Compare : List ℕ → List ℕ → Type 0) → (n ≡ 8 → ⊥) → (n ≡ 7 → ⊥)
       → ((steps : List Step) (given : List ℕ) (e : FixedEnd) → n ≡ status_of e → EndsBy class job steps given e → Answers Ends Compare class job steps given)
       → status ≡ n → Told Ends Compare (HandsBack held old new) class job old.input
   told_at n Ends Compare not_8 not_7 at is told told_is =
@@ -91,26 +100,36 @@ module _ {S T : Type 0} (read_faults : S → ℕ) (held : T → Option (List ℕ
         | inr refused ↦ elim refused.cause [ inl memory ↦ absurd (not_8 (sym is ∙ memory)) | inr failed ↦ absurd (not_7 (sym is ∙ failed.0)) ]
       ]
 
+  -- want of memory, of the host or of the command
+  pub told_without_memory : status ≡ 8 → HasNoSink old new ⊎ Told HasSpelled Begins (HandsBack held old new) class job old.input
+  told_without_memory is =
+      elim ran [
+        | inl r ↦ inr (λ told told_is.
+            let a = at_memory class job (steps_of told) r.ran.given r.end (sym is ∙ r.answer) (r.ran.ends told told_is) in
+            (a.0, a.1, r.ran.given, a.2, (r.sink, r.sinks.back, r.ran.put)))
+        | inr refused ↦ inl refused.none
+      ]
+
   -- an end that the input decides
   ends_as : (n : ℕ) (wanted : FixedEnd) → status_of wanted ≡ n → (e : FixedEnd) → status ≡ status_of e → EndsAs wanted e → (status ≡ n) ⊎ IsFaultStatus status
   ends_as n wanted wanted_is e is (inl same) = inl (is ∙ ap status_of same ∙ wanted_is)
   ends_as n wanted wanted_is e is (inr fault) = inr (rw is (fault_status e fault))
 
-  pub is_done : (told : List Turn) (shares : List Submission) → old.input ≡ Some told → IsWhole (steps_of told) shares → (status ≡ 0) ⊎ IsFaultStatus status
+  pub is_done : (told : List Turn) (shares : List SubmitSharesStandard) → old.input ≡ Some told → IsWhole (steps_of told) shares → (status ≡ 0) ⊎ IsFaultStatus status
   is_done told shares told_is whole =
       elim ran [
         | inl r ↦ ends_as 0 end.Done refl r.end r.answer (r.whole told shares told_is whole)
         | inr refused ↦ inr (not_given_status old new status refused)
       ]
 
-  pub is_other_frame : (told : List Turn) (shares : List Submission) → old.input ≡ Some told → Stops (steps_of told) shares → (status ≡ 3) ⊎ IsFaultStatus status
+  pub is_other_frame : (told : List Turn) (shares : List SubmitSharesStandard) → old.input ≡ Some told → Stops (steps_of told) shares → (status ≡ 3) ⊎ IsFaultStatus status
   is_other_frame told shares told_is stops =
       elim ran [
         | inl r ↦ ends_as 3 end.OtherFrame refl r.end r.answer (r.stops told shares told_is stops)
         | inr refused ↦ inr (not_given_status old new status refused)
       ]
 
-  pub is_limit : (told : List Turn) (shares : List Submission) → old.input ≡ Some told → ReachesEither (steps_of told) shares → (status ≡ 10) ⊎ IsFaultStatus status
+  pub is_limit : (told : List Turn) (shares : List SubmitSharesStandard) → old.input ≡ Some told → ReachesEither (steps_of told) shares → (status ≡ 10) ⊎ IsFaultStatus status
   is_limit told shares told_is (inl idle) =
       elim ran [
         | inl r ↦ ends_as 10 end.IdleOut refl r.end r.answer (r.idle_out told shares told_is idle)

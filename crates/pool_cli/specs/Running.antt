@@ -7,12 +7,13 @@ use Rattle.pool_io.specs.Outside.{Adds}
 use Rattle.pool_io.specs.Seen.{Seen}
 use Rattle.pool_io.specs.Steps.{Step, steps_of, IsIdleOut, IsBytesOut}
 use Rattle.fixed_job.specs.declared.judge.Job.{Job}
-use Rattle.fixed_job.specs.declared.submission.Submission.{Submission}
+use Rattle.mining_msgs.specs.declared.shares.SubmitSharesStandard.{SubmitSharesStandard}
 use Rattle.fixed_job.specs.declared.command.FixedEnd.{FixedEnd}
 use Rattle.fixed_job.specs.declared.command.FixedEnd.TheVariants.{Done, OtherFrame, IdleOut, BytesOut, ReadFault, WriteFault, Memory}
 use Rattle.pool_cli.specs.declared.words.Form.{Form}
 use Rattle.pool_cli.specs.declared.words.Form.TheVariants.{SoloFixed, Frames}
-use Rattle.fixed_job.specs.Reading.{bounds, IsWhole, Stops, ReachesLimit}
+use Rattle.pool_turns.specs.Limits.{bounds}
+use Rattle.fixed_job.specs.Reading.{IsWhole, Stops, ReachesLimit}
 use Rattle.sv2_frames.specs.Framing.{FrameValue}
 use Rattle.frame_listing.specs.declared.flaw.Flaw.{Flaw}
 use Rattle.frame_listing.specs.declared.command.ListEnd.{ListEnd}
@@ -47,17 +48,22 @@ pub record FixedRan {S T : Type 0} (read_faults : S → ℕ) (held : T → Optio
   pub end : FixedEnd
   pub answer : status ≡ status_of end
   pub ran : Ran class job old.input old.output (held sink) end
-  pub whole : (told : List Turn) (shares : List Submission) → old.input ≡ Some told → IsWhole (steps_of told) shares → EndsAs Done end
-  pub stops : (told : List Turn) (shares : List Submission) → old.input ≡ Some told → Stops (steps_of told) shares → EndsAs OtherFrame end
-  pub idle_out : (told : List Turn) (shares : List Submission) → old.input ≡ Some told → ReachesLimit (IsIdleOut bounds) (steps_of told) shares → EndsAs IdleOut end
-  pub bytes_out : (told : List Turn) (shares : List Submission) → old.input ≡ Some told → ReachesLimit (IsBytesOut bounds) (steps_of told) shares → EndsAs BytesOut end
+  pub whole : (told : List Turn) (shares : List SubmitSharesStandard) → old.input ≡ Some told → IsWhole (steps_of told) shares → EndsAs Done end
+  pub stops : (told : List Turn) (shares : List SubmitSharesStandard) → old.input ≡ Some told → Stops (steps_of told) shares → EndsAs OtherFrame end
+  pub idle_out : (told : List Turn) (shares : List SubmitSharesStandard) → old.input ≡ Some told → ReachesLimit (IsIdleOut bounds) (steps_of told) shares → EndsAs IdleOut end
+  pub bytes_out : (told : List Turn) (shares : List SubmitSharesStandard) → old.input ≡ Some told → ReachesLimit (IsBytesOut bounds) (steps_of told) shares → EndsAs BytesOut end
   pub read_fault : end ≡ ReadFault → Rose 0 (read_faults source)
   pub write_fault : end ≡ WriteFault → Rose 0 (write_faults sink)
+
+-- no sink came back, since none was given
+abbrev pub HasNoSink : {S T : Type 0} → Seen S T → Seen S T → Type 0
+HasNoSink old new = new.sinks.back ≡ old.sinks.back
 
 -- The host gave no source or no sink; a source that it gave has come back.
 pub record NotGiven {S T : Type 0} (old new : Seen S T) (status : ℕ) : Type 0 where
   pub sources : new.sources.lent ≡ old.sources.lent
   pub sinks : new.sinks.lent ≡ old.sinks.lent
+  pub none : HasNoSink old new
   pub cause : (status ≡ 8) ⊎ ((status ≡ 7) × Rose old.faults new.faults)
 
 -- the status of each end of a listing
@@ -111,12 +117,12 @@ abbrev pub WriteRose : {S T : Type 0} → (T → ℕ) → Seen S T → Seen S T 
 WriteRose {S} {T} faults old new = (sink : T) × (new.sinks.back ≡ old.sinks.back ++ sink ∷ []) × Rose 0 (faults sink)
 
 -- where standard input tells its turns: they end so after some submissions, and what compares so with the answers to them was given
-abbrev pub Told : (List Step → List Submission → Type 0) → (List ℕ → List ℕ → Type 0) → (List ℕ → Type 0) → ℕ → Job → Option (List Turn) → Type 0
+abbrev pub Told : (List Step → List SubmitSharesStandard → Type 0) → (List ℕ → List ℕ → Type 0) → (List ℕ → Type 0) → ℕ → Job → Option (List Turn) → Type 0
 Told Ends Compare Gives class job input = (told : List Turn) → input ≡ Some told
-    → (shares : List Submission) × Ends (steps_of told) shares × (given : List ℕ) × Compare given (answers_to class job shares) × Gives given
+    → (shares : List SubmitSharesStandard) × Ends (steps_of told) shares × (given : List ℕ) × Compare given (answers_to class job shares) × Gives given
 
 -- 36,000 Idle answers in a row, or 2^40 bytes
-abbrev pub ReachesEither : List Step → List Submission → Type 0
+abbrev pub ReachesEither : List Step → List SubmitSharesStandard → Type 0
 ReachesEither steps shares = ReachesLimit (IsIdleOut bounds) steps shares ⊎ ReachesLimit (IsBytesOut bounds) steps shares
 
 -- where standard input tells its turns: a listing of them ends so, and its text was given
@@ -138,6 +144,9 @@ PrintsReadFault steps given = listing.EndsBy steps given list.ReadFault
 
 abbrev pub PrintsWriteFault : List Step → List ℕ → Type 0
 PrintsWriteFault steps given = listing.EndsBy steps given list.WriteFault
+
+abbrev pub PrintsMemory : List Step → List ℕ → Type 0
+PrintsMemory steps given = listing.EndsBy steps given list.Memory
 
 -- 36,000 Idle answers in a row, or 2^40 bytes, behind these good frames
 abbrev pub ListsToLimit : List Step → List FrameValue → Type 0

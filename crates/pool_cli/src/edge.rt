@@ -1,4 +1,5 @@
-// The edge: standard input and output as a source and a sink. The real ones tell nothing of what they bring or hold.
+//! The edge: standard input and output as a source and a sink. The real ones tell nothing of what they bring or hold.
+
 ghost use Rattle.std.specs.Prelude.{◌≡◌};
 
 use pool_io::{Host, HostError, Shelf, Sink, SinkFailed, Source, Took};

@@ -1,10 +1,11 @@
-// The top call: it picks the command that the words name, and hands everything back.
+//! The top call: it picks the command that the words name, and hands everything back.
+
 ghost use Rattle.std.specs.Prelude.{◌≡◌, ◌≤◌, ◌⊎◌, ◌↔◌, ℕ, List, [], ◌∷◌, Some, Contains};
 ghost use Rattle.pool_base.specs.Counts.{Rose};
 ghost use Rattle.pool_base.specs.Lists.{Begins};
 ghost use Rattle.pool_io.specs.declared.turn.Turn.{Turn};
 ghost use Rattle.pool_io.specs.Steps.{steps_of};
-ghost use Rattle.fixed_job.specs.declared.submission.Submission.{Submission};
+ghost use Rattle.mining_msgs.specs.declared.shares.SubmitSharesStandard.{SubmitSharesStandard};
 ghost use Rattle.fixed_job.specs.declared.judge.Job.{Job as Work};
 ghost use Rattle.fixed_job.specs.Ending.{Equal, HasBrought, HasSpelled};
 ghost use Rattle.fixed_job.specs.Reading.{IsWhole, Stops};
@@ -12,7 +13,7 @@ ghost use Rattle.sv2_frames.specs.Framing.{FrameValue};
 ghost use Rattle.frame_listing.specs.declared.flaw.Flaw.{Flaw};
 ghost use Rattle.frame_listing.specs.Reading as listed;
 ghost use Rattle.pool_cli.specs.Forms.{IsSoloFixed, IsFrames, HasNoForm};
-ghost use Rattle.pool_cli.specs.Running.{FixedRan, FramesRan, Prints, PrintsDone, PrintsBad, PrintsLimit, PrintsReadFault, PrintsWriteFault, ListsToLimit, NotGiven, Does, IsWithinLimits, Told, HandsBack, ReachesEither, ReadRose, WriteRose, IsFaultStatus};
+ghost use Rattle.pool_cli.specs.Running.{FixedRan, FramesRan, Prints, PrintsDone, PrintsBad, PrintsLimit, PrintsReadFault, PrintsWriteFault, PrintsMemory, ListsToLimit, HasNoSink, NotGiven, Does, IsWithinLimits, Told, HandsBack, ReachesEither, ReadRose, WriteRose, IsFaultStatus};
 
 use crate::words::{Form, Word, form_of};
 use fixed_job::{FixedEnd, Job, judge_shares};
@@ -50,12 +51,17 @@ pub fn run<H: Host>(alloc: Global, host: &mut H, words: &[Word]) -> u8
     ensures before_write_fault { (class : ℕ) (job : Work) → IsSoloFixed words.now class job → result ≡ 5
         → Told HasSpelled Begins (HandsBack H.T.held (H.seen host.old) (H.seen host.new)) class job (H.seen host.old).input }
 
+    // 8: there was no sink, or the one that came back has a front of the answers.
+    ensures before_no_memory { (class : ℕ) (job : Work) → IsSoloFixed words.now class job → result ≡ 8
+        → HasNoSink (H.seen host.old) (H.seen host.new)
+        ⊎ Told HasSpelled Begins (HandsBack H.T.held (H.seen host.old) (H.seen host.new)) class job (H.seen host.old).input }
+
     // The other way round: what the input brings decides the status, but for a fault or want of memory.
-    ensures is_done { (class : ℕ) (job : Work) (told : List Turn) (shares : List Submission) → IsSoloFixed words.now class job
+    ensures is_done { (class : ℕ) (job : Work) (told : List Turn) (shares : List SubmitSharesStandard) → IsSoloFixed words.now class job
         → (H.seen host.old).input ≡ Some told → IsWhole (steps_of told) shares → (result ≡ 0) ⊎ IsFaultStatus result }
-    ensures is_other_frame { (class : ℕ) (job : Work) (told : List Turn) (shares : List Submission) → IsSoloFixed words.now class job
+    ensures is_other_frame { (class : ℕ) (job : Work) (told : List Turn) (shares : List SubmitSharesStandard) → IsSoloFixed words.now class job
         → (H.seen host.old).input ≡ Some told → Stops (steps_of told) shares → (result ≡ 3) ⊎ IsFaultStatus result }
-    ensures is_limit { (class : ℕ) (job : Work) (told : List Turn) (shares : List Submission) → IsSoloFixed words.now class job
+    ensures is_limit { (class : ℕ) (job : Work) (told : List Turn) (shares : List SubmitSharesStandard) → IsSoloFixed words.now class job
         → (H.seen host.old).input ≡ Some told → ReachesEither (steps_of told) shares → (result ≡ 10) ⊎ IsFaultStatus result }
 
     // `frames`: 0, the whole input is good frames, and the sink that came back has their lines. 3: it has the lines
@@ -72,6 +78,10 @@ pub fn run<H: Host>(alloc: Global, host: &mut H, words: &[Word]) -> u8
         → Prints PrintsReadFault (HandsBack H.T.held (H.seen host.old) (H.seen host.new)) (H.seen host.old).input }
     ensures listed_write_fault { IsFrames words.now → result ≡ 5
         → Prints PrintsWriteFault (HandsBack H.T.held (H.seen host.old) (H.seen host.new)) (H.seen host.old).input }
+
+    // 8: there was no sink, or a front of the text.
+    ensures listed_no_memory { IsFrames words.now → result ≡ 8 → HasNoSink (H.seen host.old) (H.seen host.new)
+        ⊎ Prints PrintsMemory (HandsBack H.T.held (H.seen host.old) (H.seen host.new)) (H.seen host.old).input }
 
     // The other way round.
     ensures is_listed { (told : List Turn) (frames : List FrameValue) → IsFrames words.now

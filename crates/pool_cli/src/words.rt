@@ -1,4 +1,5 @@
-// The words of a command line, and the forms that they may have.
+//! The words of a command line, and the forms that they may have.
+
 ghost use Rattle.std.specs.Prelude.{◌≡◌, ◌↔◌, ◌<◌, ◌^◌, ℕ, List, string_bytes, length, IsTrue, IfSome, IfNone, Ok};
 ghost use Rattle.hex.specs.Hex.{decode_sized};
 ghost use Rattle.pool_cli.specs.Numbers.{IsNumber};

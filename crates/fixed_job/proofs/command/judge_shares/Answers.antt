@@ -1,6 +1,7 @@
 use Rattle.std.proofs.Common.{[], refl, arith}
 use Rattle.pool_io.proofs.Stepping.{brought_none}
 use Rattle.pool_io.specs.Steps.{steps_of}
+use Rattle.fixed_job.proofs.Running.{memory_first}
 use Rattle.fixed_job.proofs.OneEnd.{whole_ends, stops_ends, idle_ends, bytes_ends}
 use Rattle.fixed_job.proofs.command.judge_shares.Goals as goal
 
@@ -9,13 +10,13 @@ loop-end-init g c = record {
   between = record {
     steps = [];
     brought = brought_none (g.S.Source.left c.args.source.now);
-    made = c.new-command.ensures.made (g.T.Sink.held c.args.sink.now);
+    made = c.in-Ok.ensures.made (g.T.Sink.held c.args.sink.now);
   };
-  below = c.new-command.ensures.below;
+  below = c.in-Ok.ensures.below;
   read_later = omega arith;
   write_later = omega arith;
-  class = c.new-command.ensures.class;
-  job = c.new-command.ensures.job;
+  class = c.in-Ok.ensures.class;
+  job = c.in-Ok.ensures.job;
   room = refl;
 }
 
@@ -38,3 +39,6 @@ pub returns-in-Some-clause-bytes_out : goal.returns-in-Some-clause-bytes_out
 returns-in-Some-clause-bytes_out g c = λ told shares is limit.
     let ran = c.in-Some.ensures.goes (g.S.Source.left c.args.source.now) (g.T.Sink.held c.args.sink.now) c.loop-end.invariant.between in
     bytes_ends _ _ (steps_of told) ran.given shares c.in-Some.end (ran.ends told is) limit
+
+pub returns-in_default-clause-ran : goal.returns-in_default-clause-ran
+returns-in_default-clause-ran g c = memory_first c.args.class c.args.job.now (g.S.Source.left c.args.source.now) (g.T.Sink.held c.args.sink.now)

@@ -7,8 +7,8 @@ use Rattle.pool_cli.specs.declared.words.Form.TheVariants.{SoloFixed, Frames}
 use Rattle.pool_cli.specs.Forms.{IsSoloFixed, IsFrames}
 use Rattle.pool_cli.specs.Running.{FixedRan, FramesRan, NotGiven, ReachesEither, PrintsDone, PrintsBad, PrintsLimit, PrintsReadFault, PrintsWriteFault}
 use Rattle.pool_cli.proofs.OneForm.{was_asked, was_frames}
-use Rattle.pool_cli.proofs.ListStatuses.{at_listed, at_bad, at_list_limit, at_list_read_fault, at_list_write_fault, prints_at, is_listed, is_listed_bad, is_listed_limit}
-use Rattle.pool_cli.proofs.Statuses.{told_at, at_done, at_other_frame, at_limit, at_read_fault, at_write_fault, is_other_frame, is_limit, does_listed}
+use Rattle.pool_cli.proofs.ListStatuses.{at_listed, at_bad, at_list_limit, at_list_read_fault, at_list_write_fault, prints_at, prints_without_memory, is_listed, is_listed_bad, is_listed_limit}
+use Rattle.pool_cli.proofs.Statuses.{told_at, told_without_memory, at_done, at_other_frame, at_limit, at_read_fault, at_write_fault, is_other_frame, is_limit, does_listed}
 use Rattle.pool_cli.proofs.run.run.Goals as goal
 use Rattle.pool_cli.proofs.run.run.Goals.{After-perform}
 
@@ -39,6 +39,10 @@ returns-in-Some-clause-before_read_fault g c = λ class job form is.
 pub returns-in-Some-clause-before_write_fault : goal.returns-in-Some-clause-before_write_fault
 returns-in-Some-clause-before_write_fault g c = λ class job form is.
     told_at g.H.S.Source.faults g.H.T.Sink.held g.H.T.Sink.faults class job _ _ _ (asked g c class job form) 5 HasSpelled Begins (λ e. omega arith) (λ e. omega arith) (λ steps given e same ends. at_write_fault class job steps given e same ends) is
+
+pub returns-in-Some-clause-before_no_memory : goal.returns-in-Some-clause-before_no_memory
+returns-in-Some-clause-before_no_memory g c = λ class job form.
+    told_without_memory g.H.S.Source.faults g.H.T.Sink.held g.H.T.Sink.faults class job _ _ _ (asked g c class job form)
 
 pub returns-in-Some-clause-is_other_frame : goal.returns-in-Some-clause-is_other_frame
 returns-in-Some-clause-is_other_frame g c = λ class job told shares form.
@@ -87,6 +91,10 @@ returns-in-Some-clause-listed_read_fault g c = λ words is.
 pub returns-in-Some-clause-listed_write_fault : goal.returns-in-Some-clause-listed_write_fault
 returns-in-Some-clause-listed_write_fault g c = λ words is.
     prints_at g.H.S.Source.faults g.H.T.Sink.held g.H.T.Sink.faults _ _ _ (asked_frames g c words) 5 PrintsWriteFault (λ e. omega arith) (λ e. omega arith) (λ steps given e same ends. at_list_write_fault steps given e same ends) is
+
+pub returns-in-Some-clause-listed_no_memory : goal.returns-in-Some-clause-listed_no_memory
+returns-in-Some-clause-listed_no_memory g c = λ words.
+    prints_without_memory g.H.S.Source.faults g.H.T.Sink.held g.H.T.Sink.faults _ _ _ (asked_frames g c words)
 
 pub returns-in-Some-clause-is_listed : goal.returns-in-Some-clause-is_listed
 returns-in-Some-clause-is_listed g c = λ told frames words.

@@ -58,5 +58,5 @@ returns-else-self-eq-MOST_BYTES-clause-goes g c = λ before steps made.
     let stands = stands_after g (goal.at-returns-else-self-eq-MOST_BYTES-clause-goes g c).Else-stopped before steps made in
     let below : length (bytes_in steps) + length c.args.piece.now < 2 ^ 40 = omega (arith, made.bytes, c.requires.room, c.if-self-eq-MOST_BYTES.false) in
     made_more before (g.T.Sink.held c.args.sink.now) (g.T.Sink.held c.put_all.new.sink) steps c.args.piece.now c.args.self.now c.piece.new.self made put c.requires.some c.requires.room stands
-    record { stream = record { judge = c.piece.new.self.judge; held = c.piece.new.self.held; answers = c.clear.new.self; payload = c.piece.new.self.payload }; taken = c.args.self.now.taken + length c.args.piece.now; idles = 0 }
+    record { stream = record { judge = c.piece.new.self.judge; splitter = c.piece.new.self.splitter; answers = c.clear.new.self }; taken = c.args.self.now.taken + length c.args.piece.now; idles = 0 }
     below refl refl c.clear.ensures.items refl refl

@@ -1,27 +1,27 @@
-use Rattle.std.proofs.Common.{◌≡◌, ℕ, suc, ◌<◌, List, [], ◌∷◌, ◌++◌, length, take, drop, get_or, sym, ap, ◌∙◌, arith, append_assoc, length-append, drop-cons}
+use Rattle.std.proofs.Common.{◌≡◌, ◌==◌, ◌<◌, false, length, refl, sym, ◌∙◌, arith}
+use Rattle.std.proofs.lemmas.Bool.{eqb-false}
 use Rattle.std.proofs.lemmas.Result.{err_from_is_err_and}
-use Rattle.std.proofs.lemmas.List.{take-append-drop}
+use Rattle.fixed_job.proofs.Streaming.{piece_more, piece_breaks, some_taken}
 use Rattle.fixed_job.proofs.stream.Stream.piece.Goals as goal
 
--- a list at one of its elements
-split_at : (xs : List ℕ) (i : ℕ) → i < length xs → xs ≡ (take i xs ++ get_or xs i 0 ∷ []) ++ drop (suc i) xs
-split_at xs i within = sym (
-    append_assoc (take i xs) (get_or xs i 0 ∷ []) (drop (suc i) xs)
-    ∙ ap (λ l. take i xs ++ l) (sym (drop-cons xs i 0 within))
-    ∙ take-append-drop i xs)
+pub loop-rest-preserved : goal.loop-rest-preserved
+loop-rest-preserved c =
+    let was = c.loop-rest.invariant.stands in
+    record {
+      cut = c.in_ok-frame.ensures.cut;
+      stands = piece_more c.args.piece.now c.loop-rest.rest.now was.0 c.feed-count.result c.args.self.now c.loop-rest.self _ c.frame.new.self was.1 was.2
+          c.feed-count.ensures.bytes c.feed-count.ensures.limit refl refl c.in_ok-frame.ensures.ok;
+      class = c.frame.ensures.class ∙ c.loop-rest.invariant.class;
+      job = c.frame.ensures.job ∙ c.loop-rest.invariant.job;
+    }
 
-pub returns-in_err-byte-clause-other : goal.returns-in_err-byte-clause-other
-returns-in_err-byte-clause-other c =
+pub returns-in_err-frame-clause-other : goal.returns-in_err-frame-clause-other
+returns-in_err-frame-clause-other c =
     let p = err_from_is_err_and c.from_residual.result c.from_residual.ensures.1 in
-    let piece = c.args.piece.now in
-    let i = c.loop-byte.byte-index in
-    let byte = get_or piece i 0 in
-    rw (p.1, p.2) (λ other. record {
-      front = take i piece ++ byte ∷ [];
-      rest = drop (suc i) piece;
-      split = split_at piece i (omega arith);
-      some = omega (arith, length-append (take i piece) (byte ∷ []));
-      breaks = λ seen given stands.
-          let broke = c.in_err-byte.ensures.other other (seen ++ take i piece) given (c.loop-byte.invariant.stands seen given stands) in
-          rw (append_assoc seen (take i piece) (byte ∷ [])) at broke;
-    })
+    let was = c.loop-rest.invariant.stands in
+    let left : (length c.loop-rest.rest.now == 0) ≡ false = sym c.is_empty.ensures ∙ c.loop-rest-test.true in
+    let long : 0 < length c.loop-rest.rest.now = omega (arith, eqb-false (length c.loop-rest.rest.now) 0 left) in
+    let some = some_taken c.loop-rest.self.splitter c.loop-rest.rest.now c.feed-count.result c.loop-rest.invariant.cut long c.feed-count.ensures.none.0 in
+    rw (p.1, p.2) (λ other.
+    piece_breaks c.args.piece.now c.loop-rest.rest.now was.0 c.feed-count.result c.args.self.now c.loop-rest.self _ c.frame.new.self was.1 was.2
+    c.feed-count.ensures.bytes c.feed-count.ensures.limit refl refl some c.feed-count.ensures.within (c.in_err-frame.ensures.other other))

@@ -1,9 +1,0 @@
-use Rattle.std.proofs.Common.{arith}
-use Rattle.fixed_job.proofs.Putting.{put_more}
-use Rattle.fixed_job.proofs.put_all.put_all.Goals as goal
-
-pub loop-rest-preserved : goal.loop-rest-preserved
-loop-rest-preserved g c = record {
-  later = omega (arith, c.loop-rest.invariant.later, c.put.ensures.later);
-  put = put_more (g.T.Sink.held c.args.sink.now) (g.T.Sink.held c.loop-rest.sink) (g.T.Sink.held c.put.new.self) c.args.bytes.now c.loop-rest.rest.now c.in_ok-count.count c.loop-rest.invariant.put c.in_ok-count.ensures.taken;
-}
