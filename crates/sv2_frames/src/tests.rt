@@ -166,7 +166,9 @@ fn a_header_is_told_once_all_of_it_is_held(rt: HostRuntime) -> Result<(), Fail> 
         len: 2,
     };
     assert_eq!(rt; splitter.header(), Some(first));
-    splitter.drop_frame();
+    if let Ok(Some(_)) = splitter.next() {
+        splitter.drop_frame();
+    }
     assert_eq!(rt; splitter.header(), None);
 
     // One over the limit is told too.
