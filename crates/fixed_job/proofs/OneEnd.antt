@@ -56,8 +56,8 @@ at_bytes front out = inr out
 idle_bytes : (steps : List Step) (shares others : List SubmitSharesStandard) → ReachesLimit (IsIdleOut bounds) steps shares → ReachesLimit (IsBytesOut bounds) steps others → ⊥
 idle_bytes steps shares others idle out = idle_or_bytes idle.front out.front idle.rest out.rest (sym idle.split ∙ out.split) idle.free out.free idle.reached out.reached
 
-module _ (class : ℕ) (job : Job) (steps : List Step) (given : List ℕ) (shares : List SubmitSharesStandard) where
-  pub whole_ends : (result : FixedEnd) → EndsBy class job steps given result → IsWhole steps shares → EndsAs end.Done result
+module _ (class : ℕ) (job : Job) (taken steps : List Step) (given : List ℕ) (shares : List SubmitSharesStandard) where
+  pub whole_ends : (result : FixedEnd) → EndsBy class job taken steps given result → IsWhole steps shares → EndsAs end.Done result
   whole_ends end.Done ends whole = inl refl
   whole_ends end.OtherFrame ends whole = absurd (whole_stops steps shares ends.0 whole ends.1)
   whole_ends end.IdleOut ends whole = absurd (whole_limit (IsIdleOut bounds) at_idle steps shares ends.0 whole ends.1)
@@ -66,7 +66,7 @@ module _ (class : ℕ) (job : Job) (steps : List Step) (given : List ℕ) (share
   whole_ends end.WriteFault ends whole = inr tt
   whole_ends end.Memory ends whole = inr tt
 
-  pub stops_ends : (result : FixedEnd) → EndsBy class job steps given result → Stops steps shares → EndsAs end.OtherFrame result
+  pub stops_ends : (result : FixedEnd) → EndsBy class job taken steps given result → Stops steps shares → EndsAs end.OtherFrame result
   stops_ends end.Done ends stops = absurd (whole_stops steps ends.0 shares ends.1 stops)
   stops_ends end.OtherFrame ends stops = inl refl
   stops_ends end.IdleOut ends stops = absurd (stops_limit (IsIdleOut bounds) at_idle steps shares ends.0 stops ends.1)
@@ -75,7 +75,7 @@ module _ (class : ℕ) (job : Job) (steps : List Step) (given : List ℕ) (share
   stops_ends end.WriteFault ends stops = inr tt
   stops_ends end.Memory ends stops = inr tt
 
-  pub idle_ends : (result : FixedEnd) → EndsBy class job steps given result → ReachesLimit (IsIdleOut bounds) steps shares → EndsAs end.IdleOut result
+  pub idle_ends : (result : FixedEnd) → EndsBy class job taken steps given result → ReachesLimit (IsIdleOut bounds) steps shares → EndsAs end.IdleOut result
   idle_ends end.Done ends limit = absurd (whole_limit (IsIdleOut bounds) at_idle steps ends.0 shares ends.1 limit)
   idle_ends end.OtherFrame ends limit = absurd (stops_limit (IsIdleOut bounds) at_idle steps ends.0 shares ends.1 limit)
   idle_ends end.IdleOut ends limit = inl refl
@@ -84,7 +84,7 @@ module _ (class : ℕ) (job : Job) (steps : List Step) (given : List ℕ) (share
   idle_ends end.WriteFault ends limit = inr tt
   idle_ends end.Memory ends limit = inr tt
 
-  pub bytes_ends : (result : FixedEnd) → EndsBy class job steps given result → ReachesLimit (IsBytesOut bounds) steps shares → EndsAs end.BytesOut result
+  pub bytes_ends : (result : FixedEnd) → EndsBy class job taken steps given result → ReachesLimit (IsBytesOut bounds) steps shares → EndsAs end.BytesOut result
   bytes_ends end.Done ends limit = absurd (whole_limit (IsBytesOut bounds) at_bytes steps ends.0 shares ends.1 limit)
   bytes_ends end.OtherFrame ends limit = absurd (stops_limit (IsBytesOut bounds) at_bytes steps ends.0 shares ends.1 limit)
   bytes_ends end.IdleOut ends limit = absurd (idle_bytes steps ends.0 shares ends.1 limit)

@@ -5,7 +5,7 @@ use Rattle.pool_io.specs.declared.turn.Turn.{Turn}
 use Rattle.pool_io.specs.declared.source.Took.TheVariants as took
 use Rattle.pool_io.specs.Outside.{Adds, Takes}
 use Rattle.pool_io.specs.Steps.{Step, bytes_in, steps_of, idles_after, Brought}
-use Rattle.pool_io.proofs.Stepping.{bytes_in-more, bytes_in-idle, idles_after-more, idles_after-idle, free_bytes, free_idle, within_limits, brought_all}
+use Rattle.pool_io.proofs.Stepping.{bytes_in-more, bytes_in-idle, idles_after-more, idles_after-idle, free_bytes, free_idle, within_limits, brought_none, brought_all}
 use Rattle.pool_turns.specs.Limits.{bounds}
 use Rattle.pool_turns.proofs.Fronts.{free_none, cut_at}
 use Rattle.pool_turns.proofs.Puts.{Adds-none, Adds-more}
@@ -17,7 +17,7 @@ use Rattle.fixed_job.specs.declared.command.FixedEnd.TheVariants as end
 use Rattle.fixed_job.specs.Submitting.{Spell}
 use Rattle.fixed_job.specs.declared.judge.Job.{Job}
 use Rattle.fixed_job.specs.Answers.{answers_after, answers_to}
-use Rattle.fixed_job.specs.Ending.{EndsBy, Ran}
+use Rattle.fixed_job.specs.Ending.{EndsBy, Ran, ReadStays, WriteStays}
 use Rattle.fixed_job.specs.Standing.{Stands, BreaksIn, Made, Leaves, GoesTo, TurnsTo}
 
 -- before the first turn
@@ -34,9 +34,11 @@ made_first command stands flushed taken idles before = record {
 }
 
 -- want of memory before the first turn
-pub memory_first : (class : ℕ) (job : Job) (turns : Option (List Turn)) (before : Option (List ℕ)) → Ran class job turns before before end.Memory
+pub memory_first : (class : ℕ) (job : Job) (turns : Option (List Turn)) (before : Option (List ℕ)) → Ran class job turns turns before before end.Memory
 unfolding answers_after
 memory_first class job turns before = record {
+  taken = [];
+  brought = brought_none turns;
   given = [];
   put = Adds-none before;
   ends = λ told is. ([], ([], steps_of told, [], refl, refl), ([], refl));
@@ -104,7 +106,7 @@ answered_part before now steps piece old new made breaks =
 
 -- a put that failed: the sink has a front of the answers
 put_ends : (steps : List Step) (piece given front : List ℕ) (new : Stream) → Answered steps piece given new → Begins front new.answers.items
-    → (rest : List Step) → EndsBy new.judge.class new.judge.job ((steps ++ map Some piece) ++ rest) (given ++ front) end.Memory
+    → (rest : List Step) → EndsBy new.judge.class new.judge.job (steps ++ map Some piece) ((steps ++ map Some piece) ++ rest) (given ++ front) end.Memory
 put_ends steps piece given front new answered begins rest = (
   answered.shares,
   (steps ++ map Some answered.part, map Some answered.left ++ rest, answered.held, cut_at steps piece answered.part answered.left rest answered.split, answered.spelled),
@@ -257,8 +259,11 @@ module _ (before now : Option (List ℕ)) (steps : List Step) (old : Command) (m
 pub turns_to : (turns : Option (List Turn)) (before : Option (List ℕ)) (left : Option (List Turn)) (now : Option (List ℕ)) (steps : List Step) (command : Command) (result : Option FixedEnd)
     → Brought turns left steps → GoesTo before now steps command result → TurnsTo turns before left now command result
 turns_to turns before left now steps command None brought made = record { steps = steps; brought = brought; made = made }
-turns_to None before left now steps command (Some end) brought leaves = record { given = leaves.given; put = leaves.put; ends = λ told is. cc }
+turns_to None before left now steps command (Some end) brought leaves =
+    record { taken = steps; brought = brought; given = leaves.given; put = leaves.put; ends = λ told is. cc }
 turns_to (Some turns) before left now steps command (Some end) brought leaves = record {
+  taken = steps;
+  brought = brought;
   given = leaves.given;
   put = leaves.put;
   ends = λ told is.
@@ -266,16 +271,67 @@ turns_to (Some turns) before left now steps command (Some end) brought leaves = 
       rw (← same, brought.2) (leaves.ends (steps_of brought.0));
 }
 
+-- the end of the input leaves the turns as they are
+still_brought : (turns old left : Option (List Turn)) (steps : List Step) (buffer : List ℕ) → Brought turns old steps → Takes old left took.End buffer → Brought turns left steps
+still_brought None old left steps buffer brought takes = tt
+still_brought (Some turns) old left steps buffer brought takes =
+    let ended = rw brought.1 at takes in
+    (brought.0, ended.1 ∙ ap Some ended.2.1, brought.2)
+
 -- the end of the input
 pub turns_to_end : (turns : Option (List Turn)) (before : Option (List ℕ)) (old left : Option (List Turn)) (now : Option (List ℕ)) (steps : List Step) (buffer : List ℕ) (command : Command)
     (result : FixedEnd) → Brought turns old steps → Takes old left took.End buffer → (made : Made before now steps command)
-    → EndsBy command.stream.judge.class command.stream.judge.job steps made.given result
-    → Ran command.stream.judge.class command.stream.judge.job turns before now result
-turns_to_end None before old left now steps buffer command result brought takes made ends = record { given = made.given; put = made.put; ends = λ told is. cc }
+    → EndsBy command.stream.judge.class command.stream.judge.job steps steps made.given result
+    → Ran command.stream.judge.class command.stream.judge.job turns left before now result
+turns_to_end None before old left now steps buffer command result brought takes made ends =
+    record { taken = steps; brought = tt; given = made.given; put = made.put; ends = λ told is. cc }
 turns_to_end (Some turns) before old left now steps buffer command result brought takes made ends = record {
+  taken = steps;
+  brought = still_brought (Some turns) old left steps buffer brought takes;
   given = made.given;
   put = made.put;
   ends = λ told is.
       let same : turns ≡ told = cc in
       rw (← same, brought_all turns old left steps buffer brought takes) ends;
 }
+
+-- a failed read leaves them too
+pub turns_to_fault : (turns : Option (List Turn)) (before : Option (List ℕ)) (old left : Option (List Turn)) (now : Option (List ℕ)) (steps : List Step) (buffer : List ℕ) (command : Command)
+    → Brought turns old steps → Takes old left took.Failed buffer → (made : Made before now steps command)
+    → Ran command.stream.judge.class command.stream.judge.job turns left before now end.ReadFault
+turns_to_fault None before old left now steps buffer command brought takes made =
+    record { taken = steps; brought = tt; given = made.given; put = made.put; ends = λ told is. cc }
+turns_to_fault (Some turns) before old left now steps buffer command brought takes made =
+    let failed = rw brought.1 at takes in
+    record {
+      taken = steps;
+      brought = (brought.0, failed.1 ∙ ap Some failed.2, brought.2);
+      given = made.given;
+      put = made.put;
+      ends = λ told is. (
+        made.stands.shares,
+        record { held = command.stream.splitter.held; spelled = made.stands.spelled; partial = made.stands.partial; free = made.free },
+        all_answered before now steps command made,
+      );
+    }
+
+-- a count that stayed, whatever the end
+pub read_stays : (end : Option FixedEnd) (before now : ℕ) → now ≡ before → ReadStays end before now
+read_stays None before now same = same
+read_stays (Some end.Done) before now same = same
+read_stays (Some end.OtherFrame) before now same = same
+read_stays (Some end.IdleOut) before now same = same
+read_stays (Some end.BytesOut) before now same = same
+read_stays (Some end.ReadFault) before now same = tt
+read_stays (Some end.WriteFault) before now same = same
+read_stays (Some end.Memory) before now same = same
+
+pub write_stays : (end : Option FixedEnd) (before now : ℕ) → now ≡ before → WriteStays end before now
+write_stays None before now same = same
+write_stays (Some end.Done) before now same = same
+write_stays (Some end.OtherFrame) before now same = same
+write_stays (Some end.IdleOut) before now same = same
+write_stays (Some end.BytesOut) before now same = same
+write_stays (Some end.ReadFault) before now same = same
+write_stays (Some end.WriteFault) before now same = tt
+write_stays (Some end.Memory) before now same = same

@@ -71,7 +71,7 @@ pub record Made (before now : Option (List ℕ)) (steps : List Step) (command : 
 pub record Leaves (class : ℕ) (job : Job) (before now : Option (List ℕ)) (steps : List Step) (end : FixedEnd) : Type 0 where
   pub given : List ℕ
   pub put : Adds before now given
-  pub ends : (rest : List Step) → EndsBy class job (steps ++ rest) given end
+  pub ends : (rest : List Step) → EndsBy class job steps (steps ++ rest) given end
 
 -- the command goes on after these steps, or has ended
 abbrev pub GoesTo : Option (List ℕ) → Option (List ℕ) → List Step → Command → Option FixedEnd → Type 0
@@ -87,7 +87,7 @@ pub record IsBetween (turns : Option (List Turn)) (before : Option (List ℕ)) (
 -- a turn leads to the next one, or the run has ended
 abbrev pub TurnsTo : Option (List Turn) → Option (List ℕ) → Option (List Turn) → Option (List ℕ) → Command → Option FixedEnd → Type 0
 TurnsTo turns before left now command None = IsBetween turns before left now command
-TurnsTo turns before left now command (Some end) = Ran command.stream.judge.class command.stream.judge.job turns before now end
+TurnsTo turns before left now command (Some end) = Ran command.stream.judge.class command.stream.judge.job turns left before now end
 
 -- no limit is reached, and less than a frame is held
 pub record IsBelow (command : Command) : Type 0 where

@@ -38,7 +38,7 @@ impl Command {
     ghost use Rattle.std.specs.Prelude.{None, Some};
     ghost use Rattle.pool_io.specs.declared.turn.Turn.{Turn};
     ghost use Rattle.pool_io.specs.Steps.{Step, Brought};
-    ghost use Rattle.fixed_job.specs.Ending.{EndsBy, Ran};
+    ghost use Rattle.fixed_job.specs.Ending.{EndsBy, ReadStays, WriteStays};
     ghost use Rattle.fixed_job.specs.Standing.{Made, GoesTo, TurnsTo, IsBetween, IsBelow, remaining};
 
     fn new(alloc: Global, class: u8, job: &Job) -> Result<Command, AllocError>
@@ -68,6 +68,7 @@ impl Command {
         ensures no_read_fault { result ≡ Some FixedEnd.ReadFault → ⊥ }
         ensures later { T.faults sink.old ≤ T.faults sink.new }
         ensures cause { result ≡ Some FixedEnd.WriteFault → Rose (T.faults sink.old) (T.faults sink.new) }
+        ensures kept { WriteStays result (T.faults sink.old) (T.faults sink.new) }
         ensures class { self.new.stream.judge.class ≡ self.old.stream.judge.class }
         ensures job { self.new.stream.judge.job ≡ self.old.stream.judge.job }
     {
@@ -114,7 +115,7 @@ impl Command {
     /// Whether the end of the input stands behind a whole frame.
     fn end(&self) -> FixedEnd
         ensures ends { (before now : Option (List ℕ)) (steps : List Step) (made : Made before now steps self.now)
-            → EndsBy self.now.stream.judge.class self.now.stream.judge.job steps made.given result }
+            → EndsBy self.now.stream.judge.class self.now.stream.judge.job steps steps made.given result }
         ensures no_fault { (result ≡ FixedEnd.WriteFault → ⊥) × (result ≡ FixedEnd.ReadFault → ⊥) }
     {
         if self.stream.splitter.held() == 0 {
@@ -141,6 +142,8 @@ impl Command {
         ensures write_later { T.faults sink.old ≤ T.faults sink.new }
         ensures read_cause { result ≡ Some FixedEnd.ReadFault → Rose (S.faults source.old) (S.faults source.new) }
         ensures write_cause { result ≡ Some FixedEnd.WriteFault → Rose (T.faults sink.old) (T.faults sink.new) }
+        ensures read_kept { ReadStays result (S.faults source.old) (S.faults source.new) }
+        ensures write_kept { WriteStays result (T.faults sink.old) (T.faults sink.new) }
         ensures class { self.new.stream.judge.class ≡ self.old.stream.judge.class }
         ensures job { self.new.stream.judge.job ≡ self.old.stream.judge.job }
     {
@@ -157,7 +160,7 @@ impl Command {
 ghost use Rattle.pool_io.specs.declared.turn.Turn.{Turn};
 ghost use Rattle.pool_io.specs.Steps.{steps_of, IsIdleOut, IsBytesOut};
 ghost use Rattle.mining_msgs.specs.declared.shares.SubmitSharesStandard.{SubmitSharesStandard};
-ghost use Rattle.fixed_job.specs.Ending.{Ran, EndsAs};
+ghost use Rattle.fixed_job.specs.Ending.{Ran, EndsAs, ReadStays, WriteStays};
 ghost use Rattle.pool_turns.specs.Limits.{bounds};
 ghost use Rattle.fixed_job.specs.Reading.{IsWhole, Stops, ReachesLimit};
 
@@ -172,7 +175,7 @@ pub fn judge_shares<S: Source, T: Sink>(
     requires { class ≤ 60 }
 
     // What each end says of the input and of what was put.
-    ensures ran { Ran class job.now (S.left source.old) (T.held sink.old) (T.held sink.new) result }
+    ensures ran { Ran class job.now (S.left source.old) (S.left source.new) (T.held sink.old) (T.held sink.new) result }
 
     // The steps that the source tells decide the end, but for a fault or want of memory.
     ensures whole { (told : List Turn) (shares : List SubmitSharesStandard) → S.left source.old ≡ Some told
@@ -184,9 +187,11 @@ pub fn judge_shares<S: Source, T: Sink>(
     ensures bytes_out { (told : List Turn) (shares : List SubmitSharesStandard) → S.left source.old ≡ Some told
         → ReachesLimit (IsBytesOut bounds) (steps_of told) shares → EndsAs FixedEnd.BytesOut result }
 
-    // A fault is told only where a count rose.
+    // A fault is told exactly where a count rose.
     ensures read_fault { result ≡ FixedEnd.ReadFault → Rose (S.faults source.old) (S.faults source.new) }
     ensures write_fault { result ≡ FixedEnd.WriteFault → Rose (T.faults sink.old) (T.faults sink.new) }
+    ensures read_kept { ReadStays (Some result) (S.faults source.old) (S.faults source.new) }
+    ensures write_kept { WriteStays (Some result) (T.faults sink.old) (T.faults sink.new) }
     ensures read_later { S.faults source.old ≤ S.faults source.new }
     ensures write_later { T.faults sink.old ≤ T.faults sink.new }
 {

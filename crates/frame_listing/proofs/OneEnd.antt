@@ -51,8 +51,8 @@ idle_bytes : (steps : List Step) (frames others : List FrameValue) → ReachesLi
 idle_bytes steps frames others idle out =
     idle_or_bytes idle.front out.front idle.rest out.rest (sym idle.split ∙ out.split) idle.free out.free idle.reached out.reached
 
-module _ (steps : List Step) (given : List ℕ) (frames : List FrameValue) where
-  pub whole_ends : (result : ListEnd) → EndsBy steps given result → IsWhole steps frames → EndsAs end.Done result
+module _ (taken steps : List Step) (given : List ℕ) (frames : List FrameValue) where
+  pub whole_ends : (result : ListEnd) → EndsBy taken steps given result → IsWhole steps frames → EndsAs end.Done result
   whole_ends end.Done ends whole = inl refl
   whole_ends end.BadFrame ends whole = absurd (whole_stops steps frames ends.0 ends.1 whole ends.2)
   whole_ends end.IdleOut ends whole = absurd (whole_limit (IsIdleOut bounds) at_idle steps frames ends.0 whole ends.1)
@@ -61,7 +61,7 @@ module _ (steps : List Step) (given : List ℕ) (frames : List FrameValue) where
   whole_ends end.WriteFault ends whole = inr tt
   whole_ends end.Memory ends whole = inr tt
 
-  pub stops_ends : (flaw : Flaw) (result : ListEnd) → EndsBy steps given result → Stops steps frames flaw → EndsAs end.BadFrame result
+  pub stops_ends : (flaw : Flaw) (result : ListEnd) → EndsBy taken steps given result → Stops steps frames flaw → EndsAs end.BadFrame result
   stops_ends flaw end.Done ends stops = absurd (whole_stops steps ends.0 frames flaw ends.1 stops)
   stops_ends flaw end.BadFrame ends stops = inl refl
   stops_ends flaw end.IdleOut ends stops = absurd (stops_limit (IsIdleOut bounds) at_idle steps frames ends.0 flaw stops ends.1)
@@ -70,7 +70,7 @@ module _ (steps : List Step) (given : List ℕ) (frames : List FrameValue) where
   stops_ends flaw end.WriteFault ends stops = inr tt
   stops_ends flaw end.Memory ends stops = inr tt
 
-  pub idle_ends : (result : ListEnd) → EndsBy steps given result → ReachesLimit (IsIdleOut bounds) steps frames → EndsAs end.IdleOut result
+  pub idle_ends : (result : ListEnd) → EndsBy taken steps given result → ReachesLimit (IsIdleOut bounds) steps frames → EndsAs end.IdleOut result
   idle_ends end.Done ends limit = absurd (whole_limit (IsIdleOut bounds) at_idle steps ends.0 frames ends.1 limit)
   idle_ends end.BadFrame ends limit = absurd (stops_limit (IsIdleOut bounds) at_idle steps ends.0 frames ends.1 ends.2 limit)
   idle_ends end.IdleOut ends limit = inl refl
@@ -79,7 +79,7 @@ module _ (steps : List Step) (given : List ℕ) (frames : List FrameValue) where
   idle_ends end.WriteFault ends limit = inr tt
   idle_ends end.Memory ends limit = inr tt
 
-  pub bytes_ends : (result : ListEnd) → EndsBy steps given result → ReachesLimit (IsBytesOut bounds) steps frames → EndsAs end.BytesOut result
+  pub bytes_ends : (result : ListEnd) → EndsBy taken steps given result → ReachesLimit (IsBytesOut bounds) steps frames → EndsAs end.BytesOut result
   bytes_ends end.Done ends limit = absurd (whole_limit (IsBytesOut bounds) at_bytes steps ends.0 frames ends.1 limit)
   bytes_ends end.BadFrame ends limit = absurd (stops_limit (IsBytesOut bounds) at_bytes steps ends.0 frames ends.1 ends.2 limit)
   bytes_ends end.IdleOut ends limit = absurd (idle_bytes steps ends.0 frames ends.1 limit)

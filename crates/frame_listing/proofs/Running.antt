@@ -5,7 +5,7 @@ use Rattle.pool_io.specs.declared.turn.Turn.{Turn}
 use Rattle.pool_io.specs.declared.source.Took.TheVariants as took
 use Rattle.pool_io.specs.Outside.{Adds, Takes}
 use Rattle.pool_io.specs.Steps.{Step, bytes_in, steps_of, idles_after, Brought}
-use Rattle.pool_io.proofs.Stepping.{bytes_in-more, bytes_in-idle, idles_after-more, idles_after-idle, free_bytes, free_idle, within_limits, brought_all}
+use Rattle.pool_io.proofs.Stepping.{bytes_in-more, bytes_in-idle, idles_after-more, idles_after-idle, free_bytes, free_idle, within_limits, brought_none, brought_all}
 use Rattle.pool_turns.specs.Limits.{bounds}
 use Rattle.pool_turns.proofs.Fronts.{free_none, cut_at}
 use Rattle.pool_turns.proofs.Puts.{Adds-none, Adds-more}
@@ -16,7 +16,7 @@ use Rattle.frame_listing.specs.declared.command.ListEnd.{ListEnd}
 use Rattle.frame_listing.specs.declared.command.ListEnd.TheVariants as end
 use Rattle.frame_listing.specs.Lines.{lines_of}
 use Rattle.frame_listing.proofs.Listed.{Lists-none}
-use Rattle.frame_listing.specs.Ending.{Tells, EndsBy, Ran}
+use Rattle.frame_listing.specs.Ending.{Tells, EndsBy, Ran, ReadStays, WriteStays}
 use Rattle.frame_listing.specs.Standing.{Stands, BreaksIn, CutsOff, EndsWhole, Made, Leaves, EndsAll, GoesTo, TurnsTo}
 
 -- before the first turn
@@ -96,7 +96,7 @@ module _ (before now : Option (List ℕ)) (steps : List Step) (piece : List ℕ)
   room_left = rw made.bytes room
 
   -- where a bad frame came
-  stops_here : (breaks : BreaksIn piece old.lister new) (rest : List Step) → EndsBy ((steps ++ map Some piece) ++ rest) (made.given ++ new.text.items) end.BadFrame
+  stops_here : (breaks : BreaksIn piece old.lister new) (rest : List Step) → EndsBy (steps ++ map Some piece) ((steps ++ map Some piece) ++ rest) (made.given ++ new.text.items) end.BadFrame
   stops_here breaks rest =
       let broken = breaks.breaks (bytes_in steps) made.given (seen_short before now steps piece old made room) made.stands in
       let shorter : length (bytes_in steps) + length breaks.front ≤ 2 ^ 40 = omega (arith, room_left, ap length breaks.split, length-append breaks.front breaks.rest) in (
@@ -183,7 +183,7 @@ module _ (before now : Option (List ℕ)) (steps : List Step) (piece : List ℕ)
 -- a put that failed: the sink has a front of the text
 module _ (before now after : Option (List ℕ)) (steps : List Step) (piece : List ℕ) (old : Command) (new : Lister) (made : Made before now steps old)
     (told : Told steps piece made.given new) (put : (front : List ℕ) × Begins front new.text.items × Adds now after front) where
-  front_ends : (rest : List Step) → EndsBy ((steps ++ map Some piece) ++ rest) (made.given ++ put.0) end.Memory
+  front_ends : (rest : List Step) → EndsBy (steps ++ map Some piece) ((steps ++ map Some piece) ++ rest) (made.given ++ put.0) end.Memory
   front_ends rest = (
     made.given ++ new.text.items,
     told.tells rest,
@@ -253,9 +253,6 @@ module _ (before now : Option (List ℕ)) (steps : List Step) (old : Command) (m
     ends = λ rest. (
       made.stands.frames,
       record {
-        front = steps;
-        rest = rest;
-        split = refl;
         held = old.lister.splitter.held;
         lists = made.stands.tracks.lists;
         partial = made.stands.partial;
@@ -274,7 +271,7 @@ module _ (before now : Option (List ℕ)) (steps : List Step) (old : Command) (m
       ends = (whole.frames, record { lists = whole.lists; free = made.free }, whole.listed);
     }
 
-    cut_stops : (cut : CutsOff (bytes_in steps) made.given new) → EndsBy steps (made.given ++ new.text.items) end.BadFrame
+    cut_stops : (cut : CutsOff (bytes_in steps) made.given new) → EndsBy steps steps (made.given ++ new.text.items) end.BadFrame
     cut_stops cut = (
       cut.frames,
       Cut (length cut.held),
@@ -297,7 +294,7 @@ module _ (before now : Option (List ℕ)) (steps : List Step) (old : Command) (m
     whole_tells whole = inl (whole.frames, steps, [], [], sym (append-nil steps), whole.lists, whole.listed)
 
     module _ (tells : Tells steps (made.given ++ new.text.items)) (put : (front : List ℕ) × Begins front new.text.items × Adds now after front) where
-      last_ends : EndsBy steps (made.given ++ put.0) end.Memory
+      last_ends : EndsBy steps steps (made.given ++ put.0) end.Memory
       last_ends = (
         made.given ++ new.text.items,
         tells,
@@ -322,8 +319,11 @@ module _ (before now : Option (List ℕ)) (steps : List Step) (old : Command) (m
 pub turns_to : (turns : Option (List Turn)) (before : Option (List ℕ)) (left : Option (List Turn)) (now : Option (List ℕ)) (steps : List Step) (command : Command) (result : Option ListEnd)
     → Brought turns left steps → GoesTo before now steps command result → TurnsTo turns before left now command result
 turns_to turns before left now steps command None brought made = record { steps = steps; brought = brought; made = made }
-turns_to None before left now steps command (Some end) brought leaves = record { given = leaves.given; put = leaves.put; ends = λ told is. cc }
+turns_to None before left now steps command (Some end) brought leaves =
+    record { taken = steps; brought = brought; given = leaves.given; put = leaves.put; ends = λ told is. cc }
 turns_to (Some turns) before left now steps command (Some end) brought leaves = record {
+  taken = steps;
+  brought = brought;
   given = leaves.given;
   put = leaves.put;
   ends = λ told is.
@@ -332,22 +332,35 @@ turns_to (Some turns) before left now steps command (Some end) brought leaves = 
 }
 
 -- a failure takes nothing
-pub fault_to : (turns : Option (List Turn)) (before : Option (List ℕ)) (left : Option (List Turn)) (now : Option (List ℕ)) (steps : List Step)
-    → Brought turns left steps → Leaves before now steps end.ReadFault → Ran turns before now end.ReadFault
-fault_to None before left now steps brought leaves = record { given = leaves.given; put = leaves.put; ends = λ told is. cc }
-fault_to (Some turns) before left now steps brought leaves = record {
-  given = leaves.given;
-  put = leaves.put;
-  ends = λ told is.
-      let same : turns ≡ told = cc in
-      rw (← same, brought.2) (leaves.ends (steps_of brought.0));
-}
+pub fault_to : (turns : Option (List Turn)) (before : Option (List ℕ)) (old left : Option (List Turn)) (now : Option (List ℕ)) (steps : List Step) (buffer : List ℕ)
+    → Brought turns old steps → Takes old left took.Failed buffer → Leaves before now steps end.ReadFault → Ran turns left before now end.ReadFault
+fault_to None before old left now steps buffer brought takes leaves =
+    record { taken = steps; brought = tt; given = leaves.given; put = leaves.put; ends = λ told is. cc }
+fault_to (Some turns) before old left now steps buffer brought takes leaves =
+    let failed = rw brought.1 at takes in
+    record {
+      taken = steps;
+      brought = (brought.0, failed.1 ∙ ap Some failed.2, brought.2);
+      given = leaves.given;
+      put = leaves.put;
+      ends = λ told is. leaves.ends [];
+    }
+
+-- the end of the input leaves the turns as they are
+still_brought : (turns old left : Option (List Turn)) (steps : List Step) (buffer : List ℕ) → Brought turns old steps → Takes old left took.End buffer → Brought turns left steps
+still_brought None old left steps buffer brought takes = tt
+still_brought (Some turns) old left steps buffer brought takes =
+    let ended = rw brought.1 at takes in
+    (brought.0, ended.1 ∙ ap Some ended.2.1, brought.2)
 
 -- the end of the input
 pub turns_to_end : (turns : Option (List Turn)) (before : Option (List ℕ)) (old left : Option (List Turn)) (now : Option (List ℕ)) (steps : List Step) (buffer : List ℕ)
-    (result : ListEnd) → Brought turns old steps → Takes old left took.End buffer → EndsAll before now steps result → Ran turns before now result
-turns_to_end None before old left now steps buffer result brought takes ends = record { given = ends.given; put = ends.put; ends = λ told is. cc }
+    (result : ListEnd) → Brought turns old steps → Takes old left took.End buffer → EndsAll before now steps result → Ran turns left before now result
+turns_to_end None before old left now steps buffer result brought takes ends =
+    record { taken = steps; brought = tt; given = ends.given; put = ends.put; ends = λ told is. cc }
 turns_to_end (Some turns) before old left now steps buffer result brought takes ends = record {
+  taken = steps;
+  brought = still_brought (Some turns) old left steps buffer brought takes;
   given = ends.given;
   put = ends.put;
   ends = λ told is.
@@ -356,9 +369,32 @@ turns_to_end (Some turns) before old left now steps buffer result brought takes 
 }
 
 -- want of memory before the first turn
-pub memory_first : (turns : Option (List Turn)) (before : Option (List ℕ)) → Ran turns before before end.Memory
+pub memory_first : (turns : Option (List Turn)) (before : Option (List ℕ)) → Ran turns turns before before end.Memory
 memory_first turns before = record {
+  taken = [];
+  brought = brought_none turns;
   given = [];
   put = Adds-none before;
   ends = λ told is. ([], inl ([], [], steps_of told, [], refl, Lists-none, refl), ([], refl));
 }
+
+-- a count that stayed, whatever the end
+pub read_stays : (end : Option ListEnd) (before now : ℕ) → now ≡ before → ReadStays end before now
+read_stays None before now same = same
+read_stays (Some end.Done) before now same = same
+read_stays (Some end.BadFrame) before now same = same
+read_stays (Some end.IdleOut) before now same = same
+read_stays (Some end.BytesOut) before now same = same
+read_stays (Some end.ReadFault) before now same = tt
+read_stays (Some end.WriteFault) before now same = same
+read_stays (Some end.Memory) before now same = same
+
+pub write_stays : (end : Option ListEnd) (before now : ℕ) → now ≡ before → WriteStays end before now
+write_stays None before now same = same
+write_stays (Some end.Done) before now same = same
+write_stays (Some end.BadFrame) before now same = same
+write_stays (Some end.IdleOut) before now same = same
+write_stays (Some end.BytesOut) before now same = same
+write_stays (Some end.ReadFault) before now same = same
+write_stays (Some end.WriteFault) before now same = tt
+write_stays (Some end.Memory) before now same = same

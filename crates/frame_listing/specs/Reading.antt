@@ -44,12 +44,9 @@ pub record ReachesLimit (IsOut : List Step → Type 0) (steps : List Step) (fram
   pub partial : IsPartial held
   pub free : IsFreeBefore bounds front
 
--- a front of the steps has these good frames, and goes on
-pub record HasBrought (steps : List Step) (frames : List FrameValue) : Type 0 where
-  pub front : List Step
-  pub rest : List Step
-  pub split : steps ≡ front ++ rest
+-- the steps so far are these good frames and less than one more, and none of their fronts is at a limit
+pub record GoesOn (steps : List Step) (frames : List FrameValue) : Type 0 where
   pub held : List ℕ
-  pub lists : Lists (bytes_in front) frames held
+  pub lists : Lists (bytes_in steps) frames held
   pub partial : IsPartial held
-  pub free : IsFree bounds front
+  pub free : IsFree bounds steps

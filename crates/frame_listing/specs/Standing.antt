@@ -80,13 +80,13 @@ pub record Made (before now : Option (List ℕ)) (steps : List Step) (command : 
 pub record Leaves (before now : Option (List ℕ)) (steps : List Step) (end : ListEnd) : Type 0 where
   pub given : List ℕ
   pub put : Adds before now given
-  pub ends : (rest : List Step) → EndsBy (steps ++ rest) given end
+  pub ends : (rest : List Step) → EndsBy steps (steps ++ rest) given end
 
 -- the end after all steps of the source
 pub record EndsAll (before now : Option (List ℕ)) (steps : List Step) (end : ListEnd) : Type 0 where
   pub given : List ℕ
   pub put : Adds before now given
-  pub ends : EndsBy steps given end
+  pub ends : EndsBy steps steps given end
 
 -- the command goes on after these steps, or has ended
 abbrev pub GoesTo : Option (List ℕ) → Option (List ℕ) → List Step → Command → Option ListEnd → Type 0
@@ -102,7 +102,7 @@ pub record IsBetween (turns : Option (List Turn)) (before : Option (List ℕ)) (
 -- a turn leads to the next one, or the run has ended
 abbrev pub TurnsTo : Option (List Turn) → Option (List ℕ) → Option (List Turn) → Option (List ℕ) → Command → Option ListEnd → Type 0
 TurnsTo turns before left now command None = IsBetween turns before left now command
-TurnsTo turns before left now command (Some end) = Ran turns before now end
+TurnsTo turns before left now command (Some end) = Ran turns left before now end
 
 -- no limit is reached, and less than a frame is held
 pub record IsBelow (command : Command) : Type 0 where

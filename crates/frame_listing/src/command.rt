@@ -37,6 +37,7 @@ impl Command {
     ghost use Rattle.std.specs.Prelude.{None, Some};
     ghost use Rattle.pool_io.specs.declared.turn.Turn.{Turn};
     ghost use Rattle.pool_io.specs.Steps.{Step, Brought};
+    ghost use Rattle.frame_listing.specs.Ending.{ReadStays, WriteStays};
     ghost use Rattle.frame_listing.specs.Standing.{Made, GoesTo, EndsAll, TurnsTo, IsBetween, IsBelow, remaining};
 
     fn new(alloc: Global) -> Result<Command, AllocError>
@@ -63,6 +64,7 @@ impl Command {
         ensures no_read_fault { result ≡ Some ListEnd.ReadFault → ⊥ }
         ensures later { T.faults sink.old ≤ T.faults sink.new }
         ensures cause { result ≡ Some ListEnd.WriteFault → Rose (T.faults sink.old) (T.faults sink.new) }
+        ensures kept { WriteStays result (T.faults sink.old) (T.faults sink.new) }
     {
         let stopped = match self.lister.piece(piece) {
             Ok(()) => false,
@@ -111,6 +113,7 @@ impl Command {
         ensures no_read_fault { result ≡ ListEnd.ReadFault → ⊥ }
         ensures later { T.faults sink.old ≤ T.faults sink.new }
         ensures cause { result ≡ ListEnd.WriteFault → Rose (T.faults sink.old) (T.faults sink.new) }
+        ensures kept { WriteStays (Some result) (T.faults sink.old) (T.faults sink.new) }
     {
         let whole = match self.lister.end() {
             Ok(()) => true,
@@ -142,6 +145,8 @@ impl Command {
         ensures write_later { T.faults sink.old ≤ T.faults sink.new }
         ensures read_cause { result ≡ Some ListEnd.ReadFault → Rose (S.faults source.old) (S.faults source.new) }
         ensures write_cause { result ≡ Some ListEnd.WriteFault → Rose (T.faults sink.old) (T.faults sink.new) }
+        ensures read_kept { ReadStays result (S.faults source.old) (S.faults source.new) }
+        ensures write_kept { WriteStays result (T.faults sink.old) (T.faults sink.new) }
     {
         let room = buffer.len().min((MOST_BYTES - self.taken) as usize);
         match source.take(&mut buffer[..room]) {
@@ -158,13 +163,13 @@ ghost use Rattle.pool_io.specs.Steps.{steps_of, IsIdleOut, IsBytesOut};
 ghost use Rattle.sv2_frames.specs.Framing.{FrameValue};
 ghost use Rattle.pool_turns.specs.Limits.{bounds};
 ghost use Rattle.frame_listing.specs.declared.flaw.Flaw.{Flaw};
-ghost use Rattle.frame_listing.specs.Ending.{Ran, EndsAs};
+ghost use Rattle.frame_listing.specs.Ending.{Ran, EndsAs, ReadStays, WriteStays};
 ghost use Rattle.frame_listing.specs.Reading.{IsWhole, Stops, ReachesLimit};
 
 /// Lists the frames that the source brings, a line for each, and puts the lines.
 pub fn list_frames<S: Source, T: Sink>(alloc: Global, source: &mut S, sink: &mut T) -> ListEnd
     // What each end says of the input and of what was put.
-    ensures ran { Ran (S.left source.old) (T.held sink.old) (T.held sink.new) result }
+    ensures ran { Ran (S.left source.old) (S.left source.new) (T.held sink.old) (T.held sink.new) result }
 
     // The steps that the source tells decide the end, but for a fault or want of memory.
     ensures whole { (told : List Turn) (frames : List FrameValue) → S.left source.old ≡ Some told
@@ -176,9 +181,11 @@ pub fn list_frames<S: Source, T: Sink>(alloc: Global, source: &mut S, sink: &mut
     ensures bytes_out { (told : List Turn) (frames : List FrameValue) → S.left source.old ≡ Some told
         → ReachesLimit (IsBytesOut bounds) (steps_of told) frames → EndsAs ListEnd.BytesOut result }
 
-    // A fault is told only where a count rose.
+    // A fault is told exactly where a count rose.
     ensures read_fault { result ≡ ListEnd.ReadFault → Rose (S.faults source.old) (S.faults source.new) }
     ensures write_fault { result ≡ ListEnd.WriteFault → Rose (T.faults sink.old) (T.faults sink.new) }
+    ensures read_kept { ReadStays (Some result) (S.faults source.old) (S.faults source.new) }
+    ensures write_kept { WriteStays (Some result) (T.faults sink.old) (T.faults sink.new) }
     ensures read_later { S.faults source.old ≤ S.faults source.new }
     ensures write_later { T.faults sink.old ≤ T.faults sink.new }
 {

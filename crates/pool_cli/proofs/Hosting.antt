@@ -30,3 +30,10 @@ module _ {S T : Type 0} (start first second third last : Seen S T) (source : S) 
 -- what standard output holds is as before the input was given
 pub same_output : {S T : Type 0} (start first : Seen S T) → first ≡ record start { input = first.input; sources = lent_one start.sources } → first.output ≡ start.output
 same_output {S} {T} start first input = ap (λ (h : Seen S T). h.output) input
+
+-- neither the giving nor the taking back was a failure of the host
+pub faults_kept : {S T : Type 0} (start first second third last : Seen S T) (source : S) (sink : T) → first.faults ≡ start.faults → second.faults ≡ first.faults
+    → third ≡ record second { sources = with_back second.sources source } → last ≡ record third { sinks = with_back third.sinks sink }
+    → last.faults ≡ start.faults
+faults_kept {S} {T} start first second third last source sink given more source_done sink_done =
+    ap (λ (h : Seen S T). h.faults) sink_done ∙ ap (λ (h : Seen S T). h.faults) source_done ∙ more ∙ given

@@ -7,13 +7,14 @@ use Rattle.sv2_frames.specs.Framing.{FrameValue}
 use Rattle.frame_listing.specs.declared.flaw.Flaw.{Flaw}
 use Rattle.frame_listing.specs.declared.command.ListEnd.{ListEnd}
 use Rattle.frame_listing.specs.declared.command.ListEnd.TheVariants as end
-use Rattle.frame_listing.specs.Reading.{IsWhole, Stops}
+use Rattle.frame_listing.specs.Reading.{GoesOn, IsWhole, Stops}
 use Rattle.frame_listing.specs.Ending.{EndsBy, EndsAs, IsFault}
-use Rattle.pool_cli.specs.Running.{listing_status, FramesRan, NotGiven, Prints, PrintsDone, PrintsBad, PrintsLimit, PrintsReadFault, PrintsWriteFault, PrintsMemory, HasNoSink, HandsBack, ListsToLimit, IsFaultStatus}
+use Rattle.frame_listing.specs.Lines.{lines_of}
+use Rattle.pool_cli.specs.Running.{listing_status, FramesRan, NotGiven, Prints, PrintsDone, PrintsBad, PrintsLimit, PrintsOfRead, WasRead, PrintsWriteFault, PrintsMemory, HasNoSink, HandsBack, ListsToLimit, IsFaultStatus}
 use Rattle.pool_cli.proofs.Statuses.{not_given_status}
 
-module _ (steps : List Step) (given : List ℕ) where
-  pub at_listed : (e : ListEnd) → 0 ≡ listing_status e → EndsBy steps given e → PrintsDone steps given
+module _ (taken steps : List Step) (given : List ℕ) where
+  pub at_listed : (e : ListEnd) → 0 ≡ listing_status e → EndsBy taken steps given e → PrintsDone steps given
   at_listed end.Done is ends = ends
   at_listed end.BadFrame is ends = absurd (omega arith)
   at_listed end.IdleOut is ends = absurd (omega arith)
@@ -22,7 +23,7 @@ module _ (steps : List Step) (given : List ℕ) where
   at_listed end.WriteFault is ends = absurd (omega arith)
   at_listed end.Memory is ends = absurd (omega arith)
 
-  pub at_bad : (e : ListEnd) → 3 ≡ listing_status e → EndsBy steps given e → PrintsBad steps given
+  pub at_bad : (e : ListEnd) → 3 ≡ listing_status e → EndsBy taken steps given e → PrintsBad steps given
   at_bad end.BadFrame is ends = ends
   at_bad end.Done is ends = absurd (omega arith)
   at_bad end.IdleOut is ends = absurd (omega arith)
@@ -31,7 +32,7 @@ module _ (steps : List Step) (given : List ℕ) where
   at_bad end.WriteFault is ends = absurd (omega arith)
   at_bad end.Memory is ends = absurd (omega arith)
 
-  pub at_list_limit : (e : ListEnd) → 10 ≡ listing_status e → EndsBy steps given e → PrintsLimit steps given
+  pub at_list_limit : (e : ListEnd) → 10 ≡ listing_status e → EndsBy taken steps given e → PrintsLimit steps given
   at_list_limit end.IdleOut is ends = inl ends
   at_list_limit end.BytesOut is ends = inr ends
   at_list_limit end.Done is ends = absurd (omega arith)
@@ -40,7 +41,7 @@ module _ (steps : List Step) (given : List ℕ) where
   at_list_limit end.WriteFault is ends = absurd (omega arith)
   at_list_limit end.Memory is ends = absurd (omega arith)
 
-  pub at_list_read_fault : (e : ListEnd) → 4 ≡ listing_status e → EndsBy steps given e → PrintsReadFault steps given
+  pub at_list_read_fault : (e : ListEnd) → 4 ≡ listing_status e → EndsBy taken steps given e → (frames : List FrameValue) × GoesOn taken frames × (given ≡ lines_of frames)
   at_list_read_fault end.ReadFault is ends = ends
   at_list_read_fault end.Done is ends = absurd (omega arith)
   at_list_read_fault end.BadFrame is ends = absurd (omega arith)
@@ -49,7 +50,7 @@ module _ (steps : List Step) (given : List ℕ) where
   at_list_read_fault end.WriteFault is ends = absurd (omega arith)
   at_list_read_fault end.Memory is ends = absurd (omega arith)
 
-  pub at_list_write_fault : (e : ListEnd) → 5 ≡ listing_status e → EndsBy steps given e → PrintsWriteFault steps given
+  pub at_list_write_fault : (e : ListEnd) → 5 ≡ listing_status e → EndsBy taken steps given e → PrintsWriteFault steps given
   at_list_write_fault end.WriteFault is ends = ends
   at_list_write_fault end.Done is ends = absurd (omega arith)
   at_list_write_fault end.BadFrame is ends = absurd (omega arith)
@@ -58,7 +59,7 @@ module _ (steps : List Step) (given : List ℕ) where
   at_list_write_fault end.ReadFault is ends = absurd (omega arith)
   at_list_write_fault end.Memory is ends = absurd (omega arith)
 
-  pub at_list_memory : (e : ListEnd) → 8 ≡ listing_status e → EndsBy steps given e → PrintsMemory steps given
+  pub at_list_memory : (e : ListEnd) → 8 ≡ listing_status e → EndsBy taken steps given e → PrintsMemory steps given
   at_list_memory end.Memory is ends = ends
   at_list_memory end.Done is ends = absurd (omega arith)
   at_list_memory end.BadFrame is ends = absurd (omega arith)
@@ -76,16 +77,26 @@ fault_status end.BadFrame fault = absurd fault
 fault_status end.IdleOut fault = absurd fault
 fault_status end.BytesOut fault = absurd fault
 
-module _ {S T : Type 0} (read_faults : S → ℕ) (held : T → Option (List ℕ)) (write_faults : T → ℕ) (old new : Seen S T) (status : ℕ)
-    (ran : FramesRan read_faults held write_faults old new status ⊎ NotGiven old new status) where
+module _ {S T : Type 0} (left : S → Option (List Turn)) (read_faults : S → ℕ) (held : T → Option (List ℕ)) (write_faults : T → ℕ) (old new : Seen S T) (status : ℕ)
+    (ran : FramesRan left read_faults held write_faults old new status ⊎ NotGiven old new status) where
   -- a status that no refusal of the host has
   pub prints_at : (n : ℕ) (Ends : List Step → List ℕ → Type 0) → (n ≡ 8 → ⊥) → (n ≡ 7 → ⊥)
-      → ((steps : List Step) (given : List ℕ) (e : ListEnd) → n ≡ listing_status e → EndsBy steps given e → Ends steps given)
+      → ((taken steps : List Step) (given : List ℕ) (e : ListEnd) → n ≡ listing_status e → EndsBy taken steps given e → Ends steps given)
       → status ≡ n → Prints Ends (HandsBack held old new) old.input
   prints_at n Ends not_8 not_7 at is told told_is =
       elim ran [
-        | inl r ↦ (r.ran.given, at (steps_of told) r.ran.given r.end (sym is ∙ r.answer) (r.ran.ends told told_is), (r.sink, r.sinks.back, r.ran.put))
+        | inl r ↦ (r.ran.given, at r.ran.taken (steps_of told) r.ran.given r.end (sym is ∙ r.answer) (r.ran.ends told told_is), (r.sink, r.sinks.back, r.ran.put))
         | inr refused ↦ elim refused.cause [ inl memory ↦ absurd (not_8 (sym is ∙ memory)) | inr failed ↦ absurd (not_7 (sym is ∙ failed.0)) ]
+      ]
+
+  -- a failed read
+  pub prints_of_read : status ≡ 4 → PrintsOfRead (WasRead left old new) (HandsBack held old new) old.input
+  prints_of_read is told told_is =
+      elim ran [
+        | inl r ↦
+            let a = at_list_read_fault r.ran.taken (steps_of told) r.ran.given r.end (sym is ∙ r.answer) (r.ran.ends told told_is) in
+            (r.ran.taken, (r.source, r.sources.back, r.ran.brought), a.0, a.1, (r.sink, r.sinks.back, rw a.2 at r.ran.put))
+        | inr refused ↦ elim refused.cause [ inl memory ↦ absurd (let no = sym is ∙ memory in omega (arith, no)) | inr failed ↦ absurd (let no = sym is ∙ failed.0 in omega (arith, no)) ]
       ]
 
   -- want of memory, of the host or of the command
@@ -93,7 +104,7 @@ module _ {S T : Type 0} (read_faults : S → ℕ) (held : T → Option (List ℕ
   prints_without_memory is =
       elim ran [
         | inl r ↦ inr (λ told told_is.
-            (r.ran.given, at_list_memory (steps_of told) r.ran.given r.end (sym is ∙ r.answer) (r.ran.ends told told_is), (r.sink, r.sinks.back, r.ran.put)))
+            (r.ran.given, at_list_memory r.ran.taken (steps_of told) r.ran.given r.end (sym is ∙ r.answer) (r.ran.ends told told_is), (r.sink, r.sinks.back, r.ran.put)))
         | inr refused ↦ inl refused.none
       ]
 

@@ -1,5 +1,5 @@
 -- Each status of the command says what its end says.
-use Rattle.std.proofs.Common.{◌≡◌, ℕ, ◌⊎◌, List, [], ◌∷◌, Option, Some, refl, sym, ap, ◌∙◌, inl, inr, arith}
+use Rattle.std.proofs.Common.{◌≡◌, ℕ, zero, suc, ◌⊎◌, List, [], ◌∷◌, Option, Some, refl, sym, ap, ◌∙◌, inl, inr, arith}
 use Rattle.pool_base.specs.Lists.{Begins}
 use Rattle.pool_io.specs.declared.turn.Turn.{Turn}
 use Rattle.pool_io.specs.Seen.{Seen}
@@ -10,15 +10,16 @@ use Rattle.fixed_job.specs.declared.command.FixedEnd.{FixedEnd}
 use Rattle.fixed_job.specs.declared.command.FixedEnd.TheVariants as end
 use Rattle.frame_listing.specs.declared.command.ListEnd.{ListEnd}
 use Rattle.frame_listing.specs.declared.command.ListEnd.TheVariants as list
-use Rattle.fixed_job.specs.Reading.{IsWhole, Stops}
-use Rattle.fixed_job.specs.Ending.{EndsBy, EndsAs, IsFault, Answers, Equal, HasBrought, HasSpelled}
+use Rattle.frame_listing.specs.Ending as listing
+use Rattle.fixed_job.specs.Reading.{GoesOn, IsWhole, Stops}
+use Rattle.fixed_job.specs.Ending.{EndsBy, EndsAs, IsFault, Answers, Equal, HasSpelled, ReadStays, WriteStays}
 use Rattle.std.specs.Prelude.{Contains}
 use Rattle.pool_cli.specs.declared.words.Form.{Form}
 use Rattle.pool_cli.specs.declared.words.Form.TheVariants.{SoloFixed, Frames}
-use Rattle.pool_cli.specs.Running.{Does, status_of, listing_status, FixedRan, NotGiven, Told, HandsBack, ReachesEither, IsFaultStatus, HasNoSink}
+use Rattle.pool_cli.specs.Running.{Does, status_of, listing_status, FixedRan, NotGiven, Told, HandsBack, ReachesEither, IsFaultStatus, HasNoSink, WasRead, ToldOfRead, HasNotFailed}
 
-module _ (class : ℕ) (job : Job) (steps : List Step) (given : List ℕ) where
-  pub at_done : (e : FixedEnd) → 0 ≡ status_of e → EndsBy class job steps given e → Answers IsWhole Equal class job steps given
+module _ (class : ℕ) (job : Job) (taken steps : List Step) (given : List ℕ) where
+  pub at_done : (e : FixedEnd) → 0 ≡ status_of e → EndsBy class job taken steps given e → Answers IsWhole Equal class job steps given
   at_done end.Done is ends = ends
   at_done end.OtherFrame is ends = absurd (omega arith)
   at_done end.IdleOut is ends = absurd (omega arith)
@@ -27,7 +28,7 @@ module _ (class : ℕ) (job : Job) (steps : List Step) (given : List ℕ) where
   at_done end.WriteFault is ends = absurd (omega arith)
   at_done end.Memory is ends = absurd (omega arith)
 
-  pub at_other_frame : (e : FixedEnd) → 3 ≡ status_of e → EndsBy class job steps given e → Answers Stops Equal class job steps given
+  pub at_other_frame : (e : FixedEnd) → 3 ≡ status_of e → EndsBy class job taken steps given e → Answers Stops Equal class job steps given
   at_other_frame end.OtherFrame is ends = ends
   at_other_frame end.Done is ends = absurd (omega arith)
   at_other_frame end.IdleOut is ends = absurd (omega arith)
@@ -36,7 +37,7 @@ module _ (class : ℕ) (job : Job) (steps : List Step) (given : List ℕ) where
   at_other_frame end.WriteFault is ends = absurd (omega arith)
   at_other_frame end.Memory is ends = absurd (omega arith)
 
-  pub at_limit : (e : FixedEnd) → 10 ≡ status_of e → EndsBy class job steps given e → Answers ReachesEither Equal class job steps given
+  pub at_limit : (e : FixedEnd) → 10 ≡ status_of e → EndsBy class job taken steps given e → Answers ReachesEither Equal class job steps given
   at_limit end.IdleOut is ends = (ends.0, inl ends.1, ends.2)
   at_limit end.BytesOut is ends = (ends.0, inr ends.1, ends.2)
   at_limit end.Done is ends = absurd (omega arith)
@@ -45,7 +46,7 @@ module _ (class : ℕ) (job : Job) (steps : List Step) (given : List ℕ) where
   at_limit end.WriteFault is ends = absurd (omega arith)
   at_limit end.Memory is ends = absurd (omega arith)
 
-  pub at_read_fault : (e : FixedEnd) → 4 ≡ status_of e → EndsBy class job steps given e → Answers HasBrought Equal class job steps given
+  pub at_read_fault : (e : FixedEnd) → 4 ≡ status_of e → EndsBy class job taken steps given e → Answers GoesOn Equal class job taken given
   at_read_fault end.ReadFault is ends = ends
   at_read_fault end.Done is ends = absurd (omega arith)
   at_read_fault end.OtherFrame is ends = absurd (omega arith)
@@ -54,7 +55,7 @@ module _ (class : ℕ) (job : Job) (steps : List Step) (given : List ℕ) where
   at_read_fault end.WriteFault is ends = absurd (omega arith)
   at_read_fault end.Memory is ends = absurd (omega arith)
 
-  pub at_write_fault : (e : FixedEnd) → 5 ≡ status_of e → EndsBy class job steps given e → Answers HasSpelled Begins class job steps given
+  pub at_write_fault : (e : FixedEnd) → 5 ≡ status_of e → EndsBy class job taken steps given e → Answers HasSpelled Begins class job steps given
   at_write_fault end.WriteFault is ends = ends
   at_write_fault end.Done is ends = absurd (omega arith)
   at_write_fault end.OtherFrame is ends = absurd (omega arith)
@@ -63,7 +64,7 @@ module _ (class : ℕ) (job : Job) (steps : List Step) (given : List ℕ) where
   at_write_fault end.ReadFault is ends = absurd (omega arith)
   at_write_fault end.Memory is ends = absurd (omega arith)
 
-  pub at_memory : (e : FixedEnd) → 8 ≡ status_of e → EndsBy class job steps given e → Answers HasSpelled Begins class job steps given
+  pub at_memory : (e : FixedEnd) → 8 ≡ status_of e → EndsBy class job taken steps given e → Answers HasSpelled Begins class job steps given
   at_memory end.Memory is ends = ends
   at_memory end.Done is ends = absurd (omega arith)
   at_memory end.OtherFrame is ends = absurd (omega arith)
@@ -86,18 +87,28 @@ pub not_given_status : {S T : Type 0} (old new : Seen S T) (status : ℕ) → No
 not_given_status old new status refused =
     elim refused.cause [ inl memory ↦ inr (inr (inr memory)) | inr failed ↦ inr (inr (inl failed.0)) ]
 
-module _ {S T : Type 0} (read_faults : S → ℕ) (held : T → Option (List ℕ)) (write_faults : T → ℕ) (class : ℕ) (job : Job) (old new : Seen S T) (status : ℕ)
-    (ran : FixedRan read_faults held write_faults class job old new status ⊎ NotGiven old new status) where
+module _ {S T : Type 0} (left : S → Option (List Turn)) (read_faults : S → ℕ) (held : T → Option (List ℕ)) (write_faults : T → ℕ) (class : ℕ) (job : Job) (old new : Seen S T) (status : ℕ)
+    (ran : FixedRan left read_faults held write_faults class job old new status ⊎ NotGiven old new status) where
   -- a status that no refusal of the host has
   pub told_at : (n : ℕ) (Ends : List Step → List SubmitSharesStandard → Type 0) (Compare : List ℕ → List ℕ → Type 0) → (n ≡ 8 → ⊥) → (n ≡ 7 → ⊥)
-      → ((steps : List Step) (given : List ℕ) (e : FixedEnd) → n ≡ status_of e → EndsBy class job steps given e → Answers Ends Compare class job steps given)
+      → ((taken steps : List Step) (given : List ℕ) (e : FixedEnd) → n ≡ status_of e → EndsBy class job taken steps given e → Answers Ends Compare class job steps given)
       → status ≡ n → Told Ends Compare (HandsBack held old new) class job old.input
   told_at n Ends Compare not_8 not_7 at is told told_is =
       elim ran [
         | inl r ↦
-            let a = at (steps_of told) r.ran.given r.end (sym is ∙ r.answer) (r.ran.ends told told_is) in
+            let a = at r.ran.taken (steps_of told) r.ran.given r.end (sym is ∙ r.answer) (r.ran.ends told told_is) in
             (a.0, a.1, r.ran.given, a.2, (r.sink, r.sinks.back, r.ran.put))
         | inr refused ↦ elim refused.cause [ inl memory ↦ absurd (not_8 (sym is ∙ memory)) | inr failed ↦ absurd (not_7 (sym is ∙ failed.0)) ]
+      ]
+
+  -- a failed read
+  pub told_of_read : status ≡ 4 → ToldOfRead (WasRead left old new) (HandsBack held old new) class job old.input
+  told_of_read is told told_is =
+      elim ran [
+        | inl r ↦
+            let a = at_read_fault class job r.ran.taken (steps_of told) r.ran.given r.end (sym is ∙ r.answer) (r.ran.ends told told_is) in
+            (r.ran.taken, (r.source, r.sources.back, r.ran.brought), a.0, a.1, (r.sink, r.sinks.back, rw a.2 at r.ran.put))
+        | inr refused ↦ elim refused.cause [ inl memory ↦ absurd (let no = sym is ∙ memory in omega (arith, no)) | inr failed ↦ absurd (let no = sym is ∙ failed.0 in omega (arith, no)) ]
       ]
 
   -- want of memory, of the host or of the command
@@ -105,7 +116,7 @@ module _ {S T : Type 0} (read_faults : S → ℕ) (held : T → Option (List ℕ
   told_without_memory is =
       elim ran [
         | inl r ↦ inr (λ told told_is.
-            let a = at_memory class job (steps_of told) r.ran.given r.end (sym is ∙ r.answer) (r.ran.ends told told_is) in
+            let a = at_memory class job r.ran.taken (steps_of told) r.ran.given r.end (sym is ∙ r.answer) (r.ran.ends told told_is) in
             (a.0, a.1, r.ran.given, a.2, (r.sink, r.sinks.back, r.ran.put)))
         | inr refused ↦ inl refused.none
       ]
@@ -167,9 +178,116 @@ not_given_listed : {S T : Type 0} (old new : Seen S T) (status : ℕ) → NotGiv
 not_given_listed old new status refused =
     elim refused.cause [ inl memory ↦ rw memory (6, omega arith, refl) | inr failed ↦ rw failed.0 (5, omega arith, refl) ]
 
-pub does_listed : {S T : Type 0} (read_faults : S → ℕ) (held : T → Option (List ℕ)) (write_faults : T → ℕ) (form : Form) (old new : Seen S T) (status : ℕ)
-    → Does read_faults held write_faults form old new status → Contains statuses status
-does_listed read_faults held write_faults (SoloFixed class job) old new status (inl r) = rw r.answer (status_listed r.end)
-does_listed read_faults held write_faults (SoloFixed class job) old new status (inr refused) = not_given_listed old new status refused
-does_listed read_faults held write_faults Frames old new status (inl r) = rw r.answer (listing_listed r.end)
-does_listed read_faults held write_faults Frames old new status (inr refused) = not_given_listed old new status refused
+pub does_listed : {S T : Type 0} (left : S → Option (List Turn)) (read_faults : S → ℕ) (held : T → Option (List ℕ)) (write_faults : T → ℕ) (form : Form) (old new : Seen S T) (status : ℕ)
+    → Does left read_faults held write_faults form old new status → Contains statuses status
+does_listed left read_faults held write_faults (SoloFixed class job) old new status (inl r) = rw r.answer (status_listed r.end)
+does_listed left read_faults held write_faults (SoloFixed class job) old new status (inr refused) = not_given_listed old new status refused
+does_listed left read_faults held write_faults Frames old new status (inl r) = rw r.answer (listing_listed r.end)
+does_listed left read_faults held write_faults Frames old new status (inr refused) = not_given_listed old new status refused
+
+-- a status other than those of a failed read and of a failed write
+fixed_reads : (e : FixedEnd) (n : ℕ) → (status_of e ≡ 4 → ⊥) → ReadStays (Some e) 0 n → n ≡ 0
+fixed_reads end.ReadFault n not_4 stays = absurd (not_4 refl)
+fixed_reads end.Done n not_4 stays = stays
+fixed_reads end.OtherFrame n not_4 stays = stays
+fixed_reads end.IdleOut n not_4 stays = stays
+fixed_reads end.BytesOut n not_4 stays = stays
+fixed_reads end.WriteFault n not_4 stays = stays
+fixed_reads end.Memory n not_4 stays = stays
+
+fixed_writes : (e : FixedEnd) (n : ℕ) → (status_of e ≡ 5 → ⊥) → WriteStays (Some e) 0 n → n ≡ 0
+fixed_writes end.WriteFault n not_5 stays = absurd (not_5 refl)
+fixed_writes end.Done n not_5 stays = stays
+fixed_writes end.OtherFrame n not_5 stays = stays
+fixed_writes end.IdleOut n not_5 stays = stays
+fixed_writes end.BytesOut n not_5 stays = stays
+fixed_writes end.ReadFault n not_5 stays = stays
+fixed_writes end.Memory n not_5 stays = stays
+
+listing_reads : (e : ListEnd) (n : ℕ) → (listing_status e ≡ 4 → ⊥) → listing.ReadStays (Some e) 0 n → n ≡ 0
+listing_reads list.ReadFault n not_4 stays = absurd (not_4 refl)
+listing_reads list.Done n not_4 stays = stays
+listing_reads list.BadFrame n not_4 stays = stays
+listing_reads list.IdleOut n not_4 stays = stays
+listing_reads list.BytesOut n not_4 stays = stays
+listing_reads list.WriteFault n not_4 stays = stays
+listing_reads list.Memory n not_4 stays = stays
+
+listing_writes : (e : ListEnd) (n : ℕ) → (listing_status e ≡ 5 → ⊥) → listing.WriteStays (Some e) 0 n → n ≡ 0
+listing_writes list.WriteFault n not_5 stays = absurd (not_5 refl)
+listing_writes list.Done n not_5 stays = stays
+listing_writes list.BadFrame n not_5 stays = stays
+listing_writes list.IdleOut n not_5 stays = stays
+listing_writes list.BytesOut n not_5 stays = stays
+listing_writes list.ReadFault n not_5 stays = stays
+listing_writes list.Memory n not_5 stays = stays
+
+module _ {S T : Type 0} (left : S → Option (List Turn)) (read_faults : S → ℕ) (held : T → Option (List ℕ)) (write_faults : T → ℕ) (old new : Seen S T) (status : ℕ)
+    (not_4 : status ≡ 4 → ⊥) (not_5 : status ≡ 5 → ⊥) (not_7 : status ≡ 7 → ⊥) (not_8 : status ≡ 8 → ⊥) where
+  was_given : NotGiven old new status → HasNotFailed read_faults write_faults old new
+  was_given refused = elim refused.cause [ inl memory ↦ absurd (not_8 memory) | inr failed ↦ absurd (not_7 failed.0) ]
+
+  -- what was done without such a status was done without a failure
+  pub has_not_failed : (form : Form) → Does left read_faults held write_faults form old new status → HasNotFailed read_faults write_faults old new
+  has_not_failed (SoloFixed class job) (inl r) = record {
+    source = r.source;
+    sink = r.sink;
+    sources = r.sources.back;
+    sinks = r.sinks.back;
+    reads = fixed_reads r.end (read_faults r.source) (λ is. not_4 (r.answer ∙ is)) r.reads;
+    writes = fixed_writes r.end (write_faults r.sink) (λ is. not_5 (r.answer ∙ is)) r.writes;
+    kept = r.kept;
+  }
+  has_not_failed Frames (inl r) = record {
+    source = r.source;
+    sink = r.sink;
+    sources = r.sources.back;
+    sinks = r.sinks.back;
+    reads = listing_reads r.end (read_faults r.source) (λ is. not_4 (r.answer ∙ is)) r.reads;
+    writes = listing_writes r.end (write_faults r.sink) (λ is. not_5 (r.answer ∙ is)) r.writes;
+    kept = r.kept;
+  }
+  has_not_failed (SoloFixed class job) (inr refused) = was_given refused
+  has_not_failed Frames (inr refused) = was_given refused
+
+-- the statuses of the ends that the input decides
+is_plain : (status : ℕ) → Contains (0 ∷ 3 ∷ 10 ∷ []) status → (status ≡ 0) ⊎ (status ≡ 3) ⊎ (status ≡ 10)
+is_plain status (zero, within, is) = inl (sym is)
+is_plain status (suc zero, within, is) = inr (inl (sym is))
+is_plain status (suc (suc zero), within, is) = inr (inr (sym is))
+is_plain status (suc (suc (suc i)), within, is) = absurd (omega (arith, within))
+
+-- and no other
+pub other_than : (status n : ℕ) → Contains (0 ∷ 3 ∷ 10 ∷ []) status → (n ≡ 0 → ⊥) → (n ≡ 3 → ⊥) → (n ≡ 10 → ⊥) → status ≡ n → ⊥
+other_than status n listed not_0 not_3 not_10 is =
+    elim (is_plain status listed) [
+      | inl done ↦ not_0 (sym is ∙ done)
+      | inr (inl other) ↦ not_3 (sym is ∙ other)
+      | inr (inr limit) ↦ not_10 (sym is ∙ limit)
+    ]
+
+-- a status of the host is that of nothing given
+fixed_not_7 : (e : FixedEnd) → status_of e ≡ 7 → ⊥
+fixed_not_7 end.Done is = omega (arith, is)
+fixed_not_7 end.OtherFrame is = omega (arith, is)
+fixed_not_7 end.IdleOut is = omega (arith, is)
+fixed_not_7 end.BytesOut is = omega (arith, is)
+fixed_not_7 end.ReadFault is = omega (arith, is)
+fixed_not_7 end.WriteFault is = omega (arith, is)
+fixed_not_7 end.Memory is = omega (arith, is)
+
+listing_not_7 : (e : ListEnd) → listing_status e ≡ 7 → ⊥
+listing_not_7 list.Done is = omega (arith, is)
+listing_not_7 list.BadFrame is = omega (arith, is)
+listing_not_7 list.IdleOut is = omega (arith, is)
+listing_not_7 list.BytesOut is = omega (arith, is)
+listing_not_7 list.ReadFault is = omega (arith, is)
+listing_not_7 list.WriteFault is = omega (arith, is)
+listing_not_7 list.Memory is = omega (arith, is)
+
+pub gave_none : {S T : Type 0} (left : S → Option (List Turn)) (read_faults : S → ℕ) (held : T → Option (List ℕ)) (write_faults : T → ℕ) (form : Form) (old new : Seen S T) (status : ℕ)
+    → Does left read_faults held write_faults form old new status → status ≡ 7 → HasNoSink old new
+gave_none left read_faults held write_faults (SoloFixed class job) old new status (inl r) is = absurd (fixed_not_7 r.end (sym r.answer ∙ is))
+gave_none left read_faults held write_faults Frames old new status (inl r) is = absurd (listing_not_7 r.end (sym r.answer ∙ is))
+gave_none left read_faults held write_faults (SoloFixed class job) old new status (inr refused) is = refused.none
+gave_none left read_faults held write_faults Frames old new status (inr refused) is = refused.none

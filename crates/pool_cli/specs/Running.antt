@@ -5,7 +5,7 @@ use Rattle.pool_io.specs.declared.turn.Turn.{Turn}
 use Rattle.pool_io.specs.Lending.{Lending}
 use Rattle.pool_io.specs.Outside.{Adds}
 use Rattle.pool_io.specs.Seen.{Seen}
-use Rattle.pool_io.specs.Steps.{Step, steps_of, IsIdleOut, IsBytesOut}
+use Rattle.pool_io.specs.Steps.{Step, steps_of, Brought, IsIdleOut, IsBytesOut}
 use Rattle.fixed_job.specs.declared.judge.Job.{Job}
 use Rattle.mining_msgs.specs.declared.shares.SubmitSharesStandard.{SubmitSharesStandard}
 use Rattle.fixed_job.specs.declared.command.FixedEnd.{FixedEnd}
@@ -13,15 +13,16 @@ use Rattle.fixed_job.specs.declared.command.FixedEnd.TheVariants.{Done, OtherFra
 use Rattle.pool_cli.specs.declared.words.Form.{Form}
 use Rattle.pool_cli.specs.declared.words.Form.TheVariants.{SoloFixed, Frames}
 use Rattle.pool_turns.specs.Limits.{bounds}
-use Rattle.fixed_job.specs.Reading.{IsWhole, Stops, ReachesLimit}
+use Rattle.fixed_job.specs.Reading.{GoesOn, IsWhole, Stops, ReachesLimit}
 use Rattle.sv2_frames.specs.Framing.{FrameValue}
 use Rattle.frame_listing.specs.declared.flaw.Flaw.{Flaw}
 use Rattle.frame_listing.specs.declared.command.ListEnd.{ListEnd}
 use Rattle.frame_listing.specs.declared.command.ListEnd.TheVariants as list
 use Rattle.frame_listing.specs.Reading as listed
 use Rattle.frame_listing.specs.Ending as listing
+use Rattle.frame_listing.specs.Lines.{lines_of}
 use Rattle.fixed_job.specs.Answers.{answers_to}
-use Rattle.fixed_job.specs.Ending.{Ran, EndsAs}
+use Rattle.fixed_job.specs.Ending.{Ran, EndsAs, ReadStays, WriteStays}
 
 -- the status of each end of a fixed job
 abbrev pub status_of : FixedEnd → ℕ
@@ -39,7 +40,7 @@ pub record CameBack {T : Type 0} (old new : Lending T) (item : T) : Type 0 where
   pub back : new.back ≡ old.back ++ item ∷ []
 
 -- A source and a sink were given, the job was judged from the one to the other, and both came back.
-pub record FixedRan {S T : Type 0} (read_faults : S → ℕ) (held : T → Option (List ℕ)) (write_faults : T → ℕ)
+pub record FixedRan {S T : Type 0} (left : S → Option (List Turn)) (read_faults : S → ℕ) (held : T → Option (List ℕ)) (write_faults : T → ℕ)
     (class : ℕ) (job : Job) (old new : Seen S T) (status : ℕ) : Type 0 where
   pub source : S
   pub sink : T
@@ -47,13 +48,16 @@ pub record FixedRan {S T : Type 0} (read_faults : S → ℕ) (held : T → Optio
   pub sinks : CameBack old.sinks new.sinks sink
   pub end : FixedEnd
   pub answer : status ≡ status_of end
-  pub ran : Ran class job old.input old.output (held sink) end
+  pub ran : Ran class job old.input (left source) old.output (held sink) end
   pub whole : (told : List Turn) (shares : List SubmitSharesStandard) → old.input ≡ Some told → IsWhole (steps_of told) shares → EndsAs Done end
   pub stops : (told : List Turn) (shares : List SubmitSharesStandard) → old.input ≡ Some told → Stops (steps_of told) shares → EndsAs OtherFrame end
   pub idle_out : (told : List Turn) (shares : List SubmitSharesStandard) → old.input ≡ Some told → ReachesLimit (IsIdleOut bounds) (steps_of told) shares → EndsAs IdleOut end
   pub bytes_out : (told : List Turn) (shares : List SubmitSharesStandard) → old.input ≡ Some told → ReachesLimit (IsBytesOut bounds) (steps_of told) shares → EndsAs BytesOut end
   pub read_fault : end ≡ ReadFault → Rose 0 (read_faults source)
   pub write_fault : end ≡ WriteFault → Rose 0 (write_faults sink)
+  pub reads : ReadStays (Some end) 0 (read_faults source)
+  pub writes : WriteStays (Some end) 0 (write_faults sink)
+  pub kept : new.faults ≡ old.faults
 
 -- no sink came back, since none was given
 abbrev pub HasNoSink : {S T : Type 0} → Seen S T → Seen S T → Type 0
@@ -77,7 +81,7 @@ listing_status list.IdleOut = 10
 listing_status list.BytesOut = 10
 
 -- A source and a sink were given, the frames of the one were listed in the other, and both came back.
-pub record FramesRan {S T : Type 0} (read_faults : S → ℕ) (held : T → Option (List ℕ)) (write_faults : T → ℕ)
+pub record FramesRan {S T : Type 0} (left : S → Option (List Turn)) (read_faults : S → ℕ) (held : T → Option (List ℕ)) (write_faults : T → ℕ)
     (old new : Seen S T) (status : ℕ) : Type 0 where
   pub source : S
   pub sink : T
@@ -85,19 +89,22 @@ pub record FramesRan {S T : Type 0} (read_faults : S → ℕ) (held : T → Opti
   pub sinks : CameBack old.sinks new.sinks sink
   pub end : ListEnd
   pub answer : status ≡ listing_status end
-  pub ran : listing.Ran old.input old.output (held sink) end
+  pub ran : listing.Ran old.input (left source) old.output (held sink) end
   pub whole : (told : List Turn) (frames : List FrameValue) → old.input ≡ Some told → listed.IsWhole (steps_of told) frames → listing.EndsAs list.Done end
   pub stops : (told : List Turn) (frames : List FrameValue) (flaw : Flaw) → old.input ≡ Some told → listed.Stops (steps_of told) frames flaw → listing.EndsAs list.BadFrame end
   pub idle_out : (told : List Turn) (frames : List FrameValue) → old.input ≡ Some told → listed.ReachesLimit (IsIdleOut bounds) (steps_of told) frames → listing.EndsAs list.IdleOut end
   pub bytes_out : (told : List Turn) (frames : List FrameValue) → old.input ≡ Some told → listed.ReachesLimit (IsBytesOut bounds) (steps_of told) frames → listing.EndsAs list.BytesOut end
   pub read_fault : end ≡ list.ReadFault → Rose 0 (read_faults source)
   pub write_fault : end ≡ list.WriteFault → Rose 0 (write_faults sink)
+  pub reads : listing.ReadStays (Some end) 0 (read_faults source)
+  pub writes : listing.WriteStays (Some end) 0 (write_faults sink)
+  pub kept : new.faults ≡ old.faults
 
 -- what the words asked for was done
-abbrev pub Does : {S T : Type 0} → (S → ℕ) → (T → Option (List ℕ)) → (T → ℕ) → Form → Seen S T → Seen S T → ℕ → Type 0
-Does read_faults held write_faults (SoloFixed class job) old new status =
-    FixedRan read_faults held write_faults class job old new status ⊎ NotGiven old new status
-Does read_faults held write_faults Frames old new status = FramesRan read_faults held write_faults old new status ⊎ NotGiven old new status
+abbrev pub Does : {S T : Type 0} → (S → Option (List Turn)) → (S → ℕ) → (T → Option (List ℕ)) → (T → ℕ) → Form → Seen S T → Seen S T → ℕ → Type 0
+Does left read_faults held write_faults (SoloFixed class job) old new status =
+    FixedRan left read_faults held write_faults class job old new status ⊎ NotGiven old new status
+Does left read_faults held write_faults Frames old new status = FramesRan left read_faults held write_faults old new status ⊎ NotGiven old new status
 
 -- the numbers of a form are within their limits
 abbrev pub IsWithinLimits : Form → Type 0
@@ -121,6 +128,15 @@ abbrev pub Told : (List Step → List SubmitSharesStandard → Type 0) → (List
 Told Ends Compare Gives class job input = (told : List Turn) → input ≡ Some told
     → (shares : List SubmitSharesStandard) × Ends (steps_of told) shares × (given : List ℕ) × Compare given (answers_to class job shares) × Gives given
 
+-- a source came back from which these steps were taken
+abbrev pub WasRead : {S T : Type 0} → (S → Option (List Turn)) → Seen S T → Seen S T → List Step → Type 0
+WasRead {S} {T} left old new taken = (source : S) × (new.sources.back ≡ old.sources.back ++ source ∷ []) × Brought old.input (left source) taken
+
+-- where standard input tells its turns: the steps that were taken bring some submissions, and the answers to them were given
+abbrev pub ToldOfRead : (List Step → Type 0) → (List ℕ → Type 0) → ℕ → Job → Option (List Turn) → Type 0
+ToldOfRead Reads Gives class job input = (told : List Turn) → input ≡ Some told
+    → (taken : List Step) × Reads taken × (shares : List SubmitSharesStandard) × GoesOn taken shares × Gives (answers_to class job shares)
+
 -- 36,000 Idle answers in a row, or 2^40 bytes
 abbrev pub ReachesEither : List Step → List SubmitSharesStandard → Type 0
 ReachesEither steps shares = ReachesLimit (IsIdleOut bounds) steps shares ⊎ ReachesLimit (IsBytesOut bounds) steps shares
@@ -131,22 +147,24 @@ Prints Ends Gives input = (told : List Turn) → input ≡ Some told → (given 
 
 -- what each status says of the steps and of the text
 abbrev pub PrintsDone : List Step → List ℕ → Type 0
-PrintsDone steps given = listing.EndsBy steps given list.Done
+PrintsDone steps given = listing.EndsBy steps steps given list.Done
 
 abbrev pub PrintsBad : List Step → List ℕ → Type 0
-PrintsBad steps given = listing.EndsBy steps given list.BadFrame
+PrintsBad steps given = listing.EndsBy steps steps given list.BadFrame
 
 abbrev pub PrintsLimit : List Step → List ℕ → Type 0
-PrintsLimit steps given = listing.EndsBy steps given list.IdleOut ⊎ listing.EndsBy steps given list.BytesOut
-
-abbrev pub PrintsReadFault : List Step → List ℕ → Type 0
-PrintsReadFault steps given = listing.EndsBy steps given list.ReadFault
+PrintsLimit steps given = listing.EndsBy steps steps given list.IdleOut ⊎ listing.EndsBy steps steps given list.BytesOut
 
 abbrev pub PrintsWriteFault : List Step → List ℕ → Type 0
-PrintsWriteFault steps given = listing.EndsBy steps given list.WriteFault
+PrintsWriteFault steps given = listing.EndsBy steps steps given list.WriteFault
 
 abbrev pub PrintsMemory : List Step → List ℕ → Type 0
-PrintsMemory steps given = listing.EndsBy steps given list.Memory
+PrintsMemory steps given = listing.EndsBy steps steps given list.Memory
+
+-- where standard input tells its turns: the steps that were taken are good frames, and their lines were given
+abbrev pub PrintsOfRead : (List Step → Type 0) → (List ℕ → Type 0) → Option (List Turn) → Type 0
+PrintsOfRead Reads Gives input = (told : List Turn) → input ≡ Some told
+    → (taken : List Step) × Reads taken × (frames : List FrameValue) × listed.GoesOn taken frames × Gives (lines_of frames)
 
 -- 36,000 Idle answers in a row, or 2^40 bytes, behind these good frames
 abbrev pub ListsToLimit : List Step → List FrameValue → Type 0
@@ -155,3 +173,13 @@ ListsToLimit steps frames = listed.ReachesLimit (IsIdleOut bounds) steps frames 
 -- the status is that of a fault or of want of memory
 abbrev pub IsFaultStatus : ℕ → Type 0
 IsFaultStatus status = (status ≡ 4) ⊎ (status ≡ 5) ⊎ (status ≡ 7) ⊎ (status ≡ 8)
+
+-- a source and a sink came back, and neither they nor the host have failed
+pub record HasNotFailed {S T : Type 0} (read_faults : S → ℕ) (write_faults : T → ℕ) (old new : Seen S T) : Type 0 where
+  pub source : S
+  pub sink : T
+  pub sources : new.sources.back ≡ old.sources.back ++ source ∷ []
+  pub sinks : new.sinks.back ≡ old.sinks.back ++ sink ∷ []
+  pub reads : read_faults source ≡ 0
+  pub writes : write_faults sink ≡ 0
+  pub kept : new.faults ≡ old.faults

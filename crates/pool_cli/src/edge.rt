@@ -25,7 +25,7 @@ impl<R: Read + Drop> ReadSource<R> {
 impl<R: Read + Drop> Source for ReadSource<R> {
     ghost use Rattle.std.specs.Prelude.{None, ◌<◌, ◌≤◌, length};
     ghost use Rattle.pool_base.specs.Counts.{Rose};
-    ghost use Rattle.pool_io.specs.Outside.{IsWithin, Takes};
+    ghost use Rattle.pool_io.specs.Outside.{IsWithin, TakeStays, Takes};
     ghost use Rattle.pool_cli.specs.Edges.{ReadsOn};
 
     ghost faults = { λ s. s.faults };
@@ -38,6 +38,7 @@ impl<R: Read + Drop> Source for ReadSource<R> {
         ensures turns { Takes None None result buffer.new }
         ensures later { self.old.faults ≤ self.new.faults }
         ensures cause { result ≡ Took.Failed → Rose self.old.faults self.new.faults }
+        ensures kept { TakeStays result self.old.faults self.new.faults }
 
         // Where the reader tells its bytes, they are those that come.
         ensures reads { ReadsOn (R.remaining self.old.reader) (R.remaining self.new.reader) result buffer.new }
@@ -72,10 +73,10 @@ impl<W: Write + Drop> WriteSink<W> {
 }
 
 impl<W: Write + Drop> Sink for WriteSink<W> {
-    ghost use Rattle.std.specs.Prelude.{None, ◌<◌, ◌≤◌, length, take, IfOk};
-    ghost use Rattle.std.specs.Io.KnownBytes.{Appends};
+    ghost use Rattle.std.specs.Prelude.{None, ◌<◌, ◌≤◌, length, take, IfOk, OnErr};
+    ghost use Rattle.std.specs.Io.KnownBytes.{Appends, Keeps};
     ghost use Rattle.pool_base.specs.Counts.{Rose};
-    ghost use Rattle.pool_io.specs.Outside.{Adds};
+    ghost use Rattle.pool_io.specs.Outside.{Adds, PutStays};
 
     ghost faults = { λ s. s.faults };
 
@@ -88,8 +89,10 @@ impl<W: Write + Drop> Sink for WriteSink<W> {
         ensures taken { IfOk result (λ n. Adds None None (take n piece.now)) }
         ensures later { self.old.faults ≤ self.new.faults }
         ensures cause { result ≡ Err SinkFailed.Failed → Rose self.old.faults self.new.faults }
+        ensures kept { PutStays result self.old.faults self.new.faults }
 
-        // Where the writer tells its bytes, it has those that were taken.
+        // Where the writer tells its bytes, it has those that were taken, and after a failure no more.
+        ensures unwritten { OnErr result (Keeps (W.contents self.old.writer) (W.contents self.new.writer)) }
         ensures writes { IfOk result (λ n. Appends (W.contents self.old.writer) (W.contents self.new.writer) (take n piece.now)) }
     {
         match self.writer.write(piece) {

@@ -7,13 +7,13 @@ ghost use Rattle.pool_io.specs.declared.turn.Turn.{Turn};
 ghost use Rattle.pool_io.specs.Steps.{steps_of};
 ghost use Rattle.mining_msgs.specs.declared.shares.SubmitSharesStandard.{SubmitSharesStandard};
 ghost use Rattle.fixed_job.specs.declared.judge.Job.{Job as Work};
-ghost use Rattle.fixed_job.specs.Ending.{Equal, HasBrought, HasSpelled};
+ghost use Rattle.fixed_job.specs.Ending.{Equal, HasSpelled};
 ghost use Rattle.fixed_job.specs.Reading.{IsWhole, Stops};
 ghost use Rattle.sv2_frames.specs.Framing.{FrameValue};
 ghost use Rattle.frame_listing.specs.declared.flaw.Flaw.{Flaw};
 ghost use Rattle.frame_listing.specs.Reading as listed;
 ghost use Rattle.pool_cli.specs.Forms.{IsSoloFixed, IsFrames, HasNoForm};
-ghost use Rattle.pool_cli.specs.Running.{FixedRan, FramesRan, Prints, PrintsDone, PrintsBad, PrintsLimit, PrintsReadFault, PrintsWriteFault, PrintsMemory, ListsToLimit, HasNoSink, NotGiven, Does, IsWithinLimits, Told, HandsBack, ReachesEither, ReadRose, WriteRose, IsFaultStatus};
+ghost use Rattle.pool_cli.specs.Running.{FixedRan, FramesRan, Prints, PrintsDone, PrintsBad, PrintsLimit, PrintsOfRead, PrintsWriteFault, PrintsMemory, ListsToLimit, WasRead, ToldOfRead, HasNoSink, HasNotFailed, NotGiven, Does, IsWithinLimits, Told, HandsBack, ReachesEither, ReadRose, WriteRose, IsFaultStatus};
 
 use crate::words::{Form, Word, form_of};
 use fixed_job::{FixedEnd, Job, judge_shares};
@@ -47,7 +47,7 @@ pub fn run<H: Host>(alloc: Global, host: &mut H, words: &[Word]) -> u8
 
     // 4: the sink has the answers to all that was read. 5: it has a front of the answers.
     ensures before_read_fault { (class : ℕ) (job : Work) → IsSoloFixed words.now class job → result ≡ 4
-        → Told HasBrought Equal (HandsBack H.T.held (H.seen host.old) (H.seen host.new)) class job (H.seen host.old).input }
+        → ToldOfRead (WasRead H.S.left (H.seen host.old) (H.seen host.new)) (HandsBack H.T.held (H.seen host.old) (H.seen host.new)) class job (H.seen host.old).input }
     ensures before_write_fault { (class : ℕ) (job : Work) → IsSoloFixed words.now class job → result ≡ 5
         → Told HasSpelled Begins (HandsBack H.T.held (H.seen host.old) (H.seen host.new)) class job (H.seen host.old).input }
 
@@ -75,7 +75,7 @@ pub fn run<H: Host>(alloc: Global, host: &mut H, words: &[Word]) -> u8
 
     // 4: the lines of all that was read. 5: a front of the text.
     ensures listed_read_fault { IsFrames words.now → result ≡ 4
-        → Prints PrintsReadFault (HandsBack H.T.held (H.seen host.old) (H.seen host.new)) (H.seen host.old).input }
+        → PrintsOfRead (WasRead H.S.left (H.seen host.old) (H.seen host.new)) (HandsBack H.T.held (H.seen host.old) (H.seen host.new)) (H.seen host.old).input }
     ensures listed_write_fault { IsFrames words.now → result ≡ 5
         → Prints PrintsWriteFault (HandsBack H.T.held (H.seen host.old) (H.seen host.new)) (H.seen host.old).input }
 
@@ -91,10 +91,14 @@ pub fn run<H: Host>(alloc: Global, host: &mut H, words: &[Word]) -> u8
     ensures is_listed_limit { (told : List Turn) (frames : List FrameValue) → IsFrames words.now
         → (H.seen host.old).input ≡ Some told → ListsToLimit (steps_of told) frames → (result ≡ 10) ⊎ IsFaultStatus result }
 
-    // A fault is told only where a count rose: the source's, the sink's, the host's.
+    // 7: no sink came back, since none was given.
+    ensures not_given { result ≡ 7 → HasNoSink (H.seen host.old) (H.seen host.new) }
+
+    // A fault is told only where a count rose: the source's, the sink's, the host's. With 0, 3 and 10 none did.
     ensures read_fault { result ≡ 4 → ReadRose H.S.faults (H.seen host.old) (H.seen host.new) }
     ensures write_fault { result ≡ 5 → WriteRose H.T.faults (H.seen host.old) (H.seen host.new) }
     ensures host_fault { result ≡ 7 → Rose (H.seen host.old).faults (H.seen host.new).faults }
+    ensures not_failed { Contains (0 ∷ 3 ∷ 10 ∷ []) result → HasNotFailed H.S.faults H.T.faults (H.seen host.old) (H.seen host.new) }
     ensures later { (H.seen host.old).faults ≤ (H.seen host.new).faults }
 
     // Everything that was given has come back, and there are no other statuses.
@@ -111,7 +115,7 @@ pub fn run<H: Host>(alloc: Global, host: &mut H, words: &[Word]) -> u8
 /// Does what a form asks for.
 fn perform<H: Host>(alloc: Global, host: &mut H, form: Form) -> u8
     requires { IsWithinLimits form }
-    ensures does { Does H.S.faults H.T.held H.T.faults form (H.seen host.old) (H.seen host.new) result }
+    ensures does { Does H.S.left H.S.faults H.T.held H.T.faults form (H.seen host.old) (H.seen host.new) result }
     ensures later { (H.seen host.old).faults ≤ (H.seen host.new).faults }
 {
     match form {
@@ -122,7 +126,7 @@ fn perform<H: Host>(alloc: Global, host: &mut H, form: Form) -> u8
 
 /// The command `frames` over standard input and output.
 fn frames<H: Host>(alloc: Global, host: &mut H) -> u8
-    ensures ran { FramesRan H.S.faults H.T.held H.T.faults (H.seen host.old) (H.seen host.new) result
+    ensures ran { FramesRan H.S.left H.S.faults H.T.held H.T.faults (H.seen host.old) (H.seen host.new) result
         ⊎ NotGiven (H.seen host.old) (H.seen host.new) result }
     ensures later { (H.seen host.old).faults ≤ (H.seen host.new).faults }
 {
@@ -146,7 +150,7 @@ fn frames<H: Host>(alloc: Global, host: &mut H) -> u8
 /// The command `solo fixed` over standard input and output.
 fn solo_fixed<H: Host>(alloc: Global, host: &mut H, class: u8, job: &Job) -> u8
     requires { class ≤ 60 }
-    ensures ran { FixedRan H.S.faults H.T.held H.T.faults class job.now (H.seen host.old) (H.seen host.new) result
+    ensures ran { FixedRan H.S.left H.S.faults H.T.held H.T.faults class job.now (H.seen host.old) (H.seen host.new) result
         ⊎ NotGiven (H.seen host.old) (H.seen host.new) result }
     ensures later { (H.seen host.old).faults ≤ (H.seen host.new).faults }
 {

@@ -1,9 +1,13 @@
 -- What one call does to what a source or a sink tells.
-use Rattle.std.specs.Prelude.{ℕ, ◌≡◌, ◌<◌, ◌≤◌, List, [], ◌∷◌, ◌++◌, length, take, drop, Option, Some, IfSome}
+use Rattle.std.specs.Prelude.{ℕ, ◌≡◌, ◌<◌, ◌≤◌, List, [], ◌∷◌, ◌++◌, length, take, drop, Option, Some, IfSome, Result, Ok, Err}
 use Rattle.pool_io.specs.declared.turn.Turn.{Turn}
 use Rattle.pool_io.specs.declared.turn.Turn.TheVariants as turn
 use Rattle.pool_io.specs.declared.source.Took.{Took}
 use Rattle.pool_io.specs.declared.source.Took.TheVariants.{Bytes, End, Idle, Failed}
+use Rattle.pool_io.specs.declared.sink.SinkFailed.{SinkFailed}
+use Rattle.pool_io.specs.declared.sink.SinkFailed.TheVariants as sink
+use Rattle.pool_io.specs.declared.host.HostError.{HostError}
+use Rattle.pool_io.specs.declared.host.HostError.TheVariants as host
 
 -- a count of bytes that was taken is from 1 to the room
 abbrev pub IsWithin : Took → ℕ → Type 0
@@ -45,3 +49,18 @@ Takes old new took buffer = IfSome old (λ turns. (left : List Turn) × (new ≡
 -- a sink that tells what it holds holds these bytes more
 abbrev pub Adds : Option (List ℕ) → Option (List ℕ) → List ℕ → Type 0
 Adds old new bytes = IfSome old (λ held. new ≡ Some (held ++ bytes))
+
+-- the count of a source's failures stays, but where it answers that it failed
+abbrev pub TakeStays : Took → ℕ → ℕ → Type 0
+TakeStays Failed before now = Unit {0}
+TakeStays _ before now = now ≡ before
+
+-- that of a sink's
+abbrev pub PutStays : {A : Type 0} → Result A SinkFailed → ℕ → ℕ → Type 0
+PutStays (Err sink.Failed) before now = Unit {0}
+PutStays _ before now = now ≡ before
+
+-- that of a host's
+abbrev pub GiveStays : {A : Type 0} → Result A HostError → ℕ → ℕ → Type 0
+GiveStays (Err host.Failed) before now = Unit {0}
+GiveStays _ before now = now ≡ before

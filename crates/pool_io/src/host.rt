@@ -1,7 +1,9 @@
-// What a program gets from the system that runs it.
+//! What a program gets from the system that runs it.
+
 ghost use Rattle.std.specs.Prelude.{◌≡◌, ◌<◌, ◌≤◌, ℕ, OnOk, OnErr, IfOk};
 ghost use Rattle.pool_base.specs.Counts.{Rose};
 ghost use Rattle.pool_io.specs.Lending.{lent_one, with_back};
+ghost use Rattle.pool_io.specs.Outside.{GiveStays};
 ghost use Rattle.pool_io.specs.Seen.{Seen};
 
 use crate::{Sink, Source};
@@ -34,7 +36,8 @@ pub trait Host {
         }) }
         ensures refused { OnErr result (seen self.new ≡ record (seen self.old) { faults = (seen self.new).faults }) }
         ensures later { (seen self.old).faults ≤ (seen self.new).faults }
-        ensures cause { result ≡ Err HostError.Failed → Rose (seen self.old).faults (seen self.new).faults };
+        ensures cause { result ≡ Err HostError.Failed → Rose (seen self.old).faults (seen self.new).faults }
+        ensures kept { GiveStays result (seen self.old).faults (seen self.new).faults };
 
     /// Standard output.
     fn output(&mut self) -> Result<Self::T, HostError>
@@ -46,7 +49,8 @@ pub trait Host {
         }) }
         ensures refused { OnErr result (seen self.new ≡ record (seen self.old) { faults = (seen self.new).faults }) }
         ensures later { (seen self.old).faults ≤ (seen self.new).faults }
-        ensures cause { result ≡ Err HostError.Failed → Rose (seen self.old).faults (seen self.new).faults };
+        ensures cause { result ≡ Err HostError.Failed → Rose (seen self.old).faults (seen self.new).faults }
+        ensures kept { GiveStays result (seen self.old).faults (seen self.new).faults };
 
     /// Takes a source back, without memory.
     fn done_source(&mut self, source: Self::S)

@@ -1,4 +1,5 @@
-// The outside in memory. Calls are numbered from 0, and those whose numbers are listed fail.
+//! The outside in memory. Calls are numbered from 0, and those whose numbers are listed fail.
+
 pub mod host;
 pub mod sink;
 pub mod source;

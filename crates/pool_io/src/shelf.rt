@@ -1,4 +1,5 @@
-// The place to which what was given out comes back.
+//! The place to which what was given out comes back.
+
 ghost use Rattle.std.specs.Prelude.{◌≡◌, ◌<◌, OnOk, OnErr, []};
 ghost use Rattle.pool_io.specs.Lending.{lent_one, with_back};
 

@@ -1,7 +1,8 @@
-// Where bytes go.
+//! Where bytes go.
+
 ghost use Rattle.std.specs.Prelude.{◌≡◌, ◌<◌, ◌≤◌, ℕ, List, Option, length, take, IfOk, OnErr};
 ghost use Rattle.pool_base.specs.Counts.{Rose};
-ghost use Rattle.pool_io.specs.Outside.{Adds};
+ghost use Rattle.pool_io.specs.Outside.{Adds, PutStays};
 
 use thiserror::Error;
 
@@ -29,5 +30,6 @@ pub trait Sink {
         ensures taken { IfOk result (λ n. Adds (held self.old) (held self.new) (take n piece.now)) }
         ensures refused { OnErr result (held self.new ≡ held self.old) }
         ensures later { faults self.old ≤ faults self.new }
-        ensures cause { result ≡ Err SinkFailed.Failed → Rose (faults self.old) (faults self.new) };
+        ensures cause { result ≡ Err SinkFailed.Failed → Rose (faults self.old) (faults self.new) }
+        ensures kept { PutStays result (faults self.old) (faults self.new) };
 }

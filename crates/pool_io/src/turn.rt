@@ -1,4 +1,5 @@
-// What a source brings, turn by turn.
+//! What a source brings, turn by turn.
+
 ghost use Rattle.std.specs.Prelude.{◌≡◌, ◌<◌, length};
 
 use std::marker::Model;

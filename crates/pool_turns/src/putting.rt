@@ -3,7 +3,7 @@
 ghost use Rattle.std.specs.Prelude.{◌≡◌, ◌≤◌, ℕ, List, OnOk, OnErr};
 ghost use Rattle.pool_base.specs.Counts.{Rose};
 ghost use Rattle.pool_base.specs.Lists.{Begins};
-ghost use Rattle.pool_io.specs.Outside.{Adds};
+ghost use Rattle.pool_io.specs.Outside.{Adds, PutStays};
 
 use pool_io::{Sink, SinkFailed};
 
@@ -13,6 +13,7 @@ pub fn put_all<T: Sink>(sink: &mut T, bytes: &[u8]) -> Result<(), SinkFailed>
     ensures err { OnErr result ((front : List ℕ) × Begins front bytes.now × Adds (T.held sink.old) (T.held sink.new) front) }
     ensures later { T.faults sink.old ≤ T.faults sink.new }
     ensures cause { result ≡ Err SinkFailed.Failed → Rose (T.faults sink.old) (T.faults sink.new) }
+    ensures kept { PutStays result (T.faults sink.old) (T.faults sink.new) }
 {
     let mut rest = bytes;
     while !rest.is_empty() {

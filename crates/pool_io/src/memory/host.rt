@@ -1,4 +1,5 @@
-// A host in memory.
+//! A host in memory.
+
 ghost use Rattle.std.specs.Prelude.{◌≡◌};
 
 use crate::{Host, HostError, MemSink, MemSource, Shelf, Turn};

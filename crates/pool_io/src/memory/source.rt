@@ -1,4 +1,5 @@
-// Sources over turns in memory.
+//! Sources over turns in memory.
+
 ghost use Rattle.std.specs.Prelude.{◌≡◌};
 
 use crate::{Source, Took, Turn};

@@ -1,4 +1,4 @@
-use Rattle.std.proofs.Common.{[], refl, arith}
+use Rattle.std.proofs.Common.{[], refl}
 use Rattle.pool_io.proofs.Stepping.{brought_none}
 use Rattle.pool_io.specs.Steps.{steps_of}
 use Rattle.frame_listing.proofs.Running.{memory_first}
@@ -13,30 +13,30 @@ loop-end-init g c = record {
     made = c.in-Ok.ensures.made (g.T.Sink.held c.args.sink.now);
   };
   below = c.in-Ok.ensures.below;
-  read_later = omega arith;
-  write_later = omega arith;
+  read_kept = refl;
+  write_kept = refl;
   room = refl;
 }
 
 pub returns-in-Some-clause-whole : goal.returns-in-Some-clause-whole
 returns-in-Some-clause-whole g c = λ told frames is whole.
     let ran = c.in-Some.ensures.goes (g.S.Source.left c.args.source.now) (g.T.Sink.held c.args.sink.now) c.loop-end.invariant.between in
-    whole_ends (steps_of told) ran.given frames c.in-Some.end (ran.ends told is) whole
+    whole_ends ran.taken (steps_of told) ran.given frames c.in-Some.end (ran.ends told is) whole
 
 pub returns-in-Some-clause-stops : goal.returns-in-Some-clause-stops
 returns-in-Some-clause-stops g c = λ told frames flaw is stops.
     let ran = c.in-Some.ensures.goes (g.S.Source.left c.args.source.now) (g.T.Sink.held c.args.sink.now) c.loop-end.invariant.between in
-    stops_ends (steps_of told) ran.given frames flaw c.in-Some.end (ran.ends told is) stops
+    stops_ends ran.taken (steps_of told) ran.given frames flaw c.in-Some.end (ran.ends told is) stops
 
 pub returns-in-Some-clause-idle_out : goal.returns-in-Some-clause-idle_out
 returns-in-Some-clause-idle_out g c = λ told frames is limit.
     let ran = c.in-Some.ensures.goes (g.S.Source.left c.args.source.now) (g.T.Sink.held c.args.sink.now) c.loop-end.invariant.between in
-    idle_ends (steps_of told) ran.given frames c.in-Some.end (ran.ends told is) limit
+    idle_ends ran.taken (steps_of told) ran.given frames c.in-Some.end (ran.ends told is) limit
 
 pub returns-in-Some-clause-bytes_out : goal.returns-in-Some-clause-bytes_out
 returns-in-Some-clause-bytes_out g c = λ told frames is limit.
     let ran = c.in-Some.ensures.goes (g.S.Source.left c.args.source.now) (g.T.Sink.held c.args.sink.now) c.loop-end.invariant.between in
-    bytes_ends (steps_of told) ran.given frames c.in-Some.end (ran.ends told is) limit
+    bytes_ends ran.taken (steps_of told) ran.given frames c.in-Some.end (ran.ends told is) limit
 
 pub returns-in_default-clause-ran : goal.returns-in_default-clause-ran
 returns-in_default-clause-ran g c = memory_first (g.S.Source.left c.args.source.now) (g.T.Sink.held c.args.sink.now)

@@ -1,4 +1,4 @@
-use Rattle.std.proofs.Common.{◌≡◌, ◌≤◌, length}
+use Rattle.std.proofs.Common.{◌≡◌, length}
 use Rattle.frame_listing.specs.Standing.{IsBetween, IsBelow, remaining}
 use Rattle.frame_listing.proofs.command.list_frames.Given as goal
 
@@ -6,8 +6,8 @@ abbrev pub invariant-loop-end : goal.invariant-loop-end
 invariant-loop-end g l = record {
   between : IsBetween (g.S.Source.left l.initial.source) (g.T.Sink.held l.initial.sink) (g.S.Source.left l.source) (g.T.Sink.held l.sink) l.command;
   below : IsBelow l.command;
-  read_later : g.S.Source.faults l.initial.source ≤ g.S.Source.faults l.source;
-  write_later : g.T.Sink.faults l.initial.sink ≤ g.T.Sink.faults l.sink;
+  read_kept : g.S.Source.faults l.source ≡ g.S.Source.faults l.initial.source;
+  write_kept : g.T.Sink.faults l.sink ≡ g.T.Sink.faults l.initial.sink;
   room : length l.buffer ≡ 4096;
 }
 

@@ -1,5 +1,5 @@
 use Rattle.std.proofs.Common.{inl, ◌∙◌}
-use Rattle.pool_cli.proofs.Hosting.{sources_back, sinks_back, same_output}
+use Rattle.pool_cli.proofs.Hosting.{sources_back, sinks_back, same_output, faults_kept}
 use Rattle.pool_cli.proofs.run.frames.Goals as goal
 
 pub returns-clause-ran : goal.returns-clause-ran
@@ -26,4 +26,7 @@ returns-clause-ran g c =
       bytes_out = λ told frames is. c.list_frames-end.ensures.bytes_out told frames (c.in-Ok.ensures.told ∙ is);
       read_fault = λ is. rw c.in-Ok.ensures.fresh at (c.list_frames-end.ensures.read_fault is);
       write_fault = λ is. rw c.in-Ok-output.ensures.fresh at (c.list_frames-end.ensures.write_fault is);
+      reads = rw c.in-Ok.ensures.fresh at c.list_frames-end.ensures.read_kept;
+      writes = rw c.in-Ok-output.ensures.fresh at c.list_frames-end.ensures.write_kept;
+      kept = faults_kept start first second third last c.list_frames-end.new.source c.list_frames-end.new.sink c.in-Ok.ensures.kept c.in-Ok-output.ensures.kept c.done_source-2.ensures c.done_sink.ensures;
     })

@@ -4,7 +4,7 @@ use Rattle.pool_turns.proofs.putting.put_all.Given as goal
 
 abbrev pub invariant-loop-rest : goal.invariant-loop-rest
 invariant-loop-rest g l = record {
-  later : g.T.Sink.faults l.initial.sink ≤ g.T.Sink.faults l.sink;
+  kept : g.T.Sink.faults l.sink ≡ g.T.Sink.faults l.initial.sink;
   put : (front : List ℕ) × (front ++ l.rest ≡ l.bytes) × Adds (g.T.Sink.held l.initial.sink) (g.T.Sink.held l.sink) front;
 }
 

@@ -1,7 +1,7 @@
-use Rattle.std.proofs.Common.{◌≤◌, length, drop}
+use Rattle.std.proofs.Common.{◌≤◌, length, drop, Some, refl}
 use Rattle.std.proofs.lemmas.List.{take-append-le}
 use Rattle.pool_io.proofs.Stepping.{brought_bytes, brought_idle}
-use Rattle.fixed_job.proofs.Running.{turns_to, turns_to_end}
+use Rattle.fixed_job.proofs.Running.{turns_to, turns_to_end, turns_to_fault, read_stays, write_stays}
 use Rattle.fixed_job.proofs.command.Command.turn.Goals as goal
 
 pub returns-in-Bytes-clause-goes : goal.returns-in-Bytes-clause-goes
@@ -21,3 +21,22 @@ pub returns-in-End-clause-goes : goal.returns-in-End-clause-goes
 returns-in-End-clause-goes g c = λ turns before between.
     turns_to_end turns before _ _ (g.T.Sink.held c.args.sink.now) between.steps c.take.new.buffer c.args.self.now c.end.result between.brought c.in-End.ensures.turns between.made
     (c.end.ensures.ends before (g.T.Sink.held c.args.sink.now) between.steps between.made)
+
+pub returns-in-Failed-clause-goes : goal.returns-in-Failed-clause-goes
+returns-in-Failed-clause-goes g c = λ turns before between.
+    turns_to_fault turns before _ _ (g.T.Sink.held c.args.sink.now) between.steps c.take.new.buffer c.args.self.now between.brought c.in-Failed.ensures.turns between.made
+
+pub returns-in-Bytes-clause-read_kept : goal.returns-in-Bytes-clause-read_kept
+returns-in-Bytes-clause-read_kept g c = read_stays c.bytes.result _ _ c.in-Bytes.ensures.kept
+
+pub returns-in-Idle-clause-read_kept : goal.returns-in-Idle-clause-read_kept
+returns-in-Idle-clause-read_kept g c = read_stays c.idle.result _ _ c.in-Idle.ensures.kept
+
+pub returns-in-Idle-clause-write_kept : goal.returns-in-Idle-clause-write_kept
+returns-in-Idle-clause-write_kept g c = write_stays c.idle.result _ _ refl
+
+pub returns-in-End-clause-read_kept : goal.returns-in-End-clause-read_kept
+returns-in-End-clause-read_kept g c = read_stays (Some c.end.result) _ _ c.in-End.ensures.kept
+
+pub returns-in-End-clause-write_kept : goal.returns-in-End-clause-write_kept
+returns-in-End-clause-write_kept g c = write_stays (Some c.end.result) _ _ refl
