@@ -9,6 +9,7 @@ use Rattle.pool_io.proofs.Stepping.{bytes_in-more, bytes_in-idle, idles_after-mo
 use Rattle.pool_turns.specs.Limits.{bounds}
 use Rattle.pool_turns.proofs.Fronts.{free_none, cut_at}
 use Rattle.pool_turns.proofs.Puts.{Adds-none, Adds-more}
+use Rattle.pool_turns.proofs.Staying.{brought_at_end, brought_at_failure}
 use Rattle.mining_msgs.specs.declared.shares.SubmitSharesStandard.{SubmitSharesStandard}
 use Rattle.fixed_job.specs.declared.stream.Stream.{Stream}
 use Rattle.fixed_job.specs.declared.command.Command.{Command}
@@ -271,13 +272,6 @@ turns_to (Some turns) before left now steps command (Some end) brought leaves = 
       rw (← same, brought.2) (leaves.ends (steps_of brought.0));
 }
 
--- the end of the input leaves the turns as they are
-still_brought : (turns old left : Option (List Turn)) (steps : List Step) (buffer : List ℕ) → Brought turns old steps → Takes old left took.End buffer → Brought turns left steps
-still_brought None old left steps buffer brought takes = tt
-still_brought (Some turns) old left steps buffer brought takes =
-    let ended = rw brought.1 at takes in
-    (brought.0, ended.1 ∙ ap Some ended.2.1, brought.2)
-
 -- the end of the input
 pub turns_to_end : (turns : Option (List Turn)) (before : Option (List ℕ)) (old left : Option (List Turn)) (now : Option (List ℕ)) (steps : List Step) (buffer : List ℕ) (command : Command)
     (result : FixedEnd) → Brought turns old steps → Takes old left took.End buffer → (made : Made before now steps command)
@@ -287,7 +281,7 @@ turns_to_end None before old left now steps buffer command result brought takes 
     record { taken = steps; brought = tt; given = made.given; put = made.put; ends = λ told is. cc }
 turns_to_end (Some turns) before old left now steps buffer command result brought takes made ends = record {
   taken = steps;
-  brought = still_brought (Some turns) old left steps buffer brought takes;
+  brought = brought_at_end (Some turns) old left steps buffer brought takes;
   given = made.given;
   put = made.put;
   ends = λ told is.
@@ -302,10 +296,9 @@ pub turns_to_fault : (turns : Option (List Turn)) (before : Option (List ℕ)) (
 turns_to_fault None before old left now steps buffer command brought takes made =
     record { taken = steps; brought = tt; given = made.given; put = made.put; ends = λ told is. cc }
 turns_to_fault (Some turns) before old left now steps buffer command brought takes made =
-    let failed = rw brought.1 at takes in
     record {
       taken = steps;
-      brought = (brought.0, failed.1 ∙ ap Some failed.2, brought.2);
+      brought = brought_at_failure (Some turns) old left steps buffer brought takes;
       given = made.given;
       put = made.put;
       ends = λ told is. (

@@ -9,6 +9,7 @@ use Rattle.pool_io.proofs.Stepping.{bytes_in-more, bytes_in-idle, idles_after-mo
 use Rattle.pool_turns.specs.Limits.{bounds}
 use Rattle.pool_turns.proofs.Fronts.{free_none, cut_at}
 use Rattle.pool_turns.proofs.Puts.{Adds-none, Adds-more}
+use Rattle.pool_turns.proofs.Staying.{brought_at_end, brought_at_failure}
 use Rattle.frame_listing.specs.declared.flaw.Flaw.TheVariants.{Cut}
 use Rattle.frame_listing.specs.declared.lister.Lister.{Lister}
 use Rattle.frame_listing.specs.declared.command.Command.{Command}
@@ -337,21 +338,13 @@ pub fault_to : (turns : Option (List Turn)) (before : Option (List ℕ)) (old le
 fault_to None before old left now steps buffer brought takes leaves =
     record { taken = steps; brought = tt; given = leaves.given; put = leaves.put; ends = λ told is. cc }
 fault_to (Some turns) before old left now steps buffer brought takes leaves =
-    let failed = rw brought.1 at takes in
     record {
       taken = steps;
-      brought = (brought.0, failed.1 ∙ ap Some failed.2, brought.2);
+      brought = brought_at_failure (Some turns) old left steps buffer brought takes;
       given = leaves.given;
       put = leaves.put;
       ends = λ told is. leaves.ends [];
     }
-
--- the end of the input leaves the turns as they are
-still_brought : (turns old left : Option (List Turn)) (steps : List Step) (buffer : List ℕ) → Brought turns old steps → Takes old left took.End buffer → Brought turns left steps
-still_brought None old left steps buffer brought takes = tt
-still_brought (Some turns) old left steps buffer brought takes =
-    let ended = rw brought.1 at takes in
-    (brought.0, ended.1 ∙ ap Some ended.2.1, brought.2)
 
 -- the end of the input
 pub turns_to_end : (turns : Option (List Turn)) (before : Option (List ℕ)) (old left : Option (List Turn)) (now : Option (List ℕ)) (steps : List Step) (buffer : List ℕ)
@@ -360,7 +353,7 @@ turns_to_end None before old left now steps buffer result brought takes ends =
     record { taken = steps; brought = tt; given = ends.given; put = ends.put; ends = λ told is. cc }
 turns_to_end (Some turns) before old left now steps buffer result brought takes ends = record {
   taken = steps;
-  brought = still_brought (Some turns) old left steps buffer brought takes;
+  brought = brought_at_end (Some turns) old left steps buffer brought takes;
   given = ends.given;
   put = ends.put;
   ends = λ told is.

@@ -1,6 +1,6 @@
 //! The edge: standard input and output as a source and a sink. The real ones tell nothing of what they bring or hold.
 
-ghost use Rattle.std.specs.Prelude.{◌≡◌};
+ghost use Rattle.std.specs.Prelude.{◌≡◌, []};
 
 use pool_io::{Host, HostError, Shelf, Sink, SinkFailed, Source, Took};
 use std::alloc::Global;
@@ -115,7 +115,11 @@ pub struct StreamHost<R: Read + Copy + Drop, W: Write + Copy + Drop> {
 }
 
 impl<R: Read + Copy + Drop, W: Write + Copy + Drop> StreamHost<R, W> {
-    pub fn new(alloc: Global, input: R, output: W) -> StreamHost<R, W> {
+    /// A host that has given nothing.
+    pub fn new(alloc: Global, input: R, output: W) -> StreamHost<R, W>
+        ensures sources { result.sources ≡ record { lent = 0; back = [] } }
+        ensures sinks { result.sinks ≡ record { lent = 0; back = [] } }
+    {
         StreamHost {
             input,
             output,
