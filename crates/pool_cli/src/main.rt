@@ -1,6 +1,9 @@
 //! The program: the words of the command line, the top call `run`, and the adapters of the real system.
 #![tactic(auto)]
 
+ghost use Rattle.std.specs.Prelude.{◌≡◌, IfOk, map, drop, string_bytes};
+ghost use Rattle.std.specs.Vec.Iter.{into_iter_items};
+
 mod edge;
 mod run;
 #[cfg(test)]
@@ -9,7 +12,8 @@ mod words;
 
 use edge::StreamHost;
 use run::{MEMORY, USAGE, run};
-use std::alloc::AllocError;
+use std::alloc::{AllocError, Global};
+use std::env::Args;
 use std::process::ExitCode;
 use std::rt::Env;
 use std::{env, io};
@@ -17,9 +21,17 @@ use words::Word;
 
 /// The words after the program's name.
 fn words_of<R: Env + AllocGlobal>(rt: &R) -> io::Result<Vec<Word>> {
-    let mut words = Vec::new(rt.alloc());
-    for text in env::args(rt)?.skip(1) {
-        words.push(Word::of(text)).map_err(AllocError::from)?;
+    Ok(words_behind_name(rt.alloc(), env::args(rt)?)?)
+}
+
+/// The texts behind the first, as words.
+fn words_behind_name(alloc: Global, mut texts: Args) -> Result<Vec<Word>, AllocError>
+    ensures { IfOk result (λ words. words.items ≡ map string_bytes (drop 1 (into_iter_items texts))) }
+{
+    let _name = texts.next();
+    let mut words = Vec::new(alloc);
+    for text in texts {
+        words.push(Word::of(text))?;
     }
     Ok(words)
 }
