@@ -60,8 +60,8 @@ module _ (class : ℕ) (job : Job) (taken steps : List Step) (given : List ℕ) 
   pub whole_ends : (result : FixedEnd) → EndsBy class job taken steps given result → IsWhole steps shares → EndsAs end.Done result
   whole_ends end.Done ends whole = inl refl
   whole_ends end.OtherFrame ends whole = absurd (whole_stops steps shares ends.0 whole ends.1)
-  whole_ends end.IdleOut ends whole = absurd (whole_limit (IsIdleOut bounds) at_idle steps shares ends.0 whole ends.1)
-  whole_ends end.BytesOut ends whole = absurd (whole_limit (IsBytesOut bounds) at_bytes steps shares ends.0 whole ends.1)
+  whole_ends end.IdleOut ends whole = absurd (whole_limit (IsIdleOut bounds) at_idle steps shares ends.0.0 whole ends.0.1)
+  whole_ends end.BytesOut ends whole = absurd (whole_limit (IsBytesOut bounds) at_bytes steps shares ends.0.0 whole ends.0.1)
   whole_ends end.ReadFault ends whole = inr tt
   whole_ends end.WriteFault ends whole = inr tt
   whole_ends end.Memory ends whole = inr tt
@@ -69,8 +69,8 @@ module _ (class : ℕ) (job : Job) (taken steps : List Step) (given : List ℕ) 
   pub stops_ends : (result : FixedEnd) → EndsBy class job taken steps given result → Stops steps shares → EndsAs end.OtherFrame result
   stops_ends end.Done ends stops = absurd (whole_stops steps ends.0 shares ends.1 stops)
   stops_ends end.OtherFrame ends stops = inl refl
-  stops_ends end.IdleOut ends stops = absurd (stops_limit (IsIdleOut bounds) at_idle steps shares ends.0 stops ends.1)
-  stops_ends end.BytesOut ends stops = absurd (stops_limit (IsBytesOut bounds) at_bytes steps shares ends.0 stops ends.1)
+  stops_ends end.IdleOut ends stops = absurd (stops_limit (IsIdleOut bounds) at_idle steps shares ends.0.0 stops ends.0.1)
+  stops_ends end.BytesOut ends stops = absurd (stops_limit (IsBytesOut bounds) at_bytes steps shares ends.0.0 stops ends.0.1)
   stops_ends end.ReadFault ends stops = inr tt
   stops_ends end.WriteFault ends stops = inr tt
   stops_ends end.Memory ends stops = inr tt
@@ -79,7 +79,7 @@ module _ (class : ℕ) (job : Job) (taken steps : List Step) (given : List ℕ) 
   idle_ends end.Done ends limit = absurd (whole_limit (IsIdleOut bounds) at_idle steps ends.0 shares ends.1 limit)
   idle_ends end.OtherFrame ends limit = absurd (stops_limit (IsIdleOut bounds) at_idle steps ends.0 shares ends.1 limit)
   idle_ends end.IdleOut ends limit = inl refl
-  idle_ends end.BytesOut ends limit = absurd (idle_bytes steps shares ends.0 limit ends.1)
+  idle_ends end.BytesOut ends limit = absurd (idle_bytes steps shares ends.0.0 limit ends.0.1)
   idle_ends end.ReadFault ends limit = inr tt
   idle_ends end.WriteFault ends limit = inr tt
   idle_ends end.Memory ends limit = inr tt
@@ -87,7 +87,7 @@ module _ (class : ℕ) (job : Job) (taken steps : List Step) (given : List ℕ) 
   pub bytes_ends : (result : FixedEnd) → EndsBy class job taken steps given result → ReachesLimit (IsBytesOut bounds) steps shares → EndsAs end.BytesOut result
   bytes_ends end.Done ends limit = absurd (whole_limit (IsBytesOut bounds) at_bytes steps ends.0 shares ends.1 limit)
   bytes_ends end.OtherFrame ends limit = absurd (stops_limit (IsBytesOut bounds) at_bytes steps ends.0 shares ends.1 limit)
-  bytes_ends end.IdleOut ends limit = absurd (idle_bytes steps ends.0 shares ends.1 limit)
+  bytes_ends end.IdleOut ends limit = absurd (idle_bytes steps ends.0.0 shares ends.0.1 limit)
   bytes_ends end.BytesOut ends limit = inl refl
   bytes_ends end.ReadFault ends limit = inr tt
   bytes_ends end.WriteFault ends limit = inr tt

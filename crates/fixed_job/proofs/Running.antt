@@ -4,7 +4,7 @@ use Rattle.pool_base.specs.Lists.{Begins}
 use Rattle.pool_io.specs.declared.turn.Turn.{Turn}
 use Rattle.pool_io.specs.declared.source.Took.TheVariants as took
 use Rattle.pool_io.specs.Outside.{Adds, Takes}
-use Rattle.pool_io.specs.Steps.{Step, bytes_in, steps_of, idles_after, Brought}
+use Rattle.pool_io.specs.Steps.{Step, bytes_in, steps_of, idles_after, IsIdleOut, IsBytesOut, Brought}
 use Rattle.pool_io.proofs.Stepping.{bytes_in-more, bytes_in-idle, idles_after-more, idles_after-idle, free_bytes, free_idle, within_limits, brought_none, brought_all}
 use Rattle.pool_turns.specs.Limits.{bounds}
 use Rattle.pool_turns.proofs.Fronts.{free_none, cut_at}
@@ -162,24 +162,30 @@ module _ (before now after : Option (List ℕ)) (steps : List Step) (piece : Lis
 
   module _ (stands : Stands (bytes_in steps ++ piece) made.given new) where
     pub bytes_leave : length (bytes_in steps) + length piece ≡ 2 ^ 40 → Leaves new.judge.class new.judge.job before after (steps ++ map Some piece) end.BytesOut
-    bytes_leave all = record {
-      given = made.given ++ new.answers.items;
-      put = Adds-more before now after made.given new.answers.items made.put put;
-      ends = λ rest. (
-        stands.shares,
+    bytes_leave all =
+        let reached : IsBytesOut bounds (steps ++ map Some piece) = omega (arith, all, ap length (bytes_in-more steps piece), length-append (bytes_in steps) piece) in
+        let free = free_bytes bounds steps made.free piece (omega arith) room_left in
         record {
-          front = steps ++ map Some piece;
-          rest = rest;
-          split = refl;
-          reached = omega (arith, all, ap length (bytes_in-more steps piece), length-append (bytes_in steps) piece);
-          held = new.splitter.held;
-          spelled = rw (bytes_in-more steps piece) stands.spelled;
-          partial = stands.partial;
-          free = free_bytes bounds steps made.free piece (omega arith) room_left;
-        },
-        stands.answered,
-      );
-    }
+          given = made.given ++ new.answers.items;
+          put = Adds-more before now after made.given new.answers.items made.put put;
+          ends = λ rest. (
+            (
+              stands.shares,
+              record {
+                front = steps ++ map Some piece;
+                rest = rest;
+                split = refl;
+                reached = reached;
+                held = new.splitter.held;
+                spelled = rw (bytes_in-more steps piece) stands.spelled;
+                partial = stands.partial;
+                free = free;
+              },
+              stands.answered,
+            ),
+            (reached, free),
+          );
+        }
 
     pub made_more : (command : Command) → length (bytes_in steps) + length piece < 2 ^ 40
         → command.stream.splitter ≡ new.splitter → command.stream.judge ≡ new.judge → command.stream.answers.items ≡ []
@@ -218,24 +224,29 @@ all_answered before now steps old made =
 module _ (before now : Option (List ℕ)) (steps : List Step) (old : Command) (made : Made before now steps old) where
   -- the last of the Idle answers
   pub idle_leaves : old.idles + 1 ≡ 36000 → Leaves old.stream.judge.class old.stream.judge.job before now (steps ++ None ∷ []) end.IdleOut
-  idle_leaves last = record {
-    given = made.given;
-    put = made.put;
-    ends = λ rest. (
-      made.stands.shares,
+  idle_leaves last =
+      let reached : IsIdleOut bounds (steps ++ None ∷ []) = omega (arith, last, made.idles, idles_after-idle steps) in
       record {
-        front = steps ++ None ∷ [];
-        rest = rest;
-        split = refl;
-        reached = omega (arith, last, made.idles, idles_after-idle steps);
-        held = old.stream.splitter.held;
-        spelled = rw (bytes_in-idle steps) made.stands.spelled;
-        partial = made.stands.partial;
-        free = free_idle bounds steps made.free;
-      },
-      all_answered before now steps old made,
-    );
-  }
+        given = made.given;
+        put = made.put;
+        ends = λ rest. (
+          (
+            made.stands.shares,
+            record {
+              front = steps ++ None ∷ [];
+              rest = rest;
+              split = refl;
+              reached = reached;
+              held = old.stream.splitter.held;
+              spelled = rw (bytes_in-idle steps) made.stands.spelled;
+              partial = made.stands.partial;
+              free = free_idle bounds steps made.free;
+            },
+            all_answered before now steps old made,
+          ),
+          (reached, free_idle bounds steps made.free),
+        );
+      }
 
   -- an Idle answer that isn't the last
   pub made_idle : (new : Command) → new.stream ≡ old.stream → new.taken ≡ old.taken → new.idles ≡ old.idles + 1 → old.idles + 1 < 36000 → old.taken < 2 ^ 40

@@ -10,7 +10,7 @@ use Rattle.fixed_job.specs.declared.command.FixedEnd.{FixedEnd}
 use Rattle.fixed_job.specs.declared.command.FixedEnd.TheVariants.{Done, OtherFrame, IdleOut, BytesOut, ReadFault, WriteFault, Memory}
 use Rattle.fixed_job.specs.Answers.{answers_to}
 use Rattle.fixed_job.specs.Submitting.{Spell}
-use Rattle.pool_turns.specs.Limits.{bounds}
+use Rattle.pool_turns.specs.Limits.{bounds, JustReaches}
 use Rattle.fixed_job.specs.Reading.{GoesOn, IsWhole, Stops, ReachesLimit}
 
 -- the bytes of a front of the steps are the frames of these submissions, and then others
@@ -28,8 +28,8 @@ Equal given answers = given ≡ answers
 abbrev pub EndsBy : ℕ → Job → List Step → List Step → List ℕ → FixedEnd → Type 0
 EndsBy class job taken steps given Done = Answers IsWhole Equal class job steps given
 EndsBy class job taken steps given OtherFrame = Answers Stops Equal class job steps given
-EndsBy class job taken steps given IdleOut = Answers (ReachesLimit (IsIdleOut bounds)) Equal class job steps given
-EndsBy class job taken steps given BytesOut = Answers (ReachesLimit (IsBytesOut bounds)) Equal class job steps given
+EndsBy class job taken steps given IdleOut = Answers (ReachesLimit (IsIdleOut bounds)) Equal class job steps given × JustReaches (IsIdleOut bounds) taken
+EndsBy class job taken steps given BytesOut = Answers (ReachesLimit (IsBytesOut bounds)) Equal class job steps given × JustReaches (IsBytesOut bounds) taken
 EndsBy class job taken steps given ReadFault = Answers GoesOn Equal class job taken given
 EndsBy class job taken steps given WriteFault = Answers HasSpelled Begins class job steps given
 EndsBy class job taken steps given Memory = Answers HasSpelled Begins class job steps given

@@ -55,8 +55,8 @@ module _ (taken steps : List Step) (given : List ℕ) (frames : List FrameValue)
   pub whole_ends : (result : ListEnd) → EndsBy taken steps given result → IsWhole steps frames → EndsAs end.Done result
   whole_ends end.Done ends whole = inl refl
   whole_ends end.BadFrame ends whole = absurd (whole_stops steps frames ends.0 ends.1 whole ends.2)
-  whole_ends end.IdleOut ends whole = absurd (whole_limit (IsIdleOut bounds) at_idle steps frames ends.0 whole ends.1)
-  whole_ends end.BytesOut ends whole = absurd (whole_limit (IsBytesOut bounds) at_bytes steps frames ends.0 whole ends.1)
+  whole_ends end.IdleOut ends whole = absurd (whole_limit (IsIdleOut bounds) at_idle steps frames ends.0.0 whole ends.0.1)
+  whole_ends end.BytesOut ends whole = absurd (whole_limit (IsBytesOut bounds) at_bytes steps frames ends.0.0 whole ends.0.1)
   whole_ends end.ReadFault ends whole = inr tt
   whole_ends end.WriteFault ends whole = inr tt
   whole_ends end.Memory ends whole = inr tt
@@ -64,8 +64,8 @@ module _ (taken steps : List Step) (given : List ℕ) (frames : List FrameValue)
   pub stops_ends : (flaw : Flaw) (result : ListEnd) → EndsBy taken steps given result → Stops steps frames flaw → EndsAs end.BadFrame result
   stops_ends flaw end.Done ends stops = absurd (whole_stops steps ends.0 frames flaw ends.1 stops)
   stops_ends flaw end.BadFrame ends stops = inl refl
-  stops_ends flaw end.IdleOut ends stops = absurd (stops_limit (IsIdleOut bounds) at_idle steps frames ends.0 flaw stops ends.1)
-  stops_ends flaw end.BytesOut ends stops = absurd (stops_limit (IsBytesOut bounds) at_bytes steps frames ends.0 flaw stops ends.1)
+  stops_ends flaw end.IdleOut ends stops = absurd (stops_limit (IsIdleOut bounds) at_idle steps frames ends.0.0 flaw stops ends.0.1)
+  stops_ends flaw end.BytesOut ends stops = absurd (stops_limit (IsBytesOut bounds) at_bytes steps frames ends.0.0 flaw stops ends.0.1)
   stops_ends flaw end.ReadFault ends stops = inr tt
   stops_ends flaw end.WriteFault ends stops = inr tt
   stops_ends flaw end.Memory ends stops = inr tt
@@ -74,7 +74,7 @@ module _ (taken steps : List Step) (given : List ℕ) (frames : List FrameValue)
   idle_ends end.Done ends limit = absurd (whole_limit (IsIdleOut bounds) at_idle steps ends.0 frames ends.1 limit)
   idle_ends end.BadFrame ends limit = absurd (stops_limit (IsIdleOut bounds) at_idle steps ends.0 frames ends.1 ends.2 limit)
   idle_ends end.IdleOut ends limit = inl refl
-  idle_ends end.BytesOut ends limit = absurd (idle_bytes steps frames ends.0 limit ends.1)
+  idle_ends end.BytesOut ends limit = absurd (idle_bytes steps frames ends.0.0 limit ends.0.1)
   idle_ends end.ReadFault ends limit = inr tt
   idle_ends end.WriteFault ends limit = inr tt
   idle_ends end.Memory ends limit = inr tt
@@ -82,7 +82,7 @@ module _ (taken steps : List Step) (given : List ℕ) (frames : List FrameValue)
   pub bytes_ends : (result : ListEnd) → EndsBy taken steps given result → ReachesLimit (IsBytesOut bounds) steps frames → EndsAs end.BytesOut result
   bytes_ends end.Done ends limit = absurd (whole_limit (IsBytesOut bounds) at_bytes steps ends.0 frames ends.1 limit)
   bytes_ends end.BadFrame ends limit = absurd (stops_limit (IsBytesOut bounds) at_bytes steps ends.0 frames ends.1 ends.2 limit)
-  bytes_ends end.IdleOut ends limit = absurd (idle_bytes steps ends.0 frames ends.1 limit)
+  bytes_ends end.IdleOut ends limit = absurd (idle_bytes steps ends.0.0 frames ends.0.1 limit)
   bytes_ends end.BytesOut ends limit = inl refl
   bytes_ends end.ReadFault ends limit = inr tt
   bytes_ends end.WriteFault ends limit = inr tt

@@ -4,7 +4,7 @@ use Rattle.pool_base.specs.Lists.{Begins}
 use Rattle.pool_io.specs.declared.turn.Turn.{Turn}
 use Rattle.pool_io.specs.declared.source.Took.TheVariants as took
 use Rattle.pool_io.specs.Outside.{Adds, Takes}
-use Rattle.pool_io.specs.Steps.{Step, bytes_in, steps_of, idles_after, Brought}
+use Rattle.pool_io.specs.Steps.{Step, bytes_in, steps_of, idles_after, IsIdleOut, IsBytesOut, Brought}
 use Rattle.pool_io.proofs.Stepping.{bytes_in-more, bytes_in-idle, idles_after-more, idles_after-idle, free_bytes, free_idle, within_limits, brought_none, brought_all}
 use Rattle.pool_turns.specs.Limits.{bounds}
 use Rattle.pool_turns.proofs.Fronts.{free_none, cut_at}
@@ -132,24 +132,30 @@ module _ (before now : Option (List ℕ)) (steps : List Step) (piece : List ℕ)
 
     module _ (some : 0 < length piece) (stands : Stands (bytes_in steps ++ piece) made.given new) where
       pub bytes_leave : length (bytes_in steps) + length piece ≡ 2 ^ 40 → Leaves before after (steps ++ map Some piece) end.BytesOut
-      bytes_leave all = record {
-        given = made.given ++ new.text.items;
-        put = Adds-more before now after made.given new.text.items made.put put;
-        ends = λ rest. (
-          stands.frames,
+      bytes_leave all =
+          let reached : IsBytesOut bounds (steps ++ map Some piece) = omega (arith, all, ap length (bytes_in-more steps piece), length-append (bytes_in steps) piece) in
+          let free = free_bytes bounds steps made.free piece (omega arith) room_left in
           record {
-            front = steps ++ map Some piece;
-            rest = rest;
-            split = refl;
-            reached = omega (arith, all, ap length (bytes_in-more steps piece), length-append (bytes_in steps) piece);
-            held = new.splitter.held;
-            lists = rw (bytes_in-more steps piece) stands.tracks.lists;
-            partial = stands.partial;
-            free = free_bytes bounds steps made.free piece (omega arith) room_left;
-          },
-          stands.tracks.listed,
-        );
-      }
+            given = made.given ++ new.text.items;
+            put = Adds-more before now after made.given new.text.items made.put put;
+            ends = λ rest. (
+              (
+                stands.frames,
+                record {
+                  front = steps ++ map Some piece;
+                  rest = rest;
+                  split = refl;
+                  reached = reached;
+                  held = new.splitter.held;
+                  lists = rw (bytes_in-more steps piece) stands.tracks.lists;
+                  partial = stands.partial;
+                  free = free;
+                },
+                stands.tracks.listed,
+              ),
+              (reached, free),
+            );
+          }
 
       pub made_more : (command : Command) → length (bytes_in steps) + length piece < 2 ^ 40
           → command.lister.splitter ≡ new.splitter → command.lister.count ≡ new.count → command.lister.text.items ≡ []
@@ -208,24 +214,29 @@ module _ (before now after : Option (List ℕ)) (steps : List Step) (piece : Lis
 module _ (before now : Option (List ℕ)) (steps : List Step) (old : Command) (made : Made before now steps old) where
   -- the last of the Idle answers
   pub idle_leaves : old.idles + 1 ≡ 36000 → Leaves before now (steps ++ None ∷ []) end.IdleOut
-  idle_leaves last = record {
-    given = made.given;
-    put = made.put;
-    ends = λ rest. (
-      made.stands.frames,
+  idle_leaves last =
+      let reached : IsIdleOut bounds (steps ++ None ∷ []) = omega (arith, last, made.idles, idles_after-idle steps) in
       record {
-        front = steps ++ None ∷ [];
-        rest = rest;
-        split = refl;
-        reached = omega (arith, last, made.idles, idles_after-idle steps);
-        held = old.lister.splitter.held;
-        lists = rw (bytes_in-idle steps) made.stands.tracks.lists;
-        partial = made.stands.partial;
-        free = free_idle bounds steps made.free;
-      },
-      all_listed before now steps old made,
-    );
-  }
+        given = made.given;
+        put = made.put;
+        ends = λ rest. (
+          (
+            made.stands.frames,
+            record {
+              front = steps ++ None ∷ [];
+              rest = rest;
+              split = refl;
+              reached = reached;
+              held = old.lister.splitter.held;
+              lists = rw (bytes_in-idle steps) made.stands.tracks.lists;
+              partial = made.stands.partial;
+              free = free_idle bounds steps made.free;
+            },
+            all_listed before now steps old made,
+          ),
+          (reached, free_idle bounds steps made.free),
+        );
+      }
 
   -- an Idle answer that isn't the last
   pub made_idle : (new : Command) → new.lister ≡ old.lister → new.taken ≡ old.taken → new.idles ≡ old.idles + 1 → old.idles + 1 < 36000 → old.taken < 2 ^ 40

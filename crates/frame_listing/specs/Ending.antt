@@ -5,7 +5,7 @@ use Rattle.pool_io.specs.declared.turn.Turn.{Turn}
 use Rattle.pool_io.specs.Outside.{Adds}
 use Rattle.pool_io.specs.Steps.{Step, steps_of, bytes_in, Brought, IsIdleOut, IsBytesOut}
 use Rattle.sv2_frames.specs.Framing.{FrameValue}
-use Rattle.pool_turns.specs.Limits.{bounds}
+use Rattle.pool_turns.specs.Limits.{bounds, JustReaches}
 use Rattle.frame_listing.specs.declared.flaw.Flaw.{Flaw}
 use Rattle.frame_listing.specs.declared.command.ListEnd.{ListEnd}
 use Rattle.frame_listing.specs.declared.command.ListEnd.TheVariants.{Done, BadFrame, IdleOut, BytesOut, ReadFault, WriteFault, Memory}
@@ -23,8 +23,8 @@ Tells steps text =
 abbrev pub EndsBy : List Step → List Step → List ℕ → ListEnd → Type 0
 EndsBy taken steps given Done = (frames : List FrameValue) × IsWhole steps frames × (given ≡ lines_of frames)
 EndsBy taken steps given BadFrame = (frames : List FrameValue) × (flaw : Flaw) × Stops steps frames flaw × (given ≡ lines_of frames ++ bad_line (length frames) flaw)
-EndsBy taken steps given IdleOut = (frames : List FrameValue) × ReachesLimit (IsIdleOut bounds) steps frames × (given ≡ lines_of frames)
-EndsBy taken steps given BytesOut = (frames : List FrameValue) × ReachesLimit (IsBytesOut bounds) steps frames × (given ≡ lines_of frames)
+EndsBy taken steps given IdleOut = ((frames : List FrameValue) × ReachesLimit (IsIdleOut bounds) steps frames × (given ≡ lines_of frames)) × JustReaches (IsIdleOut bounds) taken
+EndsBy taken steps given BytesOut = ((frames : List FrameValue) × ReachesLimit (IsBytesOut bounds) steps frames × (given ≡ lines_of frames)) × JustReaches (IsBytesOut bounds) taken
 EndsBy taken steps given ReadFault = (frames : List FrameValue) × GoesOn taken frames × (given ≡ lines_of frames)
 EndsBy taken steps given WriteFault = (text : List ℕ) × Tells steps text × Begins given text
 EndsBy taken steps given Memory = (text : List ℕ) × Tells steps text × Begins given text

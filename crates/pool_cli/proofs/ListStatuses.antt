@@ -33,8 +33,8 @@ module _ (taken steps : List Step) (given : List ℕ) where
   at_bad end.Memory is ends = absurd (omega arith)
 
   pub at_list_limit : (e : ListEnd) → 10 ≡ listing_status e → EndsBy taken steps given e → PrintsLimit steps given
-  at_list_limit end.IdleOut is ends = inl ends
-  at_list_limit end.BytesOut is ends = inr ends
+  at_list_limit end.IdleOut is ends = (ends.0.0, inl ends.0.1, ends.0.2)
+  at_list_limit end.BytesOut is ends = (ends.0.0, inr ends.0.1, ends.0.2)
   at_list_limit end.Done is ends = absurd (omega arith)
   at_list_limit end.BadFrame is ends = absurd (omega arith)
   at_list_limit end.ReadFault is ends = absurd (omega arith)

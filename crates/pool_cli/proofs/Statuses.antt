@@ -3,7 +3,8 @@ use Rattle.std.proofs.Common.{◌≡◌, ℕ, zero, suc, ◌⊎◌, List, [], �
 use Rattle.pool_base.specs.Lists.{Begins}
 use Rattle.pool_io.specs.declared.turn.Turn.{Turn}
 use Rattle.pool_io.specs.Seen.{Seen}
-use Rattle.pool_io.specs.Steps.{Step, steps_of}
+use Rattle.pool_io.specs.Steps.{Step, steps_of, IsIdleOut, IsBytesOut}
+use Rattle.pool_turns.specs.Limits.{bounds, JustReaches}
 use Rattle.fixed_job.specs.declared.judge.Job.{Job}
 use Rattle.mining_msgs.specs.declared.shares.SubmitSharesStandard.{SubmitSharesStandard}
 use Rattle.fixed_job.specs.declared.command.FixedEnd.{FixedEnd}
@@ -16,7 +17,7 @@ use Rattle.fixed_job.specs.Ending.{EndsBy, EndsAs, IsFault, Answers, Equal, HasS
 use Rattle.std.specs.Prelude.{Contains}
 use Rattle.pool_cli.specs.declared.words.Form.{Form}
 use Rattle.pool_cli.specs.declared.words.Form.TheVariants.{SoloFixed, Frames}
-use Rattle.pool_cli.specs.Running.{Does, status_of, listing_status, FixedRan, NotGiven, Told, HandsBack, ReachesEither, IsFaultStatus, HasNoSink, WasRead, ToldOfRead, HasNotFailed}
+use Rattle.pool_cli.specs.Running.{Does, status_of, listing_status, FixedRan, NotGiven, Told, HandsBack, ReachesEither, IsFaultStatus, HasNoSink, WasRead, ToldOfRead, ToldToLimit, HasNotFailed}
 
 module _ (class : ℕ) (job : Job) (taken steps : List Step) (given : List ℕ) where
   pub at_done : (e : FixedEnd) → 0 ≡ status_of e → EndsBy class job taken steps given e → Answers IsWhole Equal class job steps given
@@ -38,8 +39,8 @@ module _ (class : ℕ) (job : Job) (taken steps : List Step) (given : List ℕ) 
   at_other_frame end.Memory is ends = absurd (omega arith)
 
   pub at_limit : (e : FixedEnd) → 10 ≡ status_of e → EndsBy class job taken steps given e → Answers ReachesEither Equal class job steps given
-  at_limit end.IdleOut is ends = (ends.0, inl ends.1, ends.2)
-  at_limit end.BytesOut is ends = (ends.0, inr ends.1, ends.2)
+  at_limit end.IdleOut is ends = (ends.0.0, inl ends.0.1, ends.0.2)
+  at_limit end.BytesOut is ends = (ends.0.0, inr ends.0.1, ends.0.2)
   at_limit end.Done is ends = absurd (omega arith)
   at_limit end.OtherFrame is ends = absurd (omega arith)
   at_limit end.ReadFault is ends = absurd (omega arith)
@@ -291,3 +292,38 @@ gave_none left read_faults held write_faults (SoloFixed class job) old new statu
 gave_none left read_faults held write_faults Frames old new status (inl r) is = absurd (listing_not_7 r.end (sym r.answer ∙ is))
 gave_none left read_faults held write_faults (SoloFixed class job) old new status (inr refused) is = refused.none
 gave_none left read_faults held write_faults Frames old new status (inr refused) is = refused.none
+
+-- a limit that is the end is just reached
+fixed_limit : (class : ℕ) (job : Job) (taken steps : List Step) (given : List ℕ) (e : FixedEnd) → 10 ≡ status_of e → EndsBy class job taken steps given e
+    → JustReaches (IsIdleOut bounds) taken ⊎ JustReaches (IsBytesOut bounds) taken
+fixed_limit class job taken steps given end.IdleOut is ends = inl ends.1
+fixed_limit class job taken steps given end.BytesOut is ends = inr ends.1
+fixed_limit class job taken steps given end.Done is ends = absurd (omega (arith, is))
+fixed_limit class job taken steps given end.OtherFrame is ends = absurd (omega (arith, is))
+fixed_limit class job taken steps given end.ReadFault is ends = absurd (omega (arith, is))
+fixed_limit class job taken steps given end.WriteFault is ends = absurd (omega (arith, is))
+fixed_limit class job taken steps given end.Memory is ends = absurd (omega (arith, is))
+
+listing_limit : (taken steps : List Step) (given : List ℕ) (e : ListEnd) → 10 ≡ listing_status e → listing.EndsBy taken steps given e
+    → JustReaches (IsIdleOut bounds) taken ⊎ JustReaches (IsBytesOut bounds) taken
+listing_limit taken steps given list.IdleOut is ends = inl ends.1
+listing_limit taken steps given list.BytesOut is ends = inr ends.1
+listing_limit taken steps given list.Done is ends = absurd (omega (arith, is))
+listing_limit taken steps given list.BadFrame is ends = absurd (omega (arith, is))
+listing_limit taken steps given list.ReadFault is ends = absurd (omega (arith, is))
+listing_limit taken steps given list.WriteFault is ends = absurd (omega (arith, is))
+listing_limit taken steps given list.Memory is ends = absurd (omega (arith, is))
+
+module _ {S T : Type 0} (left : S → Option (List Turn)) (read_faults : S → ℕ) (held : T → Option (List ℕ)) (write_faults : T → ℕ) (old new : Seen S T) (status : ℕ) where
+  none_given : (told : List Turn) → NotGiven old new status → status ≡ 10
+      → (taken : List Step) × WasRead left old new taken × (JustReaches (IsIdleOut bounds) taken ⊎ JustReaches (IsBytesOut bounds) taken)
+  none_given told refused is =
+      elim refused.cause [ inl memory ↦ absurd (let no = sym is ∙ memory in omega (arith, no)) | inr failed ↦ absurd (let no = sym is ∙ failed.0 in omega (arith, no)) ]
+
+  pub told_to_limit : (form : Form) → Does left read_faults held write_faults form old new status → status ≡ 10 → ToldToLimit (WasRead left old new) old.input
+  told_to_limit (SoloFixed class job) (inl r) is told told_is =
+      (r.ran.taken, (r.source, r.sources.back, r.ran.brought), fixed_limit class job r.ran.taken (steps_of told) r.ran.given r.end (sym is ∙ r.answer) (r.ran.ends told told_is))
+  told_to_limit Frames (inl r) is told told_is =
+      (r.ran.taken, (r.source, r.sources.back, r.ran.brought), listing_limit r.ran.taken (steps_of told) r.ran.given r.end (sym is ∙ r.answer) (r.ran.ends told told_is))
+  told_to_limit (SoloFixed class job) (inr refused) is told told_is = none_given told refused is
+  told_to_limit Frames (inr refused) is told told_is = none_given told refused is

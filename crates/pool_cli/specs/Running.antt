@@ -12,7 +12,7 @@ use Rattle.fixed_job.specs.declared.command.FixedEnd.{FixedEnd}
 use Rattle.fixed_job.specs.declared.command.FixedEnd.TheVariants.{Done, OtherFrame, IdleOut, BytesOut, ReadFault, WriteFault, Memory}
 use Rattle.pool_cli.specs.declared.words.Form.{Form}
 use Rattle.pool_cli.specs.declared.words.Form.TheVariants.{SoloFixed, Frames}
-use Rattle.pool_turns.specs.Limits.{bounds}
+use Rattle.pool_turns.specs.Limits.{bounds, JustReaches}
 use Rattle.fixed_job.specs.Reading.{GoesOn, IsWhole, Stops, ReachesLimit}
 use Rattle.sv2_frames.specs.Framing.{FrameValue}
 use Rattle.frame_listing.specs.declared.flaw.Flaw.{Flaw}
@@ -141,6 +141,10 @@ ToldOfRead Reads Gives class job input = (told : List Turn) → input ≡ Some t
 abbrev pub ReachesEither : List Step → List SubmitSharesStandard → Type 0
 ReachesEither steps shares = ReachesLimit (IsIdleOut bounds) steps shares ⊎ ReachesLimit (IsBytesOut bounds) steps shares
 
+-- 36,000 Idle answers in a row, or 2^40 bytes, behind these good frames
+abbrev pub ListsToLimit : List Step → List FrameValue → Type 0
+ListsToLimit steps frames = listed.ReachesLimit (IsIdleOut bounds) steps frames ⊎ listed.ReachesLimit (IsBytesOut bounds) steps frames
+
 -- where standard input tells its turns: a listing of them ends so, and its text was given
 abbrev pub Prints : (List Step → List ℕ → Type 0) → (List ℕ → Type 0) → Option (List Turn) → Type 0
 Prints Ends Gives input = (told : List Turn) → input ≡ Some told → (given : List ℕ) × Ends (steps_of told) given × Gives given
@@ -153,7 +157,7 @@ abbrev pub PrintsBad : List Step → List ℕ → Type 0
 PrintsBad steps given = listing.EndsBy steps steps given list.BadFrame
 
 abbrev pub PrintsLimit : List Step → List ℕ → Type 0
-PrintsLimit steps given = listing.EndsBy steps steps given list.IdleOut ⊎ listing.EndsBy steps steps given list.BytesOut
+PrintsLimit steps given = (frames : List FrameValue) × ListsToLimit steps frames × (given ≡ lines_of frames)
 
 abbrev pub PrintsWriteFault : List Step → List ℕ → Type 0
 PrintsWriteFault steps given = listing.EndsBy steps steps given list.WriteFault
@@ -165,10 +169,6 @@ PrintsMemory steps given = listing.EndsBy steps steps given list.Memory
 abbrev pub PrintsOfRead : (List Step → Type 0) → (List ℕ → Type 0) → Option (List Turn) → Type 0
 PrintsOfRead Reads Gives input = (told : List Turn) → input ≡ Some told
     → (taken : List Step) × Reads taken × (frames : List FrameValue) × listed.GoesOn taken frames × Gives (lines_of frames)
-
--- 36,000 Idle answers in a row, or 2^40 bytes, behind these good frames
-abbrev pub ListsToLimit : List Step → List FrameValue → Type 0
-ListsToLimit steps frames = listed.ReachesLimit (IsIdleOut bounds) steps frames ⊎ listed.ReachesLimit (IsBytesOut bounds) steps frames
 
 -- the status is that of a fault or of want of memory
 abbrev pub IsFaultStatus : ℕ → Type 0
@@ -183,3 +183,8 @@ pub record HasNotFailed {S T : Type 0} (read_faults : S → ℕ) (write_faults :
   pub reads : read_faults source ≡ 0
   pub writes : write_faults sink ≡ 0
   pub kept : new.faults ≡ old.faults
+
+-- where standard input tells its turns: the steps that were taken reach a limit, and no shorter front of them does
+abbrev pub ToldToLimit : (List Step → Type 0) → Option (List Turn) → Type 0
+ToldToLimit Reads input = (told : List Turn) → input ≡ Some told
+    → (taken : List Step) × Reads taken × (JustReaches (IsIdleOut bounds) taken ⊎ JustReaches (IsBytesOut bounds) taken)

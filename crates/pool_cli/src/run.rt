@@ -13,7 +13,7 @@ ghost use Rattle.sv2_frames.specs.Framing.{FrameValue};
 ghost use Rattle.frame_listing.specs.declared.flaw.Flaw.{Flaw};
 ghost use Rattle.frame_listing.specs.Reading as listed;
 ghost use Rattle.pool_cli.specs.Forms.{IsSoloFixed, IsFrames, HasNoForm};
-ghost use Rattle.pool_cli.specs.Running.{FixedRan, FramesRan, Prints, PrintsDone, PrintsBad, PrintsLimit, PrintsOfRead, PrintsWriteFault, PrintsMemory, ListsToLimit, WasRead, ToldOfRead, HasNoSink, HasNotFailed, NotGiven, Does, IsWithinLimits, Told, HandsBack, ReachesEither, ReadRose, WriteRose, IsFaultStatus};
+ghost use Rattle.pool_cli.specs.Running.{FixedRan, FramesRan, Prints, PrintsDone, PrintsBad, PrintsLimit, PrintsOfRead, PrintsWriteFault, PrintsMemory, ListsToLimit, WasRead, ToldOfRead, ToldToLimit, HasNoSink, HasNotFailed, NotGiven, Does, IsWithinLimits, Told, HandsBack, ReachesEither, ReadRose, WriteRose, IsFaultStatus};
 
 use crate::words::{Form, Word, form_of};
 use fixed_job::{FixedEnd, Job, judge_shares};
@@ -90,6 +90,9 @@ pub fn run<H: Host>(alloc: Global, host: &mut H, words: &[Word]) -> u8
         → (H.seen host.old).input ≡ Some told → listed.Stops (steps_of told) frames flaw → (result ≡ 3) ⊎ IsFaultStatus result }
     ensures is_listed_limit { (told : List Turn) (frames : List FrameValue) → IsFrames words.now
         → (H.seen host.old).input ≡ Some told → ListsToLimit (steps_of told) frames → (result ≡ 10) ⊎ IsFaultStatus result }
+
+    // 10: no more was taken than reaches the limit.
+    ensures just_limit { result ≡ 10 → ToldToLimit (WasRead H.S.left (H.seen host.old) (H.seen host.new)) (H.seen host.old).input }
 
     // 7: no sink came back, since none was given.
     ensures not_given { result ≡ 7 → HasNoSink (H.seen host.old) (H.seen host.new) }

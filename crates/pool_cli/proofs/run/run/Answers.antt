@@ -8,7 +8,7 @@ use Rattle.pool_cli.specs.Forms.{IsSoloFixed, IsFrames}
 use Rattle.pool_cli.specs.Running.{FixedRan, FramesRan, NotGiven, ReachesEither, PrintsDone, PrintsBad, PrintsLimit, PrintsWriteFault}
 use Rattle.pool_cli.proofs.OneForm.{was_asked, was_frames}
 use Rattle.pool_cli.proofs.ListStatuses.{at_listed, at_bad, at_list_limit, at_list_write_fault, prints_of_read, prints_at, prints_without_memory, is_listed, is_listed_bad, is_listed_limit}
-use Rattle.pool_cli.proofs.Statuses.{told_at, told_of_read, told_without_memory, has_not_failed, other_than, gave_none, at_done, at_other_frame, at_limit, at_write_fault, is_other_frame, is_limit, does_listed}
+use Rattle.pool_cli.proofs.Statuses.{told_at, told_of_read, told_without_memory, has_not_failed, other_than, gave_none, told_to_limit, at_done, at_other_frame, at_limit, at_write_fault, is_other_frame, is_limit, does_listed}
 use Rattle.pool_cli.proofs.run.run.Goals as goal
 use Rattle.pool_cli.proofs.run.run.Goals.{After-perform}
 
@@ -54,6 +54,10 @@ returns-in-Some-clause-is_limit g c = λ class job told shares form.
 
 pub returns-in-Some-clause-statuses : goal.returns-in-Some-clause-statuses
 returns-in-Some-clause-statuses g c = does_listed g.H.S.Source.left g.H.S.Source.faults g.H.T.Sink.held g.H.T.Sink.faults c.in-Some.form _ _ c.perform.result c.perform.ensures.does
+
+pub returns-in-Some-clause-just_limit : goal.returns-in-Some-clause-just_limit
+returns-in-Some-clause-just_limit g c =
+    told_to_limit g.H.S.Source.left g.H.S.Source.faults g.H.T.Sink.held g.H.T.Sink.faults _ _ c.perform.result c.in-Some.form c.perform.ensures.does
 
 pub returns-in-Some-clause-not_given : goal.returns-in-Some-clause-not_given
 returns-in-Some-clause-not_given g c =

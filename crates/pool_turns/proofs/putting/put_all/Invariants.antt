@@ -1,4 +1,4 @@
-use Rattle.std.proofs.Common.{◌≡◌, ◌≤◌, ℕ, List, ◌++◌, length}
+use Rattle.std.proofs.Common.{◌≡◌, ℕ, List, ◌++◌, length}
 use Rattle.pool_io.specs.Outside.{Adds}
 use Rattle.pool_turns.proofs.putting.put_all.Given as goal
 
