@@ -10,7 +10,7 @@ use crate::message::Declare;
 use sv2_messages::{Field, FieldReader, MsgError};
 use sv2_types::{Seq32, SeqBytes, SeqU16};
 
-/// Asks for transactions by their places.
+/// Asks a miner for transactions of a declared job, by their places.
 #[derive(Clone, Copy, Debug, PartialEq, Eq)]
 pub struct ProvideMissingTransactions<'a> {
     pub request_id: u32,
@@ -44,10 +44,12 @@ pub(crate) fn read_provide_missing_transactions<'a>(
     Ok(Declare::ProvideMissingTransactions(message))
 }
 
-/// Brings them.
+/// Brings the transactions that the miner was asked for.
 #[derive(Clone, Copy, Debug, PartialEq, Eq)]
 pub struct ProvideMissingTransactionsSuccess<'a> {
+    /// The id that the request has.
     pub request_id: u32,
+    /// Each is in Bitcoin's raw transaction format.
     pub transaction_list: SeqBytes<'a>,
 }
 
@@ -78,14 +80,18 @@ pub(crate) fn read_provide_missing_transactions_success<'a>(
     Ok(Declare::ProvideMissingTransactionsSuccess(message))
 }
 
-/// Declares a job.
+/// A miner declares a job.
 #[derive(Clone, Copy, Debug, PartialEq, Eq)]
 pub struct DeclareMiningJob<'a> {
     pub request_id: u32,
     pub mining_job_token: &'a [u8],
+    /// The block header's version.
     pub version: u32,
+    /// The first bytes of the coinbase, in Bitcoin's raw transaction format.
     pub coinbase_tx_prefix: &'a [u8],
+    /// The last bytes of the coinbase, in Bitcoin's raw transaction format.
     pub coinbase_tx_suffix: &'a [u8],
+    /// The witness transaction ids, each 32 bytes as they are hashed.
     pub wtxid_list: Seq32<'a>,
     pub excess_data: &'a [u8],
 }
@@ -125,9 +131,10 @@ pub(crate) fn read_declare_mining_job<'a>(payload: &'a [u8]) -> Result<Declare<'
     Ok(Declare::DeclareMiningJob(message))
 }
 
-/// Takes it, and gives the token to mine on it.
+/// Accepts the job that a miner declared, and gives the token to mine on it.
 #[derive(Clone, Copy, Debug, PartialEq, Eq)]
 pub struct DeclareMiningJobSuccess<'a> {
+    /// The id that the request has.
     pub request_id: u32,
     pub new_mining_job_token: &'a [u8],
 }
@@ -159,9 +166,10 @@ pub(crate) fn read_declare_mining_job_success<'a>(
     Ok(Declare::DeclareMiningJobSuccess(message))
 }
 
-/// Takes it not.
+/// Refuses the job that a miner declared, with an error code.
 #[derive(Clone, Copy, Debug, PartialEq, Eq)]
 pub struct DeclareMiningJobError<'a> {
+    /// The id that the request has.
     pub request_id: u32,
     pub error_code: &'a str,
     pub error_details: &'a [u8],

@@ -9,7 +9,7 @@ use std::process::Abort;
 use std::test::Fail;
 use sv2_types::{ReadError, Seq32, U256};
 
-// A message's name and its whole frame, each field written by hand from the tables.
+/// A message's name and its whole frame, each field written by hand from the tables.
 struct Case {
     name: &'static str,
     frame: &'static str,
@@ -205,7 +205,7 @@ fn fields_of_a_solution_stand_by_their_names(rt: HostRuntime) -> Result<(), Fail
     Ok(())
 }
 
-// A payload, and why it is none of its kind.
+/// A payload, and why it is none of its kind.
 struct Refused {
     name: &'static str,
     kind: u8,

@@ -10,7 +10,7 @@ use crate::message::Declare;
 use sv2_messages::{Field, FieldReader, MsgError};
 use sv2_types::U256;
 
-/// Asks for a token.
+/// A miner asks for a token, with which to declare a job.
 #[derive(Clone, Copy, Debug, PartialEq, Eq)]
 pub struct AllocateMiningJobToken<'a> {
     pub user_identifier: &'a str,
@@ -42,11 +42,13 @@ pub(crate) fn read_allocate_mining_job_token<'a>(payload: &'a [u8]) -> Result<De
     Ok(Declare::AllocateMiningJobToken(message))
 }
 
-/// Gives one, and the outputs that the coinbase is to have.
+/// Gives the token that a miner asked for, and the outputs that the coinbase is to have.
 #[derive(Clone, Copy, Debug, PartialEq, Eq)]
 pub struct AllocateMiningJobTokenSuccess<'a> {
+    /// The id that the request has.
     pub request_id: u32,
     pub mining_job_token: &'a [u8],
+    /// In Bitcoin's raw transaction format.
     pub coinbase_tx_outputs: &'a [u8],
 }
 
@@ -79,15 +81,18 @@ pub(crate) fn read_allocate_mining_job_token_success<'a>(
     Ok(Declare::AllocateMiningJobTokenSuccess(message))
 }
 
-/// A block that was found.
+/// A miner brings a block that was found.
 #[derive(Clone, Copy, Debug, PartialEq, Eq)]
 pub struct PushSolution<'a> {
     pub extranonce: &'a [u8],
+    /// 32 bytes as they stand in a block header.
     pub prev_hash: U256,
     pub nonce: u32,
     /// Seconds since 1970, as in the block header.
     pub ntime: u32,
+    /// The compact target, as in the block header.
     pub nbits: u32,
+    /// The block header's version.
     pub version: u32,
 }
 

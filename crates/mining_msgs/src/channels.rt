@@ -15,9 +15,9 @@ use sv2_types::U256;
 pub struct OpenStandardMiningChannel<'a> {
     pub request_id: u32,
     pub user_identity: &'a str,
-    /// Hashes a second, as the bytes of a float that is carried and never read as a number.
+    /// Hashes a second: an IEEE 754 single, low byte first, that is carried and never read as a number.
     pub nominal_hash_rate: [u8; 4],
-    /// The greatest target that the miner takes.
+    /// The greatest target that the miner takes: a number whose low byte comes first.
     pub max_target: U256,
 }
 
@@ -52,11 +52,13 @@ pub(crate) fn read_open_standard_mining_channel<'a>(
     Ok(Mining::OpenStandardMiningChannel(message))
 }
 
-/// Opens it (Stratum V2, "OpenStandardMiningChannel.Success").
+/// Opens the standard channel that a miner asked for (Stratum V2, "OpenStandardMiningChannel.Success").
 #[derive(Clone, Copy, Debug, PartialEq, Eq)]
 pub struct OpenStandardMiningChannelSuccess<'a> {
+    /// The id that the request has.
     pub request_id: u32,
     pub channel_id: u32,
+    /// A number whose low byte comes first.
     pub target: U256,
     pub extranonce_prefix: &'a [u8],
     pub group_channel_id: u32,
@@ -95,9 +97,10 @@ pub(crate) fn read_open_standard_mining_channel_success<'a>(
     Ok(Mining::OpenStandardMiningChannelSuccess(message))
 }
 
-/// Opens no channel of either kind (Stratum V2, "OpenMiningChannel.Error").
+/// Refuses a channel of either kind, with an error code (Stratum V2, "OpenMiningChannel.Error").
 #[derive(Clone, Copy, Debug, PartialEq, Eq)]
 pub struct OpenMiningChannelError<'a> {
+    /// The id that the request has.
     pub request_id: u32,
     pub error_code: &'a str,
 }
@@ -129,9 +132,9 @@ pub(crate) fn read_open_mining_channel_error<'a>(payload: &'a [u8]) -> Result<Mi
 pub struct OpenExtendedMiningChannel<'a> {
     pub request_id: u32,
     pub user_identity: &'a str,
-    /// Hashes a second, as the bytes of a float that is carried and never read as a number.
+    /// Hashes a second: an IEEE 754 single, low byte first, that is carried and never read as a number.
     pub nominal_hash_rate: [u8; 4],
-    /// The greatest target that the miner takes.
+    /// The greatest target that the miner takes: a number whose low byte comes first.
     pub max_target: U256,
     /// Bytes that the miner wants to roll at least.
     pub min_extranonce_size: u16,
@@ -170,11 +173,13 @@ pub(crate) fn read_open_extended_mining_channel<'a>(
     Ok(Mining::OpenExtendedMiningChannel(message))
 }
 
-/// Opens it (Stratum V2, "OpenExtendedMiningChannel.Success").
+/// Opens the extended channel that a miner asked for (Stratum V2, "OpenExtendedMiningChannel.Success").
 #[derive(Clone, Copy, Debug, PartialEq, Eq)]
 pub struct OpenExtendedMiningChannelSuccess<'a> {
+    /// The id that the request has.
     pub request_id: u32,
     pub channel_id: u32,
+    /// A number whose low byte comes first.
     pub target: U256,
     /// Bytes that the miner rolls.
     pub extranonce_size: u16,
@@ -214,12 +219,13 @@ pub(crate) fn read_open_extended_mining_channel_success<'a>(
     Ok(Mining::OpenExtendedMiningChannelSuccess(message))
 }
 
-/// Tells another hash rate and asks for another target (Stratum V2, "UpdateChannel").
+/// Tells the miner's new hash rate and asks for another target (Stratum V2, "UpdateChannel").
 #[derive(Clone, Copy, Debug, PartialEq, Eq)]
 pub struct UpdateChannel {
     pub channel_id: u32,
-    /// Hashes a second, as the bytes of a float that is carried and never read as a number.
+    /// Hashes a second: an IEEE 754 single, low byte first, that is carried and never read as a number.
     pub nominal_hash_rate: [u8; 4],
+    /// A number whose low byte comes first.
     pub maximum_target: U256,
 }
 
@@ -250,7 +256,7 @@ pub(crate) fn read_update_channel<'a>(payload: &'a [u8]) -> Result<Mining<'a>, M
     Ok(Mining::UpdateChannel(message))
 }
 
-/// Changes nothing (Stratum V2, "UpdateChannel.Error").
+/// Refuses a change of a channel, with an error code (Stratum V2, "UpdateChannel.Error").
 #[derive(Clone, Copy, Debug, PartialEq, Eq)]
 pub struct UpdateChannelError<'a> {
     pub channel_id: u32,
@@ -308,7 +314,7 @@ pub(crate) fn read_close_channel<'a>(payload: &'a [u8]) -> Result<Mining<'a>, Ms
     Ok(Mining::CloseChannel(message))
 }
 
-/// Gives a channel another prefix (Stratum V2, "SetExtranoncePrefix").
+/// The pool gives a channel another prefix of its extranonces (Stratum V2, "SetExtranoncePrefix").
 #[derive(Clone, Copy, Debug, PartialEq, Eq)]
 pub struct SetExtranoncePrefix<'a> {
     pub channel_id: u32,
@@ -340,10 +346,11 @@ pub(crate) fn read_set_extranonce_prefix<'a>(payload: &'a [u8]) -> Result<Mining
     Ok(Mining::SetExtranoncePrefix(message))
 }
 
-/// Gives a channel another target (Stratum V2, "SetTarget").
+/// The pool gives a channel another target (Stratum V2, "SetTarget").
 #[derive(Clone, Copy, Debug, PartialEq, Eq)]
 pub struct SetTarget {
     pub channel_id: u32,
+    /// A number whose low byte comes first.
     pub maximum_target: U256,
 }
 

@@ -16,17 +16,22 @@ pub struct SetCustomMiningJob<'a> {
     pub channel_id: u32,
     pub request_id: u32,
     pub token: &'a [u8],
+    /// The block header's version.
     pub version: u32,
+    /// 32 bytes as they stand in a block header.
     pub prev_hash: U256,
     /// Seconds since 1970: the least time that a share may have.
     pub min_ntime: u32,
+    /// The compact target, as in the block header.
     pub nbits: u32,
     pub coinbase_tx_version: u32,
+    /// The first bytes of the coinbase's input script.
     pub coinbase_prefix: &'a [u8],
     pub coinbase_tx_input_sequence: u32,
+    /// The outputs one after the other, without their count, in Bitcoin's raw transaction format.
     pub coinbase_tx_outputs: &'a [u8],
     pub coinbase_tx_locktime: u32,
-    /// The hashes beside the coinbase's on the way to the root.
+    /// The hashes beside the coinbase's on the way to the root, each 32 bytes as they stand in a block header.
     pub merkle_path: Seq32<'a>,
 }
 
@@ -77,10 +82,11 @@ pub(crate) fn read_set_custom_mining_job<'a>(payload: &'a [u8]) -> Result<Mining
     Ok(Mining::SetCustomMiningJob(message))
 }
 
-/// Takes it.
+/// Accepts the job that a miner made, and gives its number.
 #[derive(Clone, Copy, Debug, PartialEq, Eq)]
 pub struct SetCustomMiningJobSuccess {
     pub channel_id: u32,
+    /// The id that the request has.
     pub request_id: u32,
     pub job_id: u32,
 }
@@ -114,10 +120,11 @@ pub(crate) fn read_set_custom_mining_job_success<'a>(
     Ok(Mining::SetCustomMiningJobSuccess(message))
 }
 
-/// Takes it not.
+/// Refuses the job that a miner made, with an error code.
 #[derive(Clone, Copy, Debug, PartialEq, Eq)]
 pub struct SetCustomMiningJobError<'a> {
     pub channel_id: u32,
+    /// The id that the request has.
     pub request_id: u32,
     pub error_code: &'a str,
 }

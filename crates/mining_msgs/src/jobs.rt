@@ -10,14 +10,16 @@ use crate::message::Mining;
 use sv2_messages::{Field, FieldReader, MsgError};
 use sv2_types::{Seq32, U256};
 
-/// A job for a standard channel (Stratum V2, "NewMiningJob").
+/// The pool gives a standard channel a job (Stratum V2, "NewMiningJob").
 #[derive(Clone, Copy, Debug, PartialEq, Eq)]
 pub struct NewMiningJob {
     pub channel_id: u32,
     pub job_id: u32,
     /// Seconds since 1970: the least time that a share may have. None for a future job.
     pub min_ntime: Option<u32>,
+    /// The block header's version.
     pub version: u32,
+    /// 32 bytes as they stand in a block header.
     pub merkle_root: U256,
 }
 
@@ -52,18 +54,21 @@ pub(crate) fn read_new_mining_job<'a>(payload: &'a [u8]) -> Result<Mining<'a>, M
     Ok(Mining::NewMiningJob(message))
 }
 
-/// A job for an extended channel (Stratum V2, "NewExtendedMiningJob").
+/// The pool gives an extended channel a job (Stratum V2, "NewExtendedMiningJob").
 #[derive(Clone, Copy, Debug, PartialEq, Eq)]
 pub struct NewExtendedMiningJob<'a> {
     pub channel_id: u32,
     pub job_id: u32,
     /// Seconds since 1970: the least time that a share may have. None for a future job.
     pub min_ntime: Option<u32>,
+    /// The block header's version.
     pub version: u32,
     pub version_rolling_allowed: bool,
-    /// The hashes beside the coinbase's on the way to the root.
+    /// The hashes beside the coinbase's on the way to the root, each 32 bytes as they stand in a block header.
     pub merkle_path: Seq32<'a>,
+    /// The coinbase's bytes before the extranonce, in Bitcoin's raw transaction format.
     pub coinbase_tx_prefix: &'a [u8],
+    /// The coinbase's bytes after the extranonce, in Bitcoin's raw transaction format.
     pub coinbase_tx_suffix: &'a [u8],
 }
 
@@ -104,14 +109,16 @@ pub(crate) fn read_new_extended_mining_job<'a>(payload: &'a [u8]) -> Result<Mini
     Ok(Mining::NewExtendedMiningJob(message))
 }
 
-/// Makes a future job the one on the new tip (Stratum V2, "SetNewPrevHash").
+/// The pool makes a future job the one on the new tip (Stratum V2, "SetNewPrevHash").
 #[derive(Clone, Copy, Debug, PartialEq, Eq)]
 pub struct SetNewPrevHash {
     pub channel_id: u32,
     pub job_id: u32,
+    /// 32 bytes as they stand in a block header.
     pub prev_hash: U256,
     /// Seconds since 1970: the least time that a share may have.
     pub min_ntime: u32,
+    /// The compact target, as in the block header.
     pub nbits: u32,
 }
 

@@ -9,7 +9,7 @@ ghost use Rattle.mining_msgs.specs.Seen.{seen, submit_shares_standard, submit_sh
 use crate::message::Mining;
 use sv2_messages::{Field, FieldReader, MsgError};
 
-/// A share of a standard channel (Stratum V2, "SubmitSharesStandard").
+/// A share that a miner found on a standard channel (Stratum V2, "SubmitSharesStandard").
 #[derive(Clone, Copy, Debug, PartialEq, Eq)]
 pub struct SubmitSharesStandard {
     pub channel_id: u32,
@@ -18,6 +18,7 @@ pub struct SubmitSharesStandard {
     pub nonce: u32,
     /// Seconds since 1970, as in the block header.
     pub ntime: u32,
+    /// The block header's version.
     pub version: u32,
 }
 
@@ -54,7 +55,7 @@ pub(crate) fn read_submit_shares_standard<'a>(payload: &'a [u8]) -> Result<Minin
     Ok(Mining::SubmitSharesStandard(message))
 }
 
-/// A share of an extended channel (Stratum V2, "SubmitSharesExtended").
+/// A share that a miner found on an extended channel (Stratum V2, "SubmitSharesExtended").
 #[derive(Clone, Copy, Debug, PartialEq, Eq)]
 pub struct SubmitSharesExtended<'a> {
     pub channel_id: u32,
@@ -63,6 +64,7 @@ pub struct SubmitSharesExtended<'a> {
     pub nonce: u32,
     /// Seconds since 1970, as in the block header.
     pub ntime: u32,
+    /// The block header's version.
     pub version: u32,
     pub extranonce: &'a [u8],
 }
@@ -102,7 +104,7 @@ pub(crate) fn read_submit_shares_extended<'a>(payload: &'a [u8]) -> Result<Minin
     Ok(Mining::SubmitSharesExtended(message))
 }
 
-/// Credits shares up to a sequence number (Stratum V2, "SubmitShares.Success").
+/// The pool credits shares up to a sequence number (Stratum V2, "SubmitShares.Success").
 #[derive(Clone, Copy, Debug, PartialEq, Eq)]
 pub struct SubmitSharesSuccess {
     pub channel_id: u32,
@@ -141,7 +143,7 @@ pub(crate) fn read_submit_shares_success<'a>(payload: &'a [u8]) -> Result<Mining
     Ok(Mining::SubmitSharesSuccess(message))
 }
 
-/// Credits no share for this one (Stratum V2, "SubmitShares.Error").
+/// The pool credits no share for this one (Stratum V2, "SubmitShares.Error").
 #[derive(Clone, Copy, Debug, PartialEq, Eq)]
 pub struct SubmitSharesError<'a> {
     pub channel_id: u32,

@@ -12,7 +12,7 @@ use std::process::Abort;
 use std::test::Fail;
 use sv2_types::{ReadError, Seq32, U256};
 
-// A message's name and its whole frame, each field written by hand from the tables.
+/// A message's name and its whole frame, each field written by hand from the tables.
 struct Case {
     name: &'static str,
     frame: &'static str,
@@ -164,7 +164,7 @@ fn each_message_is_read_whole_alone(rt: HostRuntime) -> Result<(), Fail> {
     Ok(())
 }
 
-// A payload, and why it is none of its kind.
+/// A payload, and why it is none of its kind.
 struct Refused {
     name: &'static str,
     kind: u8,
@@ -268,7 +268,7 @@ fn has_frame(
     Ok(())
 }
 
-// What the pool answers in the worked session.
+/// What the pool answers in the worked session.
 #[test]
 fn answers_have_the_worked_bytes(rt: HostRuntime) -> Result<(), Fail> {
     let alloc = rt.alloc();
@@ -311,7 +311,7 @@ fn answers_have_the_worked_bytes(rt: HostRuntime) -> Result<(), Fail> {
     )
 }
 
-// An enum of structs that borrow is held in an option: alone it is no local that a proof covers.
+/// An enum of structs that borrow is held in an option: alone it is no local that a proof covers.
 fn setup_success<'a>() -> Option<Mining<'a>> {
     Some(Mining::SetupConnectionSuccess(SetupConnectionSuccess {
         used_version: 2,
@@ -373,7 +373,7 @@ fn refusal<'a>(error_code: &'a str) -> Option<Mining<'a>> {
     }))
 }
 
-// What the miner sends in it.
+/// What the miner sends in the worked session.
 #[test]
 fn requests_are_read_from_the_worked_bytes(rt: HostRuntime) -> Result<(), Fail> {
     let setup = hex::decode(rt.alloc(), "00020002000000000000000000000000")?;

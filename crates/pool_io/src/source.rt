@@ -18,6 +18,7 @@ pub enum Took {
     Failed,
 }
 
+/// Gives a program its bytes, turn by turn: the program asks, and the source answers with its next turn.
 pub trait Source {
     /// How often the source has failed. A counter stays at 2^64 - 1 once it is there.
     ghost faults: { Self → ℕ };

@@ -39,7 +39,10 @@ impl Piece {
 /// One answer of a source that is still to come.
 #[derive(Drop)]
 pub enum Turn {
+    /// Bytes come together. Where they are longer than the buffer, they are taken in parts.
     Piece(Piece),
+    /// No byte comes for now.
     Idle,
+    /// No byte comes any more.
     End,
 }

@@ -10,7 +10,7 @@ use crate::message::Template;
 use sv2_messages::{Field, FieldReader, MsgError};
 use sv2_types::{Seq32, U256};
 
-/// Says how much room the pool's outputs want (Stratum V2, "CoinbaseOutputConstraints").
+/// Tells the template provider how much room the pool's outputs want (Stratum V2, "CoinbaseOutputConstraints").
 #[derive(Clone, Copy, Debug, PartialEq, Eq)]
 pub struct CoinbaseOutputConstraints {
     /// Bytes that the pool's outputs may add to the coinbase.
@@ -46,21 +46,24 @@ pub(crate) fn read_coinbase_output_constraints<'a>(
     Ok(Template::CoinbaseOutputConstraints(message))
 }
 
-/// A block to be mined, but for its coinbase (Stratum V2, "NewTemplate").
+/// The template provider gives a block to be mined, but for its coinbase (Stratum V2, "NewTemplate").
 #[derive(Clone, Copy, Debug, PartialEq, Eq)]
 pub struct NewTemplate<'a> {
     pub template_id: u64,
     pub future_template: bool,
+    /// The block header's version.
     pub version: u32,
     pub coinbase_tx_version: u32,
+    /// The first bytes of the coinbase's input script.
     pub coinbase_prefix: &'a [u8],
     pub coinbase_tx_input_sequence: u32,
     /// Satoshis that are left for the pool's outputs.
     pub coinbase_tx_value_remaining: u64,
     pub coinbase_tx_outputs_count: u32,
+    /// The outputs one after the other, without their count, in Bitcoin's raw transaction format.
     pub coinbase_tx_outputs: &'a [u8],
     pub coinbase_tx_locktime: u32,
-    /// The hashes beside the coinbase's on the way to the root.
+    /// The hashes beside the coinbase's on the way to the root, each 32 bytes as they stand in a block header.
     pub merkle_path: Seq32<'a>,
 }
 
@@ -107,14 +110,17 @@ pub(crate) fn read_new_template<'a>(payload: &'a [u8]) -> Result<Template<'a>, M
     Ok(Template::NewTemplate(message))
 }
 
-/// Makes a future template the one on the new tip (Stratum V2, "SetNewPrevHash").
+/// The template provider makes a future template the one on the new tip (Stratum V2, "SetNewPrevHash").
 #[derive(Clone, Copy, Debug, PartialEq, Eq)]
 pub struct SetNewPrevHash {
     pub template_id: u64,
+    /// 32 bytes as they stand in a block header.
     pub prev_hash: U256,
     /// Seconds since 1970, as in the block header.
     pub header_timestamp: u32,
+    /// The compact target, as in the block header.
     pub nbits: u32,
+    /// A number whose low byte comes first.
     pub target: U256,
 }
 
@@ -149,14 +155,16 @@ pub(crate) fn read_set_new_prev_hash<'a>(payload: &'a [u8]) -> Result<Template<'
     Ok(Template::SetNewPrevHash(message))
 }
 
-/// A block that was found (Stratum V2, "SubmitSolution").
+/// Brings the template provider a block that was found (Stratum V2, "SubmitSolution").
 #[derive(Clone, Copy, Debug, PartialEq, Eq)]
 pub struct SubmitSolution<'a> {
     pub template_id: u64,
+    /// The block header's version.
     pub version: u32,
     /// Seconds since 1970, as in the block header.
     pub header_timestamp: u32,
     pub header_nonce: u32,
+    /// The whole coinbase, in Bitcoin's raw transaction format.
     pub coinbase_tx: &'a [u8],
 }
 

@@ -9,7 +9,7 @@ use std::process::Abort;
 use std::test::Fail;
 use sv2_types::{ReadError, Seq32, U256};
 
-// A message's name and its whole frame, each field written by hand from the tables.
+/// A message's name and its whole frame, each field written by hand from the tables.
 struct Case {
     name: &'static str,
     frame: &'static str,
@@ -210,7 +210,7 @@ fn fields_of_a_solution_stand_by_their_names(rt: HostRuntime) -> Result<(), Fail
     Ok(())
 }
 
-// A payload, and why it is none of its kind.
+/// A payload, and why it is none of its kind.
 struct Refused {
     name: &'static str,
     kind: u8,
@@ -284,7 +284,7 @@ fn has_frame(
     Ok(())
 }
 
-// The template, the tip and the solution of the worked session.
+/// The template, the tip and the solution of the worked session.
 #[test]
 fn the_worked_session_has_its_bytes(rt: HostRuntime) -> Result<(), Fail> {
     let alloc = rt.alloc();
@@ -313,7 +313,7 @@ fn the_worked_session_has_its_bytes(rt: HostRuntime) -> Result<(), Fail> {
     )
 }
 
-// An enum of structs that borrow is held in an option: alone it is no local that a proof covers.
+/// An enum of structs that borrow is held in an option: alone it is no local that a proof covers.
 fn future_template<'a>(coinbase_prefix: &'a [u8], merkle_path: Seq32<'a>) -> Option<Template<'a>> {
     Some(Template::NewTemplate(NewTemplate {
         template_id: 5,

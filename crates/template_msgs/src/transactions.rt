@@ -10,7 +10,7 @@ use crate::message::Template;
 use sv2_messages::{Field, FieldReader, MsgError};
 use sv2_types::SeqBytes;
 
-/// Asks for the transactions (Stratum V2, "RequestTransactionData").
+/// Asks the template provider for a template's transactions (Stratum V2, "RequestTransactionData").
 #[derive(Clone, Copy, Debug, PartialEq, Eq)]
 pub struct RequestTransactionData {
     pub template_id: u64,
@@ -37,11 +37,12 @@ pub(crate) fn read_request_transaction_data<'a>(payload: &'a [u8]) -> Result<Tem
     Ok(Template::RequestTransactionData(message))
 }
 
-/// Brings them (Stratum V2, "RequestTransactionData.Success").
+/// Brings a template's transactions (Stratum V2, "RequestTransactionData.Success").
 #[derive(Clone, Copy, Debug, PartialEq, Eq)]
 pub struct RequestTransactionDataSuccess<'a> {
     pub template_id: u64,
     pub excess_data: &'a [u8],
+    /// Each is in Bitcoin's raw transaction format.
     pub transaction_list: SeqBytes<'a>,
 }
 
@@ -74,7 +75,7 @@ pub(crate) fn read_request_transaction_data_success<'a>(
     Ok(Template::RequestTransactionDataSuccess(message))
 }
 
-/// Brings none (Stratum V2, "RequestTransactionData.Error").
+/// Refuses a template's transactions, with an error code (Stratum V2, "RequestTransactionData.Error").
 #[derive(Clone, Copy, Debug, PartialEq, Eq)]
 pub struct RequestTransactionDataError<'a> {
     pub template_id: u64,

@@ -6,10 +6,12 @@ use crate::{Host, HostError, MemSink, MemSource, Shelf, Turn};
 use std::alloc::Global;
 use std::mem;
 
-/// What one of its objects starts with, and the numbers of that object's calls that are to fail.
+/// How an input or an output of a host in memory behaves.
 #[derive(Drop)]
 pub struct Script<T> {
+    /// What the object starts with: the turns of an input, the bytes of an output.
     pub contents: Vec<T>,
+    /// The numbers of its calls that are to fail, the first call being number 0.
     pub failing: Vec<u64>,
 }
 
