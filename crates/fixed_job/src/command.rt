@@ -20,8 +20,11 @@ pub enum FixedEnd {
     IdleOut,
     /// Too many bytes came.
     BytesOut,
+    /// A read failed.
     ReadFault,
+    /// A write failed.
     WriteFault,
+    /// There was no memory.
     Memory,
 }
 
@@ -112,7 +115,7 @@ impl Command {
         }
     }
 
-    /// Whether the end of the input stands behind a whole frame.
+    /// How the command ends at the end of the input: well, where no part of a frame is held.
     fn end(&self) -> FixedEnd
         ensures ends { (before now : Option (List ℕ)) (steps : List Step) (made : Made before now steps self.now)
             → EndsBy self.now.stream.judge.class self.now.stream.judge.job steps steps made.given result }

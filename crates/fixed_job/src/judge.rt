@@ -11,17 +11,24 @@ use std::alloc::{AllocError, Global};
 /// What a header has of the job: the hashes as they stand in the header.
 #[derive(Clone, Copy, Debug, PartialEq, Eq)]
 pub struct Job {
+    /// The hash of the block before.
     pub prev_hash: [u8; 32],
+    /// The merkle root.
     pub root: [u8; 32],
+    /// The compact target.
     pub nbits: u32,
 }
 
 /// Why a share isn't credited, by the first condition that fails.
 #[derive(Clone, Copy, Debug, PartialEq, Eq)]
 pub enum Refusal {
+    /// The channel isn't 1.
     InvalidChannelId,
+    /// The job isn't 1.
     InvalidJobId,
+    /// The header's hash misses the class.
     DifficultyTooLow,
+    /// An earlier submission has the same header.
     DuplicateShare,
 }
 

@@ -86,6 +86,7 @@ impl Stream {
         let share = match self.splitter.next() {
             Ok(Some(frame)) => read_share(frame.payload).unwrap(),
             Ok(None) => return Ok(()),
+            // A header over the limit is another one. It was refused above, but the splitter tells it too.
             Err(TooLong(_)) => return Err(Stop::OtherFrame),
         };
         let refusal = self.judge.judge(&share)?;

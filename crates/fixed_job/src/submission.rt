@@ -56,7 +56,7 @@ pub fn holds_other(splitter: &Splitter) -> bool
     }
 }
 
-/// The share that a payload of 24 bytes brings.
+/// The share that a payload of 24 bytes brings: each such payload brings one.
 pub fn read_share(payload: &[u8]) -> Option<SubmitSharesStandard>
     requires { length payload.now ≡ 24 }
     ensures { IsSomeAnd result (λ share. payload.now ≡ payload_of share) }

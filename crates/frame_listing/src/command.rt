@@ -19,8 +19,11 @@ pub enum ListEnd {
     IdleOut,
     /// Too many bytes came.
     BytesOut,
+    /// A read failed.
     ReadFault,
+    /// A write failed.
     WriteFault,
+    /// There was no memory.
     Memory,
 }
 

@@ -60,6 +60,7 @@ fn put_defect(text: &mut Vec<u8>, error: MsgError) -> Result<(), AllocError>
     ensures { OnOk result (text.new.items ≡ text.old.items ++ defect_words error) }
 {
     match error {
+        // No flaw: the payload of such a frame isn't read.
         MsgError::UnknownKind(_) => Ok(()),
         MsgError::BadField(place, reason) => {
             text.extend_from_slice(b" field ")?;

@@ -17,7 +17,7 @@ use Rattle.fixed_job.specs.Ending.{EndsBy, EndsAs, IsFault, Answers, Equal, HasS
 use Rattle.std.specs.Prelude.{Contains}
 use Rattle.pool_cli.specs.declared.words.Form.{Form}
 use Rattle.pool_cli.specs.declared.words.Form.TheVariants.{SoloFixed, Frames}
-use Rattle.pool_cli.specs.Running.{Does, status_of, listing_status, FixedRan, NotGiven, Told, HandsBack, ReachesEither, IsFaultStatus, HasNoSink, WasRead, ToldOfRead, ToldToLimit, HasNotFailed}
+use Rattle.pool_cli.specs.Running.{Does, status_of, listing_status, FixedRan, NotGiven, Told, HandsBack, ReachesEither, IsFaultStatus, HasNoSink, WasRead, ToldOfRead, ToldToLimit, ReadsWell, WritesWell, HostKeeps}
 
 module _ (class : ℕ) (job : Job) (taken steps : List Step) (given : List ℕ) where
   pub at_done : (e : FixedEnd) → 0 ≡ status_of e → EndsBy class job taken steps given e → Answers IsWhole Equal class job steps given
@@ -223,48 +223,58 @@ listing_writes list.BytesOut n not_5 stays = stays
 listing_writes list.ReadFault n not_5 stays = stays
 listing_writes list.Memory n not_5 stays = stays
 
-module _ {S T : Type 0} (left : S → Option (List Turn)) (read_faults : S → ℕ) (held : T → Option (List ℕ)) (write_faults : T → ℕ) (old new : Seen S T) (status : ℕ)
-    (not_4 : status ≡ 4 → ⊥) (not_5 : status ≡ 5 → ⊥) (not_7 : status ≡ 7 → ⊥) (not_8 : status ≡ 8 → ⊥) where
-  was_given : NotGiven old new status → HasNotFailed read_faults write_faults old new
-  was_given refused = elim refused.cause [ inl memory ↦ absurd (not_8 memory) | inr failed ↦ absurd (not_7 failed.0) ]
+module _ {S T : Type 0} (left : S → Option (List Turn)) (read_faults : S → ℕ) (held : T → Option (List ℕ)) (write_faults : T → ℕ) (old new : Seen S T) (status : ℕ) where
+  -- the host gave all, unless its status is told
+  was_given : (form : Form) → Does left read_faults held write_faults form old new status → (status ≡ 7 → ⊥) → (status ≡ 8 → ⊥) → NotGiven old new status → ⊥
+  was_given form does not_7 not_8 refused = elim refused.cause [ inl memory ↦ not_8 memory | inr failed ↦ not_7 failed.0 ]
 
-  -- what was done without such a status was done without a failure
-  pub has_not_failed : (form : Form) → Does left read_faults held write_faults form old new status → HasNotFailed read_faults write_faults old new
-  has_not_failed (SoloFixed class job) (inl r) = record {
-    source = r.source;
-    sink = r.sink;
-    sources = r.sources.back;
-    sinks = r.sinks.back;
-    reads = fixed_reads r.end (read_faults r.source) (λ is. not_4 (r.answer ∙ is)) r.reads;
-    writes = fixed_writes r.end (write_faults r.sink) (λ is. not_5 (r.answer ∙ is)) r.writes;
-    kept = r.kept;
-  }
-  has_not_failed Frames (inl r) = record {
-    source = r.source;
-    sink = r.sink;
-    sources = r.sources.back;
-    sinks = r.sinks.back;
-    reads = listing_reads r.end (read_faults r.source) (λ is. not_4 (r.answer ∙ is)) r.reads;
-    writes = listing_writes r.end (write_faults r.sink) (λ is. not_5 (r.answer ∙ is)) r.writes;
-    kept = r.kept;
-  }
-  has_not_failed (SoloFixed class job) (inr refused) = was_given refused
-  has_not_failed Frames (inr refused) = was_given refused
+  pub reads_well_at : (form : Form) → Does left read_faults held write_faults form old new status → (status ≡ 4 → ⊥) → (status ≡ 7 → ⊥) → (status ≡ 8 → ⊥) → ReadsWell read_faults old new
+  reads_well_at (SoloFixed class job) (inl r) not_4 not_7 not_8 = (r.source, r.sources.back, fixed_reads r.end (read_faults r.source) (λ is. not_4 (r.answer ∙ is)) r.reads)
+  reads_well_at Frames (inl r) not_4 not_7 not_8 = (r.source, r.sources.back, listing_reads r.end (read_faults r.source) (λ is. not_4 (r.answer ∙ is)) r.reads)
+  reads_well_at (SoloFixed class job) (inr refused) not_4 not_7 not_8 = absurd (was_given (SoloFixed class job) (inr refused) not_7 not_8 refused)
+  reads_well_at Frames (inr refused) not_4 not_7 not_8 = absurd (was_given Frames (inr refused) not_7 not_8 refused)
 
--- the statuses of the ends that the input decides
-is_plain : (status : ℕ) → Contains (0 ∷ 3 ∷ 10 ∷ []) status → (status ≡ 0) ⊎ (status ≡ 3) ⊎ (status ≡ 10)
-is_plain status (zero, within, is) = inl (sym is)
-is_plain status (suc zero, within, is) = inr (inl (sym is))
-is_plain status (suc (suc zero), within, is) = inr (inr (sym is))
-is_plain status (suc (suc (suc i)), within, is) = absurd (omega (arith, within))
+  pub writes_well_at : (form : Form) → Does left read_faults held write_faults form old new status → (status ≡ 5 → ⊥) → (status ≡ 7 → ⊥) → (status ≡ 8 → ⊥) → WritesWell write_faults old new
+  writes_well_at (SoloFixed class job) (inl r) not_5 not_7 not_8 = (r.sink, r.sinks.back, fixed_writes r.end (write_faults r.sink) (λ is. not_5 (r.answer ∙ is)) r.writes)
+  writes_well_at Frames (inl r) not_5 not_7 not_8 = (r.sink, r.sinks.back, listing_writes r.end (write_faults r.sink) (λ is. not_5 (r.answer ∙ is)) r.writes)
+  writes_well_at (SoloFixed class job) (inr refused) not_5 not_7 not_8 = absurd (was_given (SoloFixed class job) (inr refused) not_7 not_8 refused)
+  writes_well_at Frames (inr refused) not_5 not_7 not_8 = absurd (was_given Frames (inr refused) not_7 not_8 refused)
+
+  pub both_well : (form : Form) → Does left read_faults held write_faults form old new status → status ≡ 8
+      → HasNoSink old new ⊎ (ReadsWell read_faults old new × WritesWell write_faults old new)
+  both_well (SoloFixed class job) (inl r) is = inr (
+    (r.source, r.sources.back, fixed_reads r.end (read_faults r.source) (λ four. omega (arith, is, r.answer, four)) r.reads),
+    (r.sink, r.sinks.back, fixed_writes r.end (write_faults r.sink) (λ five. omega (arith, is, r.answer, five)) r.writes),
+  )
+  both_well Frames (inl r) is = inr (
+    (r.source, r.sources.back, listing_reads r.end (read_faults r.source) (λ four. omega (arith, is, r.answer, four)) r.reads),
+    (r.sink, r.sinks.back, listing_writes r.end (write_faults r.sink) (λ five. omega (arith, is, r.answer, five)) r.writes),
+  )
+  both_well (SoloFixed class job) (inr refused) is = inl refused.none
+  both_well Frames (inr refused) is = inl refused.none
+
+  pub host_keeps : (form : Form) → Does left read_faults held write_faults form old new status → (status ≡ 7) ⊎ HostKeeps old new
+  host_keeps (SoloFixed class job) (inl r) = inr r.kept
+  host_keeps Frames (inl r) = inr r.kept
+  host_keeps (SoloFixed class job) (inr refused) = elim refused.cause [ inl memory ↦ inr (refused.kept memory) | inr failed ↦ inl failed.0 ]
+  host_keeps Frames (inr refused) = elim refused.cause [ inl memory ↦ inr (refused.kept memory) | inr failed ↦ inl failed.0 ]
+
+-- a status of a list of four is one of them
+is_among : (a b c d status : ℕ) → Contains (a ∷ b ∷ c ∷ d ∷ []) status → (status ≡ a) ⊎ (status ≡ b) ⊎ (status ≡ c) ⊎ (status ≡ d)
+is_among a b c d status (zero, within, is) = inl (sym is)
+is_among a b c d status (suc zero, within, is) = inr (inl (sym is))
+is_among a b c d status (suc (suc zero), within, is) = inr (inr (inl (sym is)))
+is_among a b c d status (suc (suc (suc zero)), within, is) = inr (inr (inr (sym is)))
+is_among a b c d status (suc (suc (suc (suc i))), within, is) = absurd (omega (arith, within))
 
 -- and no other
-pub other_than : (status n : ℕ) → Contains (0 ∷ 3 ∷ 10 ∷ []) status → (n ≡ 0 → ⊥) → (n ≡ 3 → ⊥) → (n ≡ 10 → ⊥) → status ≡ n → ⊥
-other_than status n listed not_0 not_3 not_10 is =
-    elim (is_plain status listed) [
-      | inl done ↦ not_0 (sym is ∙ done)
-      | inr (inl other) ↦ not_3 (sym is ∙ other)
-      | inr (inr limit) ↦ not_10 (sym is ∙ limit)
+pub other_than : (a b c d status n : ℕ) → Contains (a ∷ b ∷ c ∷ d ∷ []) status → (n ≡ a → ⊥) → (n ≡ b → ⊥) → (n ≡ c → ⊥) → (n ≡ d → ⊥) → status ≡ n → ⊥
+other_than a b c d status n listed not_a not_b not_c not_d is =
+    elim (is_among a b c d status listed) [
+      | inl same ↦ not_a (sym is ∙ same)
+      | inr (inl same) ↦ not_b (sym is ∙ same)
+      | inr (inr (inl same)) ↦ not_c (sym is ∙ same)
+      | inr (inr (inr same)) ↦ not_d (sym is ∙ same)
     ]
 
 -- a status of the host is that of nothing given

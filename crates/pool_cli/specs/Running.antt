@@ -69,6 +69,7 @@ pub record NotGiven {S T : Type 0} (old new : Seen S T) (status : ℕ) : Type 0 
   pub sinks : new.sinks.lent ≡ old.sinks.lent
   pub none : HasNoSink old new
   pub cause : (status ≡ 8) ⊎ ((status ≡ 7) × Rose old.faults new.faults)
+  pub kept : status ≡ 8 → new.faults ≡ old.faults
 
 -- the status of each end of a listing
 abbrev pub listing_status : ListEnd → ℕ
@@ -174,15 +175,17 @@ PrintsOfRead Reads Gives input = (told : List Turn) → input ≡ Some told
 abbrev pub IsFaultStatus : ℕ → Type 0
 IsFaultStatus status = (status ≡ 4) ⊎ (status ≡ 5) ⊎ (status ≡ 7) ⊎ (status ≡ 8)
 
--- a source and a sink came back, and neither they nor the host have failed
-pub record HasNotFailed {S T : Type 0} (read_faults : S → ℕ) (write_faults : T → ℕ) (old new : Seen S T) : Type 0 where
-  pub source : S
-  pub sink : T
-  pub sources : new.sources.back ≡ old.sources.back ++ source ∷ []
-  pub sinks : new.sinks.back ≡ old.sinks.back ++ sink ∷ []
-  pub reads : read_faults source ≡ 0
-  pub writes : write_faults sink ≡ 0
-  pub kept : new.faults ≡ old.faults
+-- a source came back that has not failed
+abbrev pub ReadsWell : {S T : Type 0} → (S → ℕ) → Seen S T → Seen S T → Type 0
+ReadsWell {S} {T} faults old new = (source : S) × (new.sources.back ≡ old.sources.back ++ source ∷ []) × (faults source ≡ 0)
+
+-- a sink came back that has not failed
+abbrev pub WritesWell : {S T : Type 0} → (T → ℕ) → Seen S T → Seen S T → Type 0
+WritesWell {S} {T} faults old new = (sink : T) × (new.sinks.back ≡ old.sinks.back ++ sink ∷ []) × (faults sink ≡ 0)
+
+-- no failure of the host was added
+abbrev pub HostKeeps : {S T : Type 0} → Seen S T → Seen S T → Type 0
+HostKeeps old new = new.faults ≡ old.faults
 
 -- where standard input tells its turns: the steps that were taken reach a limit, and no shorter front of them does
 abbrev pub ToldToLimit : (List Step → Type 0) → Option (List Turn) → Type 0

@@ -16,7 +16,8 @@ pub struct ReadSource<R: Read + Drop> {
 
 impl<R: Read + Drop> ReadSource<R> {
     pub fn new(reader: R) -> ReadSource<R>
-        ensures { result.faults ≡ 0 }
+        ensures fresh { result.faults ≡ 0 }
+        ensures reader { result.reader ≡ reader }
     {
         ReadSource { reader, faults: 0 }
     }
@@ -66,7 +67,8 @@ pub struct WriteSink<W: Write + Drop> {
 
 impl<W: Write + Drop> WriteSink<W> {
     pub fn new(writer: W) -> WriteSink<W>
-        ensures { result.faults ≡ 0 }
+        ensures fresh { result.faults ≡ 0 }
+        ensures writer { result.writer ≡ writer }
     {
         WriteSink { writer, faults: 0 }
     }
@@ -117,6 +119,8 @@ pub struct StreamHost<R: Read + Copy + Drop, W: Write + Copy + Drop> {
 impl<R: Read + Copy + Drop, W: Write + Copy + Drop> StreamHost<R, W> {
     /// A host that has given nothing.
     pub fn new(alloc: Global, input: R, output: W) -> StreamHost<R, W>
+        ensures input { result.input ≡ input }
+        ensures output { result.output ≡ output }
         ensures sources { result.sources ≡ record { lent = 0; back = [] } }
         ensures sinks { result.sinks ≡ record { lent = 0; back = [] } }
     {

@@ -13,7 +13,7 @@ ghost use Rattle.sv2_frames.specs.Framing.{FrameValue};
 ghost use Rattle.frame_listing.specs.declared.flaw.Flaw.{Flaw};
 ghost use Rattle.frame_listing.specs.Reading as listed;
 ghost use Rattle.pool_cli.specs.Forms.{IsSoloFixed, IsFrames, HasNoForm};
-ghost use Rattle.pool_cli.specs.Running.{FixedRan, FramesRan, Prints, PrintsDone, PrintsBad, PrintsLimit, PrintsOfRead, PrintsWriteFault, PrintsMemory, ListsToLimit, WasRead, ToldOfRead, ToldToLimit, HasNoSink, HasNotFailed, NotGiven, Does, IsWithinLimits, Told, HandsBack, ReachesEither, ReadRose, WriteRose, IsFaultStatus};
+ghost use Rattle.pool_cli.specs.Running.{FixedRan, FramesRan, Prints, PrintsDone, PrintsBad, PrintsLimit, PrintsOfRead, PrintsWriteFault, PrintsMemory, ListsToLimit, WasRead, ToldOfRead, ToldToLimit, HasNoSink, ReadsWell, WritesWell, HostKeeps, NotGiven, Does, IsWithinLimits, Told, HandsBack, ReachesEither, ReadRose, WriteRose, IsFaultStatus};
 
 use crate::words::{Form, Word, form_of};
 use fixed_job::{FixedEnd, Job, judge_shares};
@@ -97,11 +97,17 @@ pub fn run<H: Host>(alloc: Global, host: &mut H, words: &[Word]) -> u8
     // 7: no sink came back, since none was given.
     ensures not_given { result ≡ 7 → HasNoSink (H.seen host.old) (H.seen host.new) }
 
-    // A fault is told only where a count rose: the source's, the sink's, the host's. With 0, 3 and 10 none did.
+    // A fault is told only where a count rose: the source's, the sink's, the host's.
     ensures read_fault { result ≡ 4 → ReadRose H.S.faults (H.seen host.old) (H.seen host.new) }
     ensures write_fault { result ≡ 5 → WriteRose H.T.faults (H.seen host.old) (H.seen host.new) }
     ensures host_fault { result ≡ 7 → Rose (H.seen host.old).faults (H.seen host.new).faults }
-    ensures not_failed { Contains (0 ∷ 3 ∷ 10 ∷ []) result → HasNotFailed H.S.faults H.T.faults (H.seen host.old) (H.seen host.new) }
+
+    // No other count rose: with 0, 3, 8 and 10 none did.
+    ensures reads_well { Contains (0 ∷ 3 ∷ 5 ∷ 10 ∷ []) result → ReadsWell H.S.faults (H.seen host.old) (H.seen host.new) }
+    ensures writes_well { Contains (0 ∷ 3 ∷ 4 ∷ 10 ∷ []) result → WritesWell H.T.faults (H.seen host.old) (H.seen host.new) }
+    ensures both_well { result ≡ 8 → HasNoSink (H.seen host.old) (H.seen host.new)
+        ⊎ (ReadsWell H.S.faults (H.seen host.old) (H.seen host.new) × WritesWell H.T.faults (H.seen host.old) (H.seen host.new)) }
+    ensures host_keeps { (result ≡ 7) ⊎ HostKeeps (H.seen host.old) (H.seen host.new) }
     ensures later { (H.seen host.old).faults ≤ (H.seen host.new).faults }
 
     // Everything that was given has come back, and there are no other statuses.

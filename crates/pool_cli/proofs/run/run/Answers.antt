@@ -8,7 +8,7 @@ use Rattle.pool_cli.specs.Forms.{IsSoloFixed, IsFrames}
 use Rattle.pool_cli.specs.Running.{FixedRan, FramesRan, NotGiven, ReachesEither, PrintsDone, PrintsBad, PrintsLimit, PrintsWriteFault}
 use Rattle.pool_cli.proofs.OneForm.{was_asked, was_frames}
 use Rattle.pool_cli.proofs.ListStatuses.{at_listed, at_bad, at_list_limit, at_list_write_fault, prints_of_read, prints_at, prints_without_memory, is_listed, is_listed_bad, is_listed_limit}
-use Rattle.pool_cli.proofs.Statuses.{told_at, told_of_read, told_without_memory, has_not_failed, other_than, gave_none, told_to_limit, at_done, at_other_frame, at_limit, at_write_fault, is_other_frame, is_limit, does_listed}
+use Rattle.pool_cli.proofs.Statuses.{told_at, told_of_read, told_without_memory, reads_well_at, writes_well_at, both_well, host_keeps, other_than, gave_none, told_to_limit, at_done, at_other_frame, at_limit, at_write_fault, is_other_frame, is_limit, does_listed}
 use Rattle.pool_cli.proofs.run.run.Goals as goal
 use Rattle.pool_cli.proofs.run.run.Goals.{After-perform}
 
@@ -63,14 +63,26 @@ pub returns-in-Some-clause-not_given : goal.returns-in-Some-clause-not_given
 returns-in-Some-clause-not_given g c =
     gave_none g.H.S.Source.left g.H.S.Source.faults g.H.T.Sink.held g.H.T.Sink.faults c.in-Some.form _ _ c.perform.result c.perform.ensures.does
 
-pub returns-in-Some-clause-not_failed : goal.returns-in-Some-clause-not_failed
-returns-in-Some-clause-not_failed g c = λ listed.
-    has_not_failed g.H.S.Source.left g.H.S.Source.faults g.H.T.Sink.held g.H.T.Sink.faults _ _ c.perform.result
-    (other_than c.perform.result 4 listed (λ e. omega arith) (λ e. omega arith) (λ e. omega arith))
-    (other_than c.perform.result 5 listed (λ e. omega arith) (λ e. omega arith) (λ e. omega arith))
-    (other_than c.perform.result 7 listed (λ e. omega arith) (λ e. omega arith) (λ e. omega arith))
-    (other_than c.perform.result 8 listed (λ e. omega arith) (λ e. omega arith) (λ e. omega arith))
-    c.in-Some.form c.perform.ensures.does
+pub returns-in-Some-clause-reads_well : goal.returns-in-Some-clause-reads_well
+returns-in-Some-clause-reads_well g c = λ listed.
+    reads_well_at g.H.S.Source.left g.H.S.Source.faults g.H.T.Sink.held g.H.T.Sink.faults _ _ c.perform.result c.in-Some.form c.perform.ensures.does
+    (other_than 0 3 5 10 c.perform.result 4 listed (λ e. omega arith) (λ e. omega arith) (λ e. omega arith) (λ e. omega arith))
+    (other_than 0 3 5 10 c.perform.result 7 listed (λ e. omega arith) (λ e. omega arith) (λ e. omega arith) (λ e. omega arith))
+    (other_than 0 3 5 10 c.perform.result 8 listed (λ e. omega arith) (λ e. omega arith) (λ e. omega arith) (λ e. omega arith))
+
+pub returns-in-Some-clause-writes_well : goal.returns-in-Some-clause-writes_well
+returns-in-Some-clause-writes_well g c = λ listed.
+    writes_well_at g.H.S.Source.left g.H.S.Source.faults g.H.T.Sink.held g.H.T.Sink.faults _ _ c.perform.result c.in-Some.form c.perform.ensures.does
+    (other_than 0 3 4 10 c.perform.result 5 listed (λ e. omega arith) (λ e. omega arith) (λ e. omega arith) (λ e. omega arith))
+    (other_than 0 3 4 10 c.perform.result 7 listed (λ e. omega arith) (λ e. omega arith) (λ e. omega arith) (λ e. omega arith))
+    (other_than 0 3 4 10 c.perform.result 8 listed (λ e. omega arith) (λ e. omega arith) (λ e. omega arith) (λ e. omega arith))
+
+pub returns-in-Some-clause-both_well : goal.returns-in-Some-clause-both_well
+returns-in-Some-clause-both_well g c = λ is.
+    both_well g.H.S.Source.left g.H.S.Source.faults g.H.T.Sink.held g.H.T.Sink.faults _ _ c.perform.result c.in-Some.form c.perform.ensures.does is
+
+pub returns-in-Some-clause-host_keeps : goal.returns-in-Some-clause-host_keeps
+returns-in-Some-clause-host_keeps g c = host_keeps g.H.S.Source.left g.H.S.Source.faults g.H.T.Sink.held g.H.T.Sink.faults _ _ c.perform.result c.in-Some.form c.perform.ensures.does
 
 pub returns-in-None-clause-is_done : goal.returns-in-None-clause-is_done
 returns-in-None-clause-is_done g c = λ class job told shares form. absurd (c.in-None.ensures.none (SoloFixed class job) form)
