@@ -102,7 +102,7 @@ pub fn run<H: Host>(alloc: Global, host: &mut H, words: &[Word]) -> u8
     ensures write_fault { result ≡ 5 → WriteRose H.T.faults (H.seen host.old) (H.seen host.new) }
     ensures host_fault { result ≡ 7 → Rose (H.seen host.old).faults (H.seen host.new).faults }
 
-    // No other count rose: with 0, 3, 8 and 10 none did.
+    // No other count rose with 4 and 5, and none with 0, 3 and 10, nor with 8 where there was a sink.
     ensures reads_well { Contains (0 ∷ 3 ∷ 5 ∷ 10 ∷ []) result → ReadsWell H.S.faults (H.seen host.old) (H.seen host.new) }
     ensures writes_well { Contains (0 ∷ 3 ∷ 4 ∷ 10 ∷ []) result → WritesWell H.T.faults (H.seen host.old) (H.seen host.new) }
     ensures both_well { result ≡ 8 → HasNoSink (H.seen host.old) (H.seen host.new)
