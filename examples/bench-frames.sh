@@ -10,15 +10,8 @@ trap 'rm -rf "$work"' EXIT
 echo "building"
 (cd crates/bench_frames && rt run < /dev/null > "$work/build" 2>&1) || { cat "$work/build"; exit 1; }
 
-python3 - "$work" <<'PY'
-import sys
-for length, count in ((24, 8_000_000), (200_000, 1_200)):
-    frame = bytes.fromhex("00801a") + length.to_bytes(3, "little") + b"\x11" * length
-    with open(f"{sys.argv[1]}/{length}", "wb") as stream:
-        many = max(1, 3_000_000 // len(frame))
-        for start in range(0, count, many):
-            stream.write(frame * min(many, count - start))
-PY
+python3 examples/stream-of-frames.py 00801a "" 24 8000000 "$work/24"
+python3 examples/stream-of-frames.py 00801a "" 200000 1200 "$work/200000"
 
 for length in 24 200000; do
     python3 - "$length" "$work/$length" <<'PY'

@@ -12,18 +12,10 @@ for program in bench_frames bench_messages; do
     (cd "crates/$program" && rt run < /dev/null > "$work/build" 2>&1) || { cat "$work/build"; exit 1; }
 done
 
-python3 - "$work" <<'PY'
-import sys
-share = bytes.fromhex("01000000 09000000 01000000 00000000 40420f00 00000020")
-template = (bytes.fromhex("0500000000000000 01 00000020 02000000 025151 ffffffff e803000000000000 00000000 0000 00000000")
-            + b"\x0c" + b"\x11" * 32 * 12)
-for name, head, payload, count in (("1a", "00801a", share, 6_000_000), ("71", "000071", template, 600_000)):
-    frame = bytes.fromhex(head) + len(payload).to_bytes(3, "little") + payload
-    with open(f"{sys.argv[1]}/{name}", "wb") as stream:
-        many = max(1, 3_000_000 // len(frame))
-        for start in range(0, count, many):
-            stream.write(frame * min(many, count - start))
-PY
+share=0100000009000000010000000000000040420f0000000020
+template=0500000000000000010000002002000000025151ffffffffe803000000000000000000000000000000000c
+python3 examples/stream-of-frames.py 00801a "$share" 0 6000000 "$work/1a"
+python3 examples/stream-of-frames.py 000071 "$template" 384 600000 "$work/71"
 
 for kind in 1a 71; do
     python3 - "$kind" "$work/$kind" <<'PY'
