@@ -10,7 +10,7 @@ use Rattle.fixed_job.specs.declared.judge.Job.{Job}
 use Rattle.fixed_job.specs.declared.judge.Refusal.{Refusal}
 use Rattle.fixed_job.specs.declared.judge.Refusal.TheVariants.{InvalidChannelId, InvalidJobId, DifficultyTooLow, DuplicateShare}
 use Rattle.fixed_job.specs.Rolling.{rolled_of, is_same}
-use Rattle.fixed_job.specs.Answers.{hash_of, is_ours, is_submitted, first_failed}
+use Rattle.fixed_job.specs.Answers.{hash_of, is_ours, is_submitted, first_refusal}
 
 -- what is tested equal is equal
 same_rolled : (a b : Rolled) → is_same a b ≡ true → a ≡ b
@@ -98,7 +98,7 @@ module _ (class : ℕ) (job : Job) (shares : List SubmitSharesStandard) (s : Sub
       or_known (is_submitted shares r) (is_ours s && is_same r (rolled_of s))
       (λ both. ap (is_submitted shares) (same_rolled r (rolled_of s) (and_parts (is_ours s) (is_same r (rolled_of s)) both).1) ∙ known)
 
-  pub refused_more : meets (hash_of job r) class ≡ true → is_some (first_failed class job shares s) ≡ true
+  pub refused_more : meets (hash_of job r) class ≡ true → is_some (first_refusal class job shares s) ≡ true
       → is_submitted (shares ++ s ∷ []) r ≡ is_submitted shares r
   refused_more strong some =
       submitted_more shares s r

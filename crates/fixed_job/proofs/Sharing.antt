@@ -11,7 +11,7 @@ use Rattle.sv2_messages.proofs.Numbers.{IsBytes-drop}
 use Rattle.sv2_messages.proofs.Readable.{lies}
 use Rattle.sv2_frames.specs.Framing.{header_of, payload_length}
 use Rattle.sv2_frames.proofs.Cutting.{payload_length-header}
-use Rattle.fixed_job.specs.Submitting.{IsHeader, IsPlainOrChannel}
+use Rattle.fixed_job.specs.Submitting.{IsShareHeader, IsPlainOrChannel}
 
 -- numbers of four bytes, one after the other
 abbrev numbers : ℕ → List ℕ → List FieldValue
@@ -55,7 +55,7 @@ plain ext fits none = elim (cases_lt ext 0x8000) [
 
 -- of a plain header of a share's kind the length decides
 pub length_decides : (ext kind len : ℕ) → ext < 2 ^ 16 → len < 2 ^ 24 → ext % 0x8000 ≡ 0 → kind ≡ 0x1a
-    → IsTrue (nat_eq len 24) ↔ IsHeader (header_of ext kind len)
+    → IsTrue (nat_eq len 24) ↔ IsShareHeader (header_of ext kind len)
 length_decides ext kind len ext_fits len_fits none is = (
   λ long. (ext, plain ext ext_fits none, ap (λ k. header_of ext k len) is ∙ ap (λ n. header_of ext 0x1a n) (eqb-true len 24 long)),
   λ header.

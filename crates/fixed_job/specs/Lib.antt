@@ -1,7 +1,8 @@
 pub mod Answers
-pub mod Ending
+pub mod Duty
+pub mod Judging
 pub mod Laws
-pub mod Reading
+pub mod OneReading
 pub mod Rolling
-pub mod Standing
+pub mod Sound
 pub mod Submitting

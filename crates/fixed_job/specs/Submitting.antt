@@ -9,16 +9,16 @@ abbrev pub IsPlainOrChannel : ℕ → Type 0
 IsPlainOrChannel ext = (ext ≡ 0) ⊎ (ext ≡ 0x8000)
 
 -- the fields of a submission in their order
-abbrev pub payload_of : SubmitSharesStandard → List ℕ
-payload_of s = spelled_u32 s.channel_id ++ spelled_u32 s.sequence_number ++ spelled_u32 s.job_id
+abbrev pub share_payload : SubmitSharesStandard → List ℕ
+share_payload s = spelled_u32 s.channel_id ++ spelled_u32 s.sequence_number ++ spelled_u32 s.job_id
     ++ spelled_u32 s.nonce ++ spelled_u32 s.ntime ++ spelled_u32 s.version
 
 -- the six bytes begin a submission's frame
-abbrev pub IsHeader : List ℕ → Type 0
-IsHeader bytes = (ext : ℕ) × IsPlainOrChannel ext × (bytes ≡ header_of ext 0x1a 24)
+abbrev pub IsShareHeader : List ℕ → Type 0
+IsShareHeader bytes = (ext : ℕ) × IsPlainOrChannel ext × (bytes ≡ header_of ext 0x1a 24)
 
 -- each field has four bytes
-pub record Fits (s : SubmitSharesStandard) : Type 0 where
+pub record HasFourByteFields (s : SubmitSharesStandard) : Type 0 where
   pub channel : s.channel_id < 2 ^ 32
   pub sequence : s.sequence_number < 2 ^ 32
   pub job : s.job_id < 2 ^ 32
@@ -27,31 +27,31 @@ pub record Fits (s : SubmitSharesStandard) : Type 0 where
   pub version : s.version < 2 ^ 32
 
 -- the bytes are the whole frame of a submission
-pub record IsFrame (bytes : List ℕ) (s : SubmitSharesStandard) : Type 0 where
+pub record IsShareFrame (bytes : List ℕ) (s : SubmitSharesStandard) : Type 0 where
   pub ext : ℕ
   pub bit : IsPlainOrChannel ext
-  pub fits : Fits s
-  pub spelled : bytes ≡ frame_of ext 0x1a (payload_of s)
+  pub fits : HasFourByteFields s
+  pub spelled : bytes ≡ frame_of ext 0x1a (share_payload s)
 
 -- the bytes are the frames of these submissions, one after the other, and then the rest
-abbrev pub Spell : List ℕ → List SubmitSharesStandard → List ℕ → Type 0
-Spell bytes [] rest = bytes ≡ rest
-Spell bytes (s ∷ later) rest = (frame : List ℕ) × (after : List ℕ) × IsFrame frame s × (bytes ≡ frame ++ after) × Spell after later rest
+abbrev pub SpellShares : List ℕ → List SubmitSharesStandard → List ℕ → Type 0
+SpellShares bytes [] rest = bytes ≡ rest
+SpellShares bytes (s ∷ later) rest = (frame : List ℕ) × (after : List ℕ) × IsShareFrame frame s × (bytes ≡ frame ++ after) × SpellShares after later rest
 
 -- where six bytes are there, they begin a submission's frame
 abbrev pub BeginsShare : List ℕ → Type 0
-BeginsShare bytes = 6 ≤ length bytes → IsHeader (take 6 bytes)
+BeginsShare bytes = 6 ≤ length bytes → IsShareHeader (take 6 bytes)
 
 -- less than a whole frame, and no bytes of another header
-pub record IsPartial (bytes : List ℕ) : Type 0 where
+pub record IsPartialShare (bytes : List ℕ) : Type 0 where
   pub short : length bytes < 30
   pub header : BeginsShare bytes
 
 -- the first six bytes are another header
-pub record IsOther (bytes : List ℕ) : Type 0 where
+pub record IsOtherHeader (bytes : List ℕ) : Type 0 where
   pub long : 6 ≤ length bytes
-  pub header : IsHeader (take 6 bytes) → ⊥
+  pub header : IsShareHeader (take 6 bytes) → ⊥
 
 -- no frame of a submission begins the bytes
-abbrev pub IsRest : List ℕ → Type 0
-IsRest bytes = (frame more : List ℕ) (s : SubmitSharesStandard) → IsFrame frame s → bytes ≡ frame ++ more → ⊥
+abbrev pub BeginsNoShare : List ℕ → Type 0
+BeginsNoShare bytes = (frame more : List ℕ) (s : SubmitSharesStandard) → IsShareFrame frame s → bytes ≡ frame ++ more → ⊥

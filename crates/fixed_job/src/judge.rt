@@ -1,7 +1,7 @@
 //! Which share of the job is credited, and which is refused.
-ghost use Rattle.std.specs.Prelude.{◌≡◌, ◌≤◌, ℕ, List, [], ◌∷◌, ◌++◌, length, IfOk, OnOk};
+ghost use Rattle.std.specs.Prelude.{◌≡◌, ◌≤◌, ℕ, List, [], ◌∷◌, ◌++◌, length, IfOk, OnOk, IsSome, None};
 ghost use Rattle.std.specs.List.{list_any};
-ghost use Rattle.fixed_job.specs.Rolling.{is_same};
+ghost use Rattle.fixed_job.specs.Rolling.{rolled_of, is_same};
 
 use crate::submission::{Rolled, rolled_of};
 use block_header::{Header, dsha, meets_class};
@@ -33,11 +33,11 @@ pub enum Refusal {
 }
 
 impl Refusal {
-    ghost use Rattle.fixed_job.specs.Answers.{code_of};
+    ghost use Rattle.fixed_job.specs.Answers.{error_code};
 
     /// The error code of SubmitShares.Error.
     pub fn code(self) -> &'static str
-        ensures code { result.now ≡ code_of self }
+        ensures code { result.now ≡ error_code self }
         ensures short { length result.now ≤ 255 }
     {
         match self {
@@ -59,14 +59,14 @@ pub struct Judge {
 }
 
 impl Judge {
-    ghost use Rattle.fixed_job.specs.Answers.{first_failed, hash_of};
-    ghost use Rattle.fixed_job.specs.Standing.{Keeps};
+    ghost use Rattle.fixed_job.specs.Answers.{first_refusal, hash_of};
+    ghost use Rattle.fixed_job.specs.Judging.{RemembersCredits};
 
     pub fn new(alloc: Global, class: u8, job: &Job) -> Judge
         requires { class ≤ 60 }
         ensures class { result.class ≡ class }
         ensures job { result.job ≡ job.now }
-        ensures keeps { Keeps result [] }
+        ensures remembers { RemembersCredits result [] }
     {
         Judge {
             class,
@@ -89,9 +89,9 @@ impl Judge {
         dsha(&header.bytes())
     }
 
-    fn first_failed(&self, share: &SubmitSharesStandard) -> Option<Refusal>
-        ensures { (earlier : List _) → Keeps self.now earlier
-            → result ≡ first_failed self.now.class self.now.job earlier share.now }
+    fn first_refusal(&self, share: &SubmitSharesStandard) -> Option<Refusal>
+        ensures { (earlier : List _) → RemembersCredits self.now earlier
+            → result ≡ first_refusal self.now.class self.now.job earlier share.now }
     {
         let rolled = rolled_of(share);
         if share.channel_id != 1 {
@@ -109,14 +109,17 @@ impl Judge {
 
     /// The first condition that fails; where none does, the share is credited.
     pub fn judge(&mut self, share: &SubmitSharesStandard) -> Result<Option<Refusal>, AllocError>
-        ensures verdict { (earlier : List _) → Keeps self.old earlier
-            → IfOk result (λ refusal. refusal ≡ first_failed self.old.class self.old.job earlier share.now) }
-        ensures keeps { (earlier : List _) → Keeps self.old earlier
-            → OnOk result (Keeps self.new (earlier ++ share.now ∷ [])) }
+        ensures verdict { (earlier : List _) → RemembersCredits self.old earlier
+            → IfOk result (λ refusal. refusal ≡ first_refusal self.old.class self.old.job earlier share.now) }
+        ensures remembers { (earlier : List _) → RemembersCredits self.old earlier
+            → OnOk result (RemembersCredits self.new (earlier ++ share.now ∷ [])) }
+        // A refused share isn't kept, and a credited one is kept once.
+        ensures refused { IfOk result (λ refusal. IsSome refusal → self.new.credited.items ≡ self.old.credited.items) }
+        ensures credited { IfOk result (λ refusal. refusal ≡ None → self.new.credited.items ≡ self.old.credited.items ++ rolled_of share.now ∷ []) }
         ensures class { self.new.class ≡ self.old.class }
         ensures job { self.new.job ≡ self.old.job }
     {
-        let refusal = self.first_failed(share);
+        let refusal = self.first_refusal(share);
         if refusal.is_none() {
             self.credited.push(rolled_of(share))?;
         }

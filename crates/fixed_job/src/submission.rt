@@ -3,7 +3,7 @@
 ghost use Rattle.std.specs.Prelude.{◌≡◌, ◌↔◌, ◌<◌, ◌^◌, length, IsTrue, IsSomeAnd, MatchBool};
 ghost use Rattle.sv2_frames.specs.Framing.{header_of};
 ghost use Rattle.fixed_job.specs.Rolling.{rolled_of};
-ghost use Rattle.fixed_job.specs.Submitting.{IsHeader, IsOther, BeginsShare, payload_of};
+ghost use Rattle.fixed_job.specs.Submitting.{IsShareHeader, IsOtherHeader, BeginsShare, share_payload};
 
 use mining_msgs::{Mining, SubmitSharesStandard, read};
 use sv2_frames::{FrameHeader, Splitter};
@@ -39,7 +39,7 @@ pub fn rolled_of(share: &SubmitSharesStandard) -> Rolled
 /// Whether a frame with this header brings a share.
 fn brings_share(header: FrameHeader) -> bool
     requires { header.len < 2 ^ 24 }
-    ensures { IsTrue result ↔ IsHeader (header_of header.ext header.kind header.len) }
+    ensures { IsTrue result ↔ IsShareHeader (header_of header.ext header.kind header.len) }
 {
     header.ext % CHANNEL_BIT == 0
         && header.kind == SUBMIT_SHARES_STANDARD
@@ -48,7 +48,7 @@ fn brings_share(header: FrameHeader) -> bool
 
 /// Whether the bytes that are held begin another frame than a share's.
 pub fn holds_other(splitter: &Splitter) -> bool
-    ensures { MatchBool result (IsOther splitter.now.held) (BeginsShare splitter.now.held) }
+    ensures { MatchBool result (IsOtherHeader splitter.now.held) (BeginsShare splitter.now.held) }
 {
     match splitter.header() {
         Some(header) => !brings_share(header),
@@ -59,7 +59,7 @@ pub fn holds_other(splitter: &Splitter) -> bool
 /// The share that a payload of 24 bytes brings: each such payload brings one.
 pub fn read_share(payload: &[u8]) -> Option<SubmitSharesStandard>
     requires { length payload.now ≡ 24 }
-    ensures { IsSomeAnd result (λ share. payload.now ≡ payload_of share) }
+    ensures { IsSomeAnd result (λ share. payload.now ≡ share_payload share) }
 {
     match read(SUBMIT_SHARES_STANDARD, payload) {
         Ok(Mining::SubmitSharesStandard(share)) => Some(share),

@@ -1,5 +1,5 @@
--- What was given out, and what has come back.
-use Rattle.std.specs.Prelude.{ℕ, ◌+◌, ◌-◌, List, [], ◌∷◌, ◌++◌}
+-- What was given out, what has come back, and what is left to give (this project's own).
+use Rattle.std.specs.Prelude.{ℕ, ◌+◌, ◌-◌, List, [], ◌∷◌, ◌++◌, Option, None, Some}
 
 -- how many objects of a kind are out, and those that came back, in their order
 pub record Lending (T : Type 0) : Type 0 where
@@ -13,3 +13,8 @@ lent_one shelf = record { lent = shelf.lent + 1; back = shelf.back }
 -- one that was out has come back
 abbrev pub with_back : {T : Type 0} → Lending T → T → Lending T
 with_back shelf item = record { lent = shelf.lent - 1; back = shelf.back ++ item ∷ [] }
+
+-- what is left to give once it was given, where it is told: nothing
+abbrev pub emptied : {A : Type 0} → Option (List A) → Option (List A)
+emptied None = None
+emptied (Some items) = Some []

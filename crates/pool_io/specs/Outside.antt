@@ -1,5 +1,5 @@
--- What one call does to what a source or a sink tells.
-use Rattle.std.specs.Prelude.{ℕ, ◌≡◌, ◌<◌, ◌≤◌, List, [], ◌∷◌, ◌++◌, length, take, drop, Option, Some, IfSome, Result, Ok, Err}
+-- What one call does to what a source or a sink tells, and to a count of failures (this project's own).
+use Rattle.std.specs.Prelude.{ℕ, ◌+◌, ◌-◌, ◌^◌, min, max, ◌≡◌, ◌<◌, ◌≤◌, Bool, true, false, List, [], ◌∷◌, ◌++◌, length, take, drop, Option, Some, IfSome, Result, Ok, Err}
 use Rattle.pool_io.specs.declared.turn.Turn.{Turn}
 use Rattle.pool_io.specs.declared.turn.Turn.TheVariants as turn
 use Rattle.pool_io.specs.declared.source.Took.{Took}
@@ -50,17 +50,30 @@ Takes old new took buffer = IfSome old (λ turns. (left : List Turn) × (new ≡
 abbrev pub Adds : Option (List ℕ) → Option (List ℕ) → List ℕ → Type 0
 Adds old new bytes = IfSome old (λ held. new ≡ Some (held ++ bytes))
 
--- the count of a source's failures stays, but where it answers that it failed
-abbrev pub TakeStays : Took → ℕ → ℕ → Type 0
-TakeStays Failed before now = Unit {0}
-TakeStays _ before now = now ≡ before
+-- the count after one more failure: it stands still at its type's end
+abbrev pub next_count : ℕ → ℕ
+next_count before = max before (min (before + 1) (2 ^ 64 - 1))
 
--- that of a sink's
-abbrev pub PutStays : {A : Type 0} → Result A SinkFailed → ℕ → ℕ → Type 0
-PutStays (Err sink.Failed) before now = Unit {0}
-PutStays _ before now = now ≡ before
+-- a count of failures before and after an answer: the next one where the answer is a failure, and else the same
+abbrev pub CountsFailure : Bool → ℕ → ℕ → Type 0
+CountsFailure true before now = now ≡ next_count before
+CountsFailure false before now = now ≡ before
 
--- that of a host's
-abbrev pub GiveStays : {A : Type 0} → Result A HostError → ℕ → ℕ → Type 0
-GiveStays (Err host.Failed) before now = Unit {0}
-GiveStays _ before now = now ≡ before
+-- the source failed
+abbrev pub is_failed_take : Took → Bool
+is_failed_take (Bytes n) = false
+is_failed_take End = false
+is_failed_take Idle = false
+is_failed_take Failed = true
+
+-- the sink failed; want of memory is no failure
+abbrev pub is_failed_put : {A : Type 0} → Result A SinkFailed → Bool
+is_failed_put (Ok a) = false
+is_failed_put (Err sink.Failed) = true
+is_failed_put (Err sink.Memory) = false
+
+-- the host failed; want of memory is no failure
+abbrev pub is_failed_gift : {A : Type 0} → Result A HostError → Bool
+is_failed_gift (Ok a) = false
+is_failed_gift (Err host.Failed) = true
+is_failed_gift (Err host.Memory) = false

@@ -1,9 +1,8 @@
 //! What a program gets from the system that runs it.
 
 ghost use Rattle.std.specs.Prelude.{◌≡◌, ◌<◌, ◌≤◌, ℕ, OnOk, OnErr, IfOk};
-ghost use Rattle.pool_base.specs.Counts.{Rose};
-ghost use Rattle.pool_io.specs.Lending.{lent_one, with_back};
-ghost use Rattle.pool_io.specs.Outside.{GiveStays};
+ghost use Rattle.pool_io.specs.Lending.{lent_one, with_back, emptied};
+ghost use Rattle.pool_io.specs.Outside.{CountsFailure, is_failed_gift};
 ghost use Rattle.pool_io.specs.Seen.{Seen};
 
 use crate::{Sink, Source};
@@ -31,26 +30,22 @@ pub trait Host {
         ensures told { IfOk result (λ source. Self.S.left source ≡ (seen self.old).input) }
         ensures fresh { IfOk result (λ source. Self.S.faults source ≡ 0) }
         ensures given { OnOk result (seen self.new ≡ record (seen self.old) {
-          input = (seen self.new).input;
+          input = emptied (seen self.old).input;
           sources = lent_one (seen self.old).sources;
         }) }
         ensures refused { OnErr result (seen self.new ≡ record (seen self.old) { faults = (seen self.new).faults }) }
-        ensures later { (seen self.old).faults ≤ (seen self.new).faults }
-        ensures cause { result ≡ Err HostError.Failed → Rose (seen self.old).faults (seen self.new).faults }
-        ensures kept { GiveStays result (seen self.old).faults (seen self.new).faults };
+        ensures counts { CountsFailure (is_failed_gift result) (seen self.old).faults (seen self.new).faults };
 
     /// Standard output.
     fn output(&mut self) -> Result<Self::T, HostError>
         ensures told { IfOk result (λ sink. Self.T.held sink ≡ (seen self.old).output) }
         ensures fresh { IfOk result (λ sink. Self.T.faults sink ≡ 0) }
         ensures given { OnOk result (seen self.new ≡ record (seen self.old) {
-          output = (seen self.new).output;
+          output = emptied (seen self.old).output;
           sinks = lent_one (seen self.old).sinks;
         }) }
         ensures refused { OnErr result (seen self.new ≡ record (seen self.old) { faults = (seen self.new).faults }) }
-        ensures later { (seen self.old).faults ≤ (seen self.new).faults }
-        ensures cause { result ≡ Err HostError.Failed → Rose (seen self.old).faults (seen self.new).faults }
-        ensures kept { GiveStays result (seen self.old).faults (seen self.new).faults };
+        ensures counts { CountsFailure (is_failed_gift result) (seen self.old).faults (seen self.new).faults };
 
     /// Takes a source back, without memory.
     fn done_source(&mut self, source: Self::S)

@@ -1,8 +1,7 @@
 //! Where bytes go.
 
 ghost use Rattle.std.specs.Prelude.{◌≡◌, ◌<◌, ◌≤◌, ℕ, List, Option, length, take, IfOk, OnErr};
-ghost use Rattle.pool_base.specs.Counts.{Rose};
-ghost use Rattle.pool_io.specs.Outside.{Adds, PutStays};
+ghost use Rattle.pool_io.specs.Outside.{Adds, CountsFailure, is_failed_put};
 
 use thiserror::Error;
 
@@ -30,7 +29,5 @@ pub trait Sink {
         ensures bound { IfOk result (λ n. n ≤ length piece.now) }
         ensures taken { IfOk result (λ n. Adds (held self.old) (held self.new) (take n piece.now)) }
         ensures refused { OnErr result (held self.new ≡ held self.old) }
-        ensures later { faults self.old ≤ faults self.new }
-        ensures cause { result ≡ Err SinkFailed.Failed → Rose (faults self.old) (faults self.new) }
-        ensures kept { PutStays result (faults self.old) (faults self.new) };
+        ensures counts { CountsFailure (is_failed_put result) (faults self.old) (faults self.new) };
 }

@@ -1,9 +1,8 @@
 //! Where bytes come from.
 
 ghost use Rattle.std.specs.Prelude.{◌≡◌, ◌<◌, ◌≤◌, ℕ, List, Option, length};
-ghost use Rattle.pool_base.specs.Counts.{Rose};
 ghost use Rattle.pool_io.specs.declared.turn.Turn.{Turn};
-ghost use Rattle.pool_io.specs.Outside.{IsWithin, TakeStays, Takes};
+ghost use Rattle.pool_io.specs.Outside.{IsWithin, Takes, CountsFailure, is_failed_take};
 
 /// What a source answered.
 #[derive(Clone, Copy, Debug, PartialEq, Eq)]
@@ -31,7 +30,5 @@ pub trait Source {
         requires { 0 < length buffer.old }
         ensures bound { IsWithin result (length buffer.new) }
         ensures turns { Takes (left self.old) (left self.new) result buffer.new }
-        ensures later { faults self.old ≤ faults self.new }
-        ensures cause { result ≡ Took.Failed → Rose (faults self.old) (faults self.new) }
-        ensures kept { TakeStays result (faults self.old) (faults self.new) };
+        ensures counts { CountsFailure (is_failed_take result) (faults self.old) (faults self.new) };
 }

@@ -1,9 +1,8 @@
 //! All of a piece, put in as many calls as the sink wants.
 
-ghost use Rattle.std.specs.Prelude.{◌≡◌, ◌≤◌, ℕ, List, OnOk, OnErr};
-ghost use Rattle.pool_base.specs.Counts.{Rose};
+ghost use Rattle.std.specs.Prelude.{ℕ, List, OnOk, OnErr};
 ghost use Rattle.pool_base.specs.Lists.{Begins};
-ghost use Rattle.pool_io.specs.Outside.{Adds, PutStays};
+ghost use Rattle.pool_io.specs.Outside.{Adds, CountsFailure, is_failed_put};
 
 use pool_io::{Sink, SinkFailed};
 
@@ -11,9 +10,7 @@ use pool_io::{Sink, SinkFailed};
 pub fn put_all<T: Sink>(sink: &mut T, bytes: &[u8]) -> Result<(), SinkFailed>
     ensures ok { OnOk result (Adds (T.held sink.old) (T.held sink.new) bytes.now) }
     ensures err { OnErr result ((front : List ℕ) × Begins front bytes.now × Adds (T.held sink.old) (T.held sink.new) front) }
-    ensures later { T.faults sink.old ≤ T.faults sink.new }
-    ensures cause { result ≡ Err SinkFailed.Failed → Rose (T.faults sink.old) (T.faults sink.new) }
-    ensures kept { PutStays result (T.faults sink.old) (T.faults sink.new) }
+    ensures counts { CountsFailure (is_failed_put result) (T.faults sink.old) (T.faults sink.new) }
 {
     let mut rest = bytes;
     while !rest.is_empty() {

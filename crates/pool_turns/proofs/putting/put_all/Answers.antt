@@ -5,11 +5,11 @@ use Rattle.pool_turns.proofs.putting.put_all.Goals as goal
 
 pub loop-rest-preserved : goal.loop-rest-preserved
 loop-rest-preserved g c = record {
-  kept = c.in_ok-count.ensures.kept ∙ c.loop-rest.invariant.kept;
+  kept = c.in_ok-count.ensures.counts ∙ c.loop-rest.invariant.kept;
   put = put_more (g.T.Sink.held c.args.sink.now) (g.T.Sink.held c.loop-rest.sink) (g.T.Sink.held c.put.new.self) c.args.bytes.now c.loop-rest.rest.now c.in_ok-count.count c.loop-rest.invariant.put c.in_ok-count.ensures.taken;
 }
 
-pub returns-in_err-count-clause-kept : goal.returns-in_err-count-clause-kept
-returns-in_err-count-clause-kept g c =
+pub returns-in_err-count-clause-counts : goal.returns-in_err-count-clause-counts
+returns-in_err-count-clause-counts g c =
     let p = err_from_is_err_and c.from_residual.result c.from_residual.ensures.1 in
-    rw (p.1, p.2) (rw c.loop-rest.invariant.kept at c.in_err-count.ensures.kept)
+    rw (p.1, p.2) (rw c.loop-rest.invariant.kept at c.in_err-count.ensures.counts)

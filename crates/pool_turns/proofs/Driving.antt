@@ -1,0 +1,253 @@
+-- A reading between its turns.
+use Rattle.std.proofs.Common.{◌≡◌, ℕ, ◌+◌, ◌^◌, ◌<◌, ◌≤◌, List, [], ◌∷◌, ◌++◌, length, map, Option, Some, None, refl, sym, ap, ◌∙◌, append_assoc, append-nil, arith, length-append, inl, inr}
+use Rattle.pool_base.specs.Lists.{Begins}
+use Rattle.pool_io.specs.declared.turn.Turn.{Turn}
+use Rattle.pool_io.specs.declared.source.Took.TheVariants as took
+use Rattle.pool_io.specs.Outside.{Adds, Takes}
+use Rattle.pool_io.specs.Steps.{Step, bytes_in, steps_of, idles_after, IsIdleOut, IsBytesOut, Brought}
+use Rattle.pool_io.proofs.Stepping.{bytes_in-more, bytes_in-idle, idles_after-more, idles_after-idle, free_bytes, free_idle, within_limits, brought_none, brought_all}
+use Rattle.pool_turns.specs.declared.end.End.{End}
+use Rattle.pool_turns.specs.declared.end.End.TheVariants as end
+use Rattle.pool_turns.specs.declared.tally.Tally.{Tally}
+use Rattle.pool_turns.specs.Limits.{bounds}
+use Rattle.pool_turns.specs.Duties.{Duty, IsSoundDuty, RefusesWithin}
+use Rattle.pool_turns.specs.Owing.{OwesRefusal, OwesSome, OwesFront}
+use Rattle.pool_turns.specs.Ending.{EndsRun}
+use Rattle.pool_turns.specs.Between.{HasAnswered, EndsAfter, EndsAt, GoesOnOrEnds, TurnsOnOrEnds}
+use Rattle.pool_turns.proofs.Fronts.{free_none, cut_at}
+use Rattle.pool_turns.proofs.Puts.{Adds-none, Adds-more}
+use Rattle.pool_turns.proofs.Staying.{brought_at_end, brought_at_failure}
+
+-- before the first turn
+pub answered_first : (HasRead : List ℕ → List ℕ → Type 0) → HasRead [] [] → (before : Option (List ℕ))
+    → HasAnswered HasRead record { taken = 0; idles = 0 } before before []
+answered_first HasRead read before = record { free = free_none; idles = refl; bytes = refl; given = []; put = Adds-none before; read = read }
+
+-- want of memory before the first turn
+pub memory_first : (duty : Duty) → IsSoundDuty duty → (turns : Option (List Turn)) (before : Option (List ℕ)) → EndsRun duty turns turns before before end.Memory
+memory_first duty sound turns before = record {
+  taken = [];
+  brought = brought_none turns;
+  given = [];
+  put = Adds-none before;
+  ends = λ told is. ([], inl ([], steps_of told, refl, sound.nothing), ([], refl));
+}
+
+module _ (duty : Duty) (HasRead : List ℕ → List ℕ → Type 0) (so_far : (bytes text : List ℕ) → HasRead bytes text → duty.SoFar bytes text)
+    (tally : Tally) (before now : Option (List ℕ)) (steps : List Step) (answered : HasAnswered HasRead tally before now steps) where
+  -- what was put is owed for a front of the steps
+  pub memory_ends : (more : List Step) → EndsAfter duty before now (steps ++ more) end.Memory
+  memory_ends more = record {
+    given = answered.given;
+    put = answered.put;
+    ends = λ rest. (
+      answered.given,
+      inl (steps, more ++ rest, append_assoc steps more rest, so_far (bytes_in steps) answered.given answered.read),
+      ([], append-nil answered.given),
+    );
+  }
+
+  pub memory_ends_at : EndsAt duty before now steps end.Memory
+  memory_ends_at = record {
+    given = answered.given;
+    put = answered.put;
+    ends = (
+      answered.given,
+      inl (steps, [], sym (append-nil steps), so_far (bytes_in steps) answered.given answered.read),
+      ([], append-nil answered.given),
+    );
+  }
+
+  -- the last of the Idle answers
+  pub idle_ends : tally.idles + 1 ≡ 36000 → EndsAfter duty before now (steps ++ None ∷ []) end.IdleOut
+  idle_ends last =
+      let reached : IsIdleOut bounds (steps ++ None ∷ []) = omega (arith, last, answered.idles, idles_after-idle steps) in
+      let free = free_idle bounds steps answered.free in
+      record {
+        given = answered.given;
+        put = answered.put;
+        ends = λ rest. (
+          record {
+            front = steps ++ None ∷ [];
+            rest = rest;
+            split = refl;
+            owed = rw (bytes_in-idle steps) (so_far (bytes_in steps) answered.given answered.read);
+            reached = (reached, free);
+          },
+          (reached, free),
+        );
+      }
+
+  -- an Idle answer that isn't the last
+  pub answered_idle : tally.idles + 1 < 36000 → tally.taken < 2 ^ 40
+      → HasAnswered HasRead record { taken = tally.taken; idles = tally.idles + 1 } before now (steps ++ None ∷ [])
+  answered_idle below room =
+      let count : idles_after 0 (steps ++ None ∷ []) ≡ tally.idles + 1 = idles_after-idle steps ∙ ap (λ n. n + 1) answered.idles in
+      let bytes : length (bytes_in (steps ++ None ∷ [])) ≡ tally.taken = ap length (bytes_in-idle steps) ∙ answered.bytes in
+      record {
+        free = (free_idle bounds steps answered.free, within_limits bounds (steps ++ None ∷ []) (omega (arith, count)) (omega (arith, bytes)));
+        idles = count;
+        bytes = bytes;
+        given = answered.given;
+        put = answered.put;
+        read = rw (bytes_in-idle steps) answered.read;
+      }
+
+  -- the text that is put at the end of the input
+  module _ (after : Option (List ℕ)) (text : List ℕ) where
+    pub done_ends_at : duty.Whole (bytes_in steps) (answered.given ++ text) → Adds now after text → EndsAt duty before after steps end.Done
+    done_ends_at whole put = record {
+      given = answered.given ++ text;
+      put = Adds-more before now after answered.given text answered.put put;
+      ends = record { owed = whole; free = answered.free };
+    }
+
+    pub cut_ends_at : duty.Cut (bytes_in steps) (answered.given ++ text) → Adds now after text → EndsAt duty before after steps end.Refused
+    cut_ends_at cut put = record {
+      given = answered.given ++ text;
+      put = Adds-more before now after answered.given text answered.put put;
+      ends = inr (record { owed = cut; free = answered.free });
+    }
+
+    pub whole_some : duty.Whole (bytes_in steps) (answered.given ++ text) → OwesSome duty steps (answered.given ++ text)
+    whole_some whole = inr (inr (record { owed = whole; free = answered.free }))
+
+    pub cut_some : duty.Cut (bytes_in steps) (answered.given ++ text) → OwesSome duty steps (answered.given ++ text)
+    cut_some cut = inr (inl (inr (record { owed = cut; free = answered.free })))
+
+    -- a put of a text that failed: the sink has a front of it
+    front_owed : (all : List Step) (front : List ℕ) → OwesSome duty all (answered.given ++ text) → Begins front text → OwesFront duty all (answered.given ++ front)
+    front_owed all front owed begins =
+        (answered.given ++ text, owed, (begins.0, append_assoc answered.given front begins.0 ∙ ap (λ l. answered.given ++ l) begins.1))
+
+    module _ (put : (front : List ℕ) × Begins front text × Adds now after front) where
+      added : Adds before after (answered.given ++ put.0)
+      added = Adds-more before now after answered.given put.0 answered.put put.2
+
+      pub put_fault_ends_at : OwesSome duty steps (answered.given ++ text) → EndsAt duty before after steps end.WriteFault
+      put_fault_ends_at owed = record { given = answered.given ++ put.0; put = added; ends = front_owed steps put.0 owed put.1 }
+
+      pub put_memory_ends_at : OwesSome duty steps (answered.given ++ text) → EndsAt duty before after steps end.Memory
+      put_memory_ends_at owed = record { given = answered.given ++ put.0; put = added; ends = front_owed steps put.0 owed put.1 }
+
+      module _ (more : List Step) (owed : (rest : List Step) → OwesSome duty ((steps ++ more) ++ rest) (answered.given ++ text)) where
+        pub put_fault_ends : EndsAfter duty before after (steps ++ more) end.WriteFault
+        put_fault_ends = record { given = answered.given ++ put.0; put = added; ends = λ rest. front_owed ((steps ++ more) ++ rest) put.0 (owed rest) put.1 }
+
+        pub put_memory_ends : EndsAfter duty before after (steps ++ more) end.Memory
+        put_memory_ends = record { given = answered.given ++ put.0; put = added; ends = λ rest. front_owed ((steps ++ more) ++ rest) put.0 (owed rest) put.1 }
+
+  -- a piece came, and the command told a text
+  module _ (piece text : List ℕ) (some : 0 < length piece) (room : tally.taken + length piece ≤ 2 ^ 40) where
+    room_left : length (bytes_in steps) + length piece ≤ 2 ^ 40
+    room_left = rw answered.bytes room
+
+    pub short : length (bytes_in steps ++ piece) ≤ 2 ^ 40
+    short = omega (arith, room_left, length-append (bytes_in steps) piece)
+
+    refusal : RefusesWithin HasRead duty.Refused piece [] text → (rest : List Step) → OwesRefusal duty ((steps ++ map Some piece) ++ rest) (answered.given ++ text)
+    refusal refused rest =
+        let shorter : length (bytes_in steps) + length refused.front ≤ 2 ^ 40 = omega (arith, room_left, ap length refused.split, length-append refused.front refused.rest) in
+        let read : HasRead (bytes_in steps) (answered.given ++ []) = rw (append-nil answered.given) answered.read in
+        record {
+          front = steps ++ map Some refused.front;
+          rest = map Some refused.rest ++ rest;
+          split = cut_at steps piece refused.front refused.rest rest refused.split;
+          owed = rw (bytes_in-more steps refused.front) (refused.owed (bytes_in steps) answered.given short read);
+          free = free_bytes bounds steps answered.free refused.front (omega arith) shorter;
+        }
+
+    pub refused_some : RefusesWithin HasRead duty.Refused piece [] text → (rest : List Step) → OwesSome duty ((steps ++ map Some piece) ++ rest) (answered.given ++ text)
+    refused_some refused rest = inr (inl (inl (refusal refused rest)))
+
+    pub refused_ends : (after : Option (List ℕ)) → RefusesWithin HasRead duty.Refused piece [] text → Adds now after text
+        → EndsAfter duty before after (steps ++ map Some piece) end.Refused
+    refused_ends after refused put = record {
+      given = answered.given ++ text;
+      put = Adds-more before now after answered.given text answered.put put;
+      ends = λ rest. inl (refusal refused rest);
+    }
+
+    -- the command goes on, as another one
+    module _ (HasReadMore : List ℕ → List ℕ → Type 0) (so_far_more : (bytes given : List ℕ) → HasReadMore bytes given → duty.SoFar bytes given)
+        (read : HasReadMore (bytes_in steps ++ piece) (answered.given ++ text)) where
+      owed : duty.SoFar (bytes_in (steps ++ map Some piece)) (answered.given ++ text)
+      owed = rw (bytes_in-more steps piece) (so_far_more (bytes_in steps ++ piece) (answered.given ++ text) read)
+
+      pub read_some : (rest : List Step) → OwesSome duty ((steps ++ map Some piece) ++ rest) (answered.given ++ text)
+      read_some rest = inl (steps ++ map Some piece, rest, refl, owed)
+
+      module _ (after : Option (List ℕ)) (put : Adds now after text) where
+        pub bytes_end : length (bytes_in steps) + length piece ≡ 2 ^ 40 → EndsAfter duty before after (steps ++ map Some piece) end.BytesOut
+        bytes_end all =
+            let reached : IsBytesOut bounds (steps ++ map Some piece) = omega (arith, all, ap length (bytes_in-more steps piece), length-append (bytes_in steps) piece) in
+            let free = free_bytes bounds steps answered.free piece (omega arith) room_left in
+            record {
+              given = answered.given ++ text;
+              put = Adds-more before now after answered.given text answered.put put;
+              ends = λ rest. (
+                record { front = steps ++ map Some piece; rest = rest; split = refl; owed = owed; reached = (reached, free) },
+                (reached, free),
+              );
+            }
+
+        pub answered_more : length (bytes_in steps) + length piece < 2 ^ 40
+            → HasAnswered HasReadMore record { taken = tally.taken + length piece; idles = 0 } before after (steps ++ map Some piece)
+        answered_more below =
+            let bytes : length (bytes_in (steps ++ map Some piece)) ≡ length (bytes_in steps) + length piece =
+            ap length (bytes_in-more steps piece) ∙ length-append (bytes_in steps) piece in
+            let none : idles_after 0 (steps ++ map Some piece) ≡ 0 = idles_after-more steps piece some in
+            record {
+              free = (
+                free_bytes bounds steps answered.free piece (omega arith) room_left,
+                within_limits bounds (steps ++ map Some piece) (omega (arith, none)) (omega (arith, bytes)),
+              );
+              idles = none;
+              bytes = bytes ∙ ap (λ n. n + length piece) answered.bytes;
+              given = answered.given ++ text;
+              put = Adds-more before now after answered.given text answered.put put;
+              read = rw (bytes_in-more steps piece) read;
+            }
+
+-- what happened after the steps happened in the run
+pub turns_on : (duty : Duty) (HasRead : List ℕ → List ℕ → Type 0) (tally : Tally) (turns left : Option (List Turn)) (before now : Option (List ℕ)) (steps : List Step) (result : Option End)
+    → Brought turns left steps → GoesOnOrEnds duty HasRead tally before now steps result → TurnsOnOrEnds duty HasRead tally turns left before now result
+turns_on duty HasRead tally turns left before now steps None brought answered = record { steps = steps; brought = brought; answered = answered }
+turns_on duty HasRead tally None left before now steps (Some end) brought ends =
+    record { taken = steps; brought = brought; given = ends.given; put = ends.put; ends = λ told is. cc }
+turns_on duty HasRead tally (Some turns) left before now steps (Some end) brought ends = record {
+  taken = steps;
+  brought = brought;
+  given = ends.given;
+  put = ends.put;
+  ends = λ told is.
+      let same : turns ≡ told = cc in
+      rw (← same, brought.2) (ends.ends (steps_of brought.0));
+}
+
+-- the end of the input
+pub turns_to_end : (duty : Duty) (turns old left : Option (List Turn)) (before now : Option (List ℕ)) (steps : List Step) (buffer : List ℕ) (end : End)
+    → Brought turns old steps → Takes old left took.End buffer → EndsAt duty before now steps end → EndsRun duty turns left before now end
+turns_to_end duty None old left before now steps buffer end brought takes ends =
+    record { taken = steps; brought = tt; given = ends.given; put = ends.put; ends = λ told is. cc }
+turns_to_end duty (Some turns) old left before now steps buffer end brought takes ends = record {
+  taken = steps;
+  brought = brought_at_end (Some turns) old left steps buffer brought takes;
+  given = ends.given;
+  put = ends.put;
+  ends = λ told is.
+      let same : turns ≡ told = cc in
+      rw (← same, brought_all turns old left steps buffer brought takes) ends.ends;
+}
+
+-- a failed read leaves the turns
+pub turns_to_fault : (duty : Duty) (HasRead : List ℕ → List ℕ → Type 0) → ((bytes text : List ℕ) → HasRead bytes text → duty.SoFar bytes text)
+    → (tally : Tally) (turns old left : Option (List Turn)) (before now : Option (List ℕ)) (steps : List Step) (buffer : List ℕ)
+    → Brought turns old steps → Takes old left took.Failed buffer → HasAnswered HasRead tally before now steps → EndsRun duty turns left before now end.ReadFault
+turns_to_fault duty HasRead so_far tally turns old left before now steps buffer brought takes answered = record {
+  taken = steps;
+  brought = brought_at_failure turns old left steps buffer brought takes;
+  given = answered.given;
+  put = answered.put;
+  ends = λ told is. record { owed = so_far (bytes_in steps) answered.given answered.read; free = answered.free };
+}

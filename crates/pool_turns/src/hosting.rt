@@ -1,0 +1,30 @@
+//! A command over a host's standard input and output.
+
+ghost use Rattle.pool_turns.specs.Rows.{StreamRow};
+
+use crate::status::refusal_status;
+use crate::{Status, StreamCommand, drive};
+use pool_io::Host;
+use std::alloc::Global;
+
+/// Runs a command from the host's standard input to its standard output, and hands both back.
+pub fn run_on_host<C: StreamCommand, H: Host>(alloc: Global, host: &mut H, task: &C::Task) -> Status
+    requires { C.can_run task.now }
+    ensures { StreamRow (record { left = H.S.left; read_faults = H.S.faults; held = H.T.held; write_faults = H.T.faults }) (C.duty task.now) (H.seen host.old) (H.seen host.new) result }
+{
+    let mut source = match host.input() {
+        Ok(source) => source,
+        Err(error) => return refusal_status(error),
+    };
+    let mut sink = match host.output() {
+        Ok(sink) => sink,
+        Err(error) => {
+            host.done_source(source);
+            return refusal_status(error);
+        }
+    };
+    let end = drive::<C, H::S, H::T>(alloc, task, &mut source, &mut sink);
+    host.done_source(source);
+    host.done_sink(sink);
+    end.status()
+}
