@@ -2,6 +2,7 @@
 use Rattle.std.specs.Prelude.{List, [], ◌∷◌}
 use Rattle.sv2_types.specs.Fields.{FieldValue, Number, Bytes, Numbers, Parts}
 use Rattle.sv2_types.specs.Reading.{numbers_of, parts_at}
+use Rattle.sv2_messages.specs.declared.kinds.TheConstants as kinds
 use Rattle.sv2_messages.specs.Messages.{Message}
 use Rattle.declare_msgs.specs.declared.tokens.AllocateMiningJobToken.{AllocateMiningJobToken}
 use Rattle.declare_msgs.specs.declared.tokens.AllocateMiningJobTokenSuccess.{AllocateMiningJobTokenSuccess}
@@ -41,11 +42,11 @@ push_solution m = Bytes m.extranonce.now ∷ Bytes m.prev_hash ∷ Number m.nonc
 
 -- a message is its kind and its fields
 abbrev pub seen : Declare → Message
-seen (messages.AllocateMiningJobToken m) = record { kind = 0x50; fields = allocate_mining_job_token m }
-seen (messages.AllocateMiningJobTokenSuccess m) = record { kind = 0x51; fields = allocate_mining_job_token_success m }
-seen (messages.ProvideMissingTransactions m) = record { kind = 0x55; fields = provide_missing_transactions m }
-seen (messages.ProvideMissingTransactionsSuccess m) = record { kind = 0x56; fields = provide_missing_transactions_success m }
-seen (messages.DeclareMiningJob m) = record { kind = 0x57; fields = declare_mining_job m }
-seen (messages.DeclareMiningJobSuccess m) = record { kind = 0x58; fields = declare_mining_job_success m }
-seen (messages.DeclareMiningJobError m) = record { kind = 0x59; fields = declare_mining_job_error m }
-seen (messages.PushSolution m) = record { kind = 0x60; fields = push_solution m }
+seen (messages.AllocateMiningJobToken m) = record { kind = kinds.ALLOCATE_MINING_JOB_TOKEN; fields = allocate_mining_job_token m }
+seen (messages.AllocateMiningJobTokenSuccess m) = record { kind = kinds.ALLOCATE_MINING_JOB_TOKEN_SUCCESS; fields = allocate_mining_job_token_success m }
+seen (messages.ProvideMissingTransactions m) = record { kind = kinds.PROVIDE_MISSING_TRANSACTIONS; fields = provide_missing_transactions m }
+seen (messages.ProvideMissingTransactionsSuccess m) = record { kind = kinds.PROVIDE_MISSING_TRANSACTIONS_SUCCESS; fields = provide_missing_transactions_success m }
+seen (messages.DeclareMiningJob m) = record { kind = kinds.DECLARE_MINING_JOB; fields = declare_mining_job m }
+seen (messages.DeclareMiningJobSuccess m) = record { kind = kinds.DECLARE_MINING_JOB_SUCCESS; fields = declare_mining_job_success m }
+seen (messages.DeclareMiningJobError m) = record { kind = kinds.DECLARE_MINING_JOB_ERROR; fields = declare_mining_job_error m }
+seen (messages.PushSolution m) = record { kind = kinds.PUSH_SOLUTION; fields = push_solution m }

@@ -1,10 +1,11 @@
 //! The messages that declare a job.
 
 ghost use Rattle.std.specs.Prelude.{◌≡◌};
+ghost use Rattle.sv2_messages.specs.declared.kinds.TheConstants as kinds;
 ghost use Rattle.sv2_messages.specs.Tables.{declare};
-ghost use Rattle.sv2_messages.specs.Reading.{Gives, values_of};
+ghost use Rattle.sv2_messages.specs.Reading.{ReadsMessage};
 ghost use Rattle.sv2_messages.specs.Writing.{AreFields};
-ghost use Rattle.declare_msgs.specs.Seen.{seen, provide_missing_transactions, provide_missing_transactions_success, declare_mining_job, declare_mining_job_success, declare_mining_job_error};
+ghost use Rattle.declare_msgs.specs.Seen.{seen};
 
 use crate::message::Declare;
 use sv2_messages::{Field, FieldReader, MsgError};
@@ -20,7 +21,7 @@ pub struct ProvideMissingTransactions<'a> {
 impl ProvideMissingTransactions<'_> {
     /// The fields in their order.
     pub(crate) fn fields(&self) -> [Field<'_>; 2]
-        ensures { AreFields declare (record { kind = 0x55; fields = provide_missing_transactions self.now }) result }
+        ensures { AreFields declare (seen (Declare.ProvideMissingTransactions self.now)) result }
     {
         [
             Field::U32(self.request_id),
@@ -33,7 +34,7 @@ impl ProvideMissingTransactions<'_> {
 pub(crate) fn read_provide_missing_transactions<'a>(
     payload: &'a [u8],
 ) -> Result<Declare<'a>, MsgError>
-    ensures { Gives seen result 0x55 (values_of declare 0x55 payload.now) }
+    ensures { ReadsMessage declare kinds.PROVIDE_MISSING_TRANSACTIONS seen payload.now result }
 {
     let mut fields = FieldReader::new(payload);
     let message = ProvideMissingTransactions {
@@ -56,7 +57,7 @@ pub struct ProvideMissingTransactionsSuccess<'a> {
 impl ProvideMissingTransactionsSuccess<'_> {
     /// The fields in their order.
     pub(crate) fn fields(&self) -> [Field<'_>; 2]
-        ensures { AreFields declare (record { kind = 0x56; fields = provide_missing_transactions_success self.now }) result }
+        ensures { AreFields declare (seen (Declare.ProvideMissingTransactionsSuccess self.now)) result }
     {
         [
             Field::U32(self.request_id),
@@ -69,7 +70,7 @@ impl ProvideMissingTransactionsSuccess<'_> {
 pub(crate) fn read_provide_missing_transactions_success<'a>(
     payload: &'a [u8],
 ) -> Result<Declare<'a>, MsgError>
-    ensures { Gives seen result 0x56 (values_of declare 0x56 payload.now) }
+    ensures { ReadsMessage declare kinds.PROVIDE_MISSING_TRANSACTIONS_SUCCESS seen payload.now result }
 {
     let mut fields = FieldReader::new(payload);
     let message = ProvideMissingTransactionsSuccess {
@@ -99,7 +100,7 @@ pub struct DeclareMiningJob<'a> {
 impl DeclareMiningJob<'_> {
     /// The fields in their order.
     pub(crate) fn fields(&self) -> [Field<'_>; 7]
-        ensures { AreFields declare (record { kind = 0x57; fields = declare_mining_job self.now }) result }
+        ensures { AreFields declare (seen (Declare.DeclareMiningJob self.now)) result }
     {
         [
             Field::U32(self.request_id),
@@ -115,7 +116,7 @@ impl DeclareMiningJob<'_> {
 
 #[tactic(auto, unfolding(sv2_messages::specs::Reading::values_of))]
 pub(crate) fn read_declare_mining_job<'a>(payload: &'a [u8]) -> Result<Declare<'a>, MsgError>
-    ensures { Gives seen result 0x57 (values_of declare 0x57 payload.now) }
+    ensures { ReadsMessage declare kinds.DECLARE_MINING_JOB seen payload.now result }
 {
     let mut fields = FieldReader::new(payload);
     let message = DeclareMiningJob {
@@ -142,7 +143,7 @@ pub struct DeclareMiningJobSuccess<'a> {
 impl DeclareMiningJobSuccess<'_> {
     /// The fields in their order.
     pub(crate) fn fields(&self) -> [Field<'_>; 2]
-        ensures { AreFields declare (record { kind = 0x58; fields = declare_mining_job_success self.now }) result }
+        ensures { AreFields declare (seen (Declare.DeclareMiningJobSuccess self.now)) result }
     {
         [
             Field::U32(self.request_id),
@@ -155,7 +156,7 @@ impl DeclareMiningJobSuccess<'_> {
 pub(crate) fn read_declare_mining_job_success<'a>(
     payload: &'a [u8],
 ) -> Result<Declare<'a>, MsgError>
-    ensures { Gives seen result 0x58 (values_of declare 0x58 payload.now) }
+    ensures { ReadsMessage declare kinds.DECLARE_MINING_JOB_SUCCESS seen payload.now result }
 {
     let mut fields = FieldReader::new(payload);
     let message = DeclareMiningJobSuccess {
@@ -178,7 +179,7 @@ pub struct DeclareMiningJobError<'a> {
 impl DeclareMiningJobError<'_> {
     /// The fields in their order.
     pub(crate) fn fields(&self) -> [Field<'_>; 3]
-        ensures { AreFields declare (record { kind = 0x59; fields = declare_mining_job_error self.now }) result }
+        ensures { AreFields declare (seen (Declare.DeclareMiningJobError self.now)) result }
     {
         [
             Field::U32(self.request_id),
@@ -190,7 +191,7 @@ impl DeclareMiningJobError<'_> {
 
 #[tactic(auto, unfolding(sv2_messages::specs::Reading::values_of))]
 pub(crate) fn read_declare_mining_job_error<'a>(payload: &'a [u8]) -> Result<Declare<'a>, MsgError>
-    ensures { Gives seen result 0x59 (values_of declare 0x59 payload.now) }
+    ensures { ReadsMessage declare kinds.DECLARE_MINING_JOB_ERROR seen payload.now result }
 {
     let mut fields = FieldReader::new(payload);
     let message = DeclareMiningJobError {

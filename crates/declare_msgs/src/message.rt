@@ -11,7 +11,7 @@ use crate::declarations::{
 };
 use crate::tokens::{AllocateMiningJobToken, AllocateMiningJobTokenSuccess, PushSolution};
 use std::alloc::AllocError;
-use sv2_messages::{fits, put_frame};
+use sv2_messages::{fits, kinds, put_frame};
 
 /// A message of job declaration. The kinds and the fields are this project's own.
 #[derive(Clone, Copy, Debug, PartialEq, Eq)]
@@ -32,14 +32,15 @@ impl Declare<'_> {
         ensures { result ≡ (seen self.now).kind }
     {
         match self {
-            Declare::AllocateMiningJobToken(_) => 0x50,
-            Declare::AllocateMiningJobTokenSuccess(_) => 0x51,
-            Declare::ProvideMissingTransactions(_) => 0x55,
-            Declare::ProvideMissingTransactionsSuccess(_) => 0x56,
-            Declare::DeclareMiningJob(_) => 0x57,
-            Declare::DeclareMiningJobSuccess(_) => 0x58,
-            Declare::DeclareMiningJobError(_) => 0x59,
-            Declare::PushSolution(_) => 0x60,
+            Declare::AllocateMiningJobToken(_) => kinds::ALLOCATE_MINING_JOB_TOKEN,
+            Declare::AllocateMiningJobTokenSuccess(_) => kinds::ALLOCATE_MINING_JOB_TOKEN_SUCCESS,
+            Declare::ProvideMissingTransactions(_) => kinds::PROVIDE_MISSING_TRANSACTIONS,
+            Declare::ProvideMissingTransactionsSuccess(_) =>
+                kinds::PROVIDE_MISSING_TRANSACTIONS_SUCCESS,
+            Declare::DeclareMiningJob(_) => kinds::DECLARE_MINING_JOB,
+            Declare::DeclareMiningJobSuccess(_) => kinds::DECLARE_MINING_JOB_SUCCESS,
+            Declare::DeclareMiningJobError(_) => kinds::DECLARE_MINING_JOB_ERROR,
+            Declare::PushSolution(_) => kinds::PUSH_SOLUTION,
         }
     }
 

@@ -3,7 +3,7 @@
 ghost use Rattle.std.specs.Prelude.{◌≡◌, ◌↔◌, IfOk, IsOkAnd, IsErrOf};
 ghost use Rattle.sv2_messages.specs.declared.error.MsgError.{MsgError};
 ghost use Rattle.sv2_messages.specs.Messages.{Message, MsgOf};
-ghost use Rattle.sv2_messages.specs.Reading.{Gives, values_of, IsFirstDefect};
+ghost use Rattle.sv2_messages.specs.Reading.{ReadsMessage, IsFirstDefect};
 ghost use Rattle.sv2_messages.specs.Tables.{declare};
 ghost use Rattle.declare_msgs.specs.Seen.{seen};
 
@@ -15,7 +15,7 @@ use crate::message::Declare;
 use crate::tokens::{
     read_allocate_mining_job_token, read_allocate_mining_job_token_success, read_push_solution,
 };
-use sv2_messages::MsgError;
+use sv2_messages::{MsgError, kinds};
 
 /// Reads a message. What it gives borrows the payload; it takes no memory.
 pub fn read<'a>(kind: u8, payload: &'a [u8]) -> Result<Declare<'a>, MsgError>
@@ -30,17 +30,19 @@ pub fn read<'a>(kind: u8, payload: &'a [u8]) -> Result<Declare<'a>, MsgError>
 }
 
 fn read_by_kind<'a>(kind: u8, payload: &'a [u8]) -> Result<Declare<'a>, MsgError>
-    ensures { Gives seen result kind (values_of declare kind payload.now) }
+    ensures { ReadsMessage declare kind seen payload.now result }
 {
     match kind {
-        0x50 => read_allocate_mining_job_token(payload),
-        0x51 => read_allocate_mining_job_token_success(payload),
-        0x55 => read_provide_missing_transactions(payload),
-        0x56 => read_provide_missing_transactions_success(payload),
-        0x57 => read_declare_mining_job(payload),
-        0x58 => read_declare_mining_job_success(payload),
-        0x59 => read_declare_mining_job_error(payload),
-        0x60 => read_push_solution(payload),
+        kinds::ALLOCATE_MINING_JOB_TOKEN => read_allocate_mining_job_token(payload),
+        kinds::ALLOCATE_MINING_JOB_TOKEN_SUCCESS => read_allocate_mining_job_token_success(payload),
+        kinds::PROVIDE_MISSING_TRANSACTIONS => read_provide_missing_transactions(payload),
+        kinds::PROVIDE_MISSING_TRANSACTIONS_SUCCESS => read_provide_missing_transactions_success(
+            payload,
+        ),
+        kinds::DECLARE_MINING_JOB => read_declare_mining_job(payload),
+        kinds::DECLARE_MINING_JOB_SUCCESS => read_declare_mining_job_success(payload),
+        kinds::DECLARE_MINING_JOB_ERROR => read_declare_mining_job_error(payload),
+        kinds::PUSH_SOLUTION => read_push_solution(payload),
         _ => Err(MsgError::UnknownKind(kind)),
     }
 }

@@ -1,10 +1,11 @@
 //! The messages that give tokens, and bring a block that was found.
 
 ghost use Rattle.std.specs.Prelude.{◌≡◌};
+ghost use Rattle.sv2_messages.specs.declared.kinds.TheConstants as kinds;
 ghost use Rattle.sv2_messages.specs.Tables.{declare};
-ghost use Rattle.sv2_messages.specs.Reading.{Gives, values_of};
+ghost use Rattle.sv2_messages.specs.Reading.{ReadsMessage};
 ghost use Rattle.sv2_messages.specs.Writing.{AreFields};
-ghost use Rattle.declare_msgs.specs.Seen.{seen, allocate_mining_job_token, allocate_mining_job_token_success, push_solution};
+ghost use Rattle.declare_msgs.specs.Seen.{seen};
 
 use crate::message::Declare;
 use sv2_messages::{Field, FieldReader, MsgError};
@@ -20,7 +21,7 @@ pub struct AllocateMiningJobToken<'a> {
 impl AllocateMiningJobToken<'_> {
     /// The fields in their order.
     pub(crate) fn fields(&self) -> [Field<'_>; 2]
-        ensures { AreFields declare (record { kind = 0x50; fields = allocate_mining_job_token self.now }) result }
+        ensures { AreFields declare (seen (Declare.AllocateMiningJobToken self.now)) result }
     {
         [
             Field::Str255(self.user_identifier),
@@ -31,7 +32,7 @@ impl AllocateMiningJobToken<'_> {
 
 #[tactic(auto, unfolding(sv2_messages::specs::Reading::values_of))]
 pub(crate) fn read_allocate_mining_job_token<'a>(payload: &'a [u8]) -> Result<Declare<'a>, MsgError>
-    ensures { Gives seen result 0x50 (values_of declare 0x50 payload.now) }
+    ensures { ReadsMessage declare kinds.ALLOCATE_MINING_JOB_TOKEN seen payload.now result }
 {
     let mut fields = FieldReader::new(payload);
     let message = AllocateMiningJobToken {
@@ -55,7 +56,7 @@ pub struct AllocateMiningJobTokenSuccess<'a> {
 impl AllocateMiningJobTokenSuccess<'_> {
     /// The fields in their order.
     pub(crate) fn fields(&self) -> [Field<'_>; 3]
-        ensures { AreFields declare (record { kind = 0x51; fields = allocate_mining_job_token_success self.now }) result }
+        ensures { AreFields declare (seen (Declare.AllocateMiningJobTokenSuccess self.now)) result }
     {
         [
             Field::U32(self.request_id),
@@ -69,7 +70,7 @@ impl AllocateMiningJobTokenSuccess<'_> {
 pub(crate) fn read_allocate_mining_job_token_success<'a>(
     payload: &'a [u8],
 ) -> Result<Declare<'a>, MsgError>
-    ensures { Gives seen result 0x51 (values_of declare 0x51 payload.now) }
+    ensures { ReadsMessage declare kinds.ALLOCATE_MINING_JOB_TOKEN_SUCCESS seen payload.now result }
 {
     let mut fields = FieldReader::new(payload);
     let message = AllocateMiningJobTokenSuccess {
@@ -99,7 +100,7 @@ pub struct PushSolution<'a> {
 impl PushSolution<'_> {
     /// The fields in their order.
     pub(crate) fn fields(&self) -> [Field<'_>; 6]
-        ensures { AreFields declare (record { kind = 0x60; fields = push_solution self.now }) result }
+        ensures { AreFields declare (seen (Declare.PushSolution self.now)) result }
     {
         [
             Field::B32(self.extranonce),
@@ -114,7 +115,7 @@ impl PushSolution<'_> {
 
 #[tactic(auto, unfolding(sv2_messages::specs::Reading::values_of))]
 pub(crate) fn read_push_solution<'a>(payload: &'a [u8]) -> Result<Declare<'a>, MsgError>
-    ensures { Gives seen result 0x60 (values_of declare 0x60 payload.now) }
+    ensures { ReadsMessage declare kinds.PUSH_SOLUTION seen payload.now result }
 {
     let mut fields = FieldReader::new(payload);
     let message = PushSolution {

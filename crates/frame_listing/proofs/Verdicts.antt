@@ -5,7 +5,7 @@ use Rattle.sv2_types.specs.Fields.{FieldType}
 use Rattle.sv2_frames.specs.Framing.{FrameValue}
 use Rattle.sv2_messages.specs.declared.error.MsgError.{MsgError}
 use Rattle.sv2_messages.specs.declared.error.MsgError.TheVariants.{UnknownKind}
-use Rattle.sv2_messages.specs.Messages.{Row, types_of}
+use Rattle.sv2_messages.specs.Messages.{Row, row_types, types_of}
 use Rattle.sv2_messages.specs.Reading.{IsDefectBy, IsFirstDefect}
 use Rattle.frame_listing.specs.Listing.{messages, IsBad, IsGood}
 
@@ -13,14 +13,14 @@ use Rattle.frame_listing.specs.Listing.{messages, IsBad, IsGood}
 pub types_of-other : (rows more : List Row) (kind : ℕ) → types_of rows kind ≡ None → types_of (rows ++ more) kind ≡ types_of more kind
 types_of-other [] more kind none = refl
 types_of-other (row ∷ rows) more kind none =
-    elim (row.kind == kind) as (λ b. (if b then Some row.types else types_of rows kind) ≡ None → (if b then Some row.types else types_of (rows ++ more) kind) ≡ types_of more kind)
+    elim (row.kind == kind) as (λ b. (if b then Some (row_types row) else types_of rows kind) ≡ None → (if b then Some (row_types row) else types_of (rows ++ more) kind) ≡ types_of more kind)
     [ true ↦ λ e. absurd cc | false ↦ λ e. types_of-other rows more kind e ] none
 
 -- a kind that they have isn't
 pub types_of-first : (rows more : List Row) (kind : ℕ) (types : List FieldType) → types_of rows kind ≡ Some types → types_of (rows ++ more) kind ≡ Some types
 types_of-first [] more kind types some = absurd cc
 types_of-first (row ∷ rows) more kind types some =
-    elim (row.kind == kind) as (λ b. (if b then Some row.types else types_of rows kind) ≡ Some types → (if b then Some row.types else types_of (rows ++ more) kind) ≡ Some types)
+    elim (row.kind == kind) as (λ b. (if b then Some (row_types row) else types_of rows kind) ≡ Some types → (if b then Some (row_types row) else types_of (rows ++ more) kind) ≡ Some types)
     [ true ↦ λ e. e | false ↦ λ e. types_of-first rows more kind types e ] some
 
 -- a defect that isn't an unknown kind is the same by both

@@ -1,6 +1,7 @@
 -- The messages as contracts see them: their kinds and the values of their fields.
 use Rattle.std.specs.Prelude.{List, [], ◌∷◌}
 use Rattle.sv2_types.specs.Fields.{FieldValue, Number, Truth, Bytes, Perhaps, Parts}
+use Rattle.sv2_messages.specs.declared.kinds.TheConstants as kinds
 use Rattle.sv2_messages.specs.Messages.{Message}
 use Rattle.mining_msgs.specs.declared.setup.SetupConnection.{SetupConnection}
 use Rattle.mining_msgs.specs.declared.setup.SetupConnectionSuccess.{SetupConnectionSuccess}
@@ -100,26 +101,26 @@ set_custom_mining_job_error m = Number m.channel_id ∷ Number m.request_id ∷ 
 
 -- a message is its kind and its fields
 abbrev pub seen : Mining → Message
-seen (messages.SetupConnection m) = record { kind = 0x00; fields = setup_connection m }
-seen (messages.SetupConnectionSuccess m) = record { kind = 0x01; fields = setup_connection_success m }
-seen (messages.SetupConnectionError m) = record { kind = 0x02; fields = setup_connection_error m }
-seen (messages.OpenStandardMiningChannel m) = record { kind = 0x10; fields = open_standard_mining_channel m }
-seen (messages.OpenStandardMiningChannelSuccess m) = record { kind = 0x11; fields = open_standard_mining_channel_success m }
-seen (messages.OpenMiningChannelError m) = record { kind = 0x12; fields = open_mining_channel_error m }
-seen (messages.OpenExtendedMiningChannel m) = record { kind = 0x13; fields = open_extended_mining_channel m }
-seen (messages.OpenExtendedMiningChannelSuccess m) = record { kind = 0x14; fields = open_extended_mining_channel_success m }
-seen (messages.NewMiningJob m) = record { kind = 0x15; fields = new_mining_job m }
-seen (messages.UpdateChannel m) = record { kind = 0x16; fields = update_channel m }
-seen (messages.UpdateChannelError m) = record { kind = 0x17; fields = update_channel_error m }
-seen (messages.CloseChannel m) = record { kind = 0x18; fields = close_channel m }
-seen (messages.SetExtranoncePrefix m) = record { kind = 0x19; fields = set_extranonce_prefix m }
-seen (messages.SubmitSharesStandard m) = record { kind = 0x1a; fields = submit_shares_standard m }
-seen (messages.SubmitSharesExtended m) = record { kind = 0x1b; fields = submit_shares_extended m }
-seen (messages.SubmitSharesSuccess m) = record { kind = 0x1c; fields = submit_shares_success m }
-seen (messages.SubmitSharesError m) = record { kind = 0x1d; fields = submit_shares_error m }
-seen (messages.NewExtendedMiningJob m) = record { kind = 0x1f; fields = new_extended_mining_job m }
-seen (messages.SetNewPrevHash m) = record { kind = 0x20; fields = set_new_prev_hash m }
-seen (messages.SetTarget m) = record { kind = 0x21; fields = set_target m }
-seen (messages.SetCustomMiningJob m) = record { kind = 0x22; fields = set_custom_mining_job m }
-seen (messages.SetCustomMiningJobSuccess m) = record { kind = 0x23; fields = set_custom_mining_job_success m }
-seen (messages.SetCustomMiningJobError m) = record { kind = 0x24; fields = set_custom_mining_job_error m }
+seen (messages.SetupConnection m) = record { kind = kinds.SETUP_CONNECTION; fields = setup_connection m }
+seen (messages.SetupConnectionSuccess m) = record { kind = kinds.SETUP_CONNECTION_SUCCESS; fields = setup_connection_success m }
+seen (messages.SetupConnectionError m) = record { kind = kinds.SETUP_CONNECTION_ERROR; fields = setup_connection_error m }
+seen (messages.OpenStandardMiningChannel m) = record { kind = kinds.OPEN_STANDARD_MINING_CHANNEL; fields = open_standard_mining_channel m }
+seen (messages.OpenStandardMiningChannelSuccess m) = record { kind = kinds.OPEN_STANDARD_MINING_CHANNEL_SUCCESS; fields = open_standard_mining_channel_success m }
+seen (messages.OpenMiningChannelError m) = record { kind = kinds.OPEN_MINING_CHANNEL_ERROR; fields = open_mining_channel_error m }
+seen (messages.OpenExtendedMiningChannel m) = record { kind = kinds.OPEN_EXTENDED_MINING_CHANNEL; fields = open_extended_mining_channel m }
+seen (messages.OpenExtendedMiningChannelSuccess m) = record { kind = kinds.OPEN_EXTENDED_MINING_CHANNEL_SUCCESS; fields = open_extended_mining_channel_success m }
+seen (messages.NewMiningJob m) = record { kind = kinds.NEW_MINING_JOB; fields = new_mining_job m }
+seen (messages.UpdateChannel m) = record { kind = kinds.UPDATE_CHANNEL; fields = update_channel m }
+seen (messages.UpdateChannelError m) = record { kind = kinds.UPDATE_CHANNEL_ERROR; fields = update_channel_error m }
+seen (messages.CloseChannel m) = record { kind = kinds.CLOSE_CHANNEL; fields = close_channel m }
+seen (messages.SetExtranoncePrefix m) = record { kind = kinds.SET_EXTRANONCE_PREFIX; fields = set_extranonce_prefix m }
+seen (messages.SubmitSharesStandard m) = record { kind = kinds.SUBMIT_SHARES_STANDARD; fields = submit_shares_standard m }
+seen (messages.SubmitSharesExtended m) = record { kind = kinds.SUBMIT_SHARES_EXTENDED; fields = submit_shares_extended m }
+seen (messages.SubmitSharesSuccess m) = record { kind = kinds.SUBMIT_SHARES_SUCCESS; fields = submit_shares_success m }
+seen (messages.SubmitSharesError m) = record { kind = kinds.SUBMIT_SHARES_ERROR; fields = submit_shares_error m }
+seen (messages.NewExtendedMiningJob m) = record { kind = kinds.NEW_EXTENDED_MINING_JOB; fields = new_extended_mining_job m }
+seen (messages.SetNewPrevHash m) = record { kind = kinds.MINING_SET_NEW_PREV_HASH; fields = set_new_prev_hash m }
+seen (messages.SetTarget m) = record { kind = kinds.SET_TARGET; fields = set_target m }
+seen (messages.SetCustomMiningJob m) = record { kind = kinds.SET_CUSTOM_MINING_JOB; fields = set_custom_mining_job m }
+seen (messages.SetCustomMiningJobSuccess m) = record { kind = kinds.SET_CUSTOM_MINING_JOB_SUCCESS; fields = set_custom_mining_job_success m }
+seen (messages.SetCustomMiningJobError m) = record { kind = kinds.SET_CUSTOM_MINING_JOB_ERROR; fields = set_custom_mining_job_error m }

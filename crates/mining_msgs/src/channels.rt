@@ -1,10 +1,11 @@
 //! The messages that open, change and close a channel.
 
 ghost use Rattle.std.specs.Prelude.{◌≡◌};
+ghost use Rattle.sv2_messages.specs.declared.kinds.TheConstants as kinds;
 ghost use Rattle.sv2_messages.specs.Tables.{mining};
-ghost use Rattle.sv2_messages.specs.Reading.{Gives, values_of};
+ghost use Rattle.sv2_messages.specs.Reading.{ReadsMessage};
 ghost use Rattle.sv2_messages.specs.Writing.{AreFields};
-ghost use Rattle.mining_msgs.specs.Seen.{seen, open_standard_mining_channel, open_standard_mining_channel_success, open_mining_channel_error, open_extended_mining_channel, open_extended_mining_channel_success, update_channel, update_channel_error, close_channel, set_extranonce_prefix, set_target};
+ghost use Rattle.mining_msgs.specs.Seen.{seen};
 
 use crate::message::Mining;
 use sv2_messages::{Field, FieldReader, MsgError};
@@ -24,7 +25,7 @@ pub struct OpenStandardMiningChannel<'a> {
 impl OpenStandardMiningChannel<'_> {
     /// The fields in their order.
     pub(crate) fn fields(&self) -> [Field<'_>; 4]
-        ensures { AreFields mining (record { kind = 0x10; fields = open_standard_mining_channel self.now }) result }
+        ensures { AreFields mining (seen (Mining.OpenStandardMiningChannel self.now)) result }
     {
         [
             Field::U32(self.request_id),
@@ -39,7 +40,7 @@ impl OpenStandardMiningChannel<'_> {
 pub(crate) fn read_open_standard_mining_channel<'a>(
     payload: &'a [u8],
 ) -> Result<Mining<'a>, MsgError>
-    ensures { Gives seen result 0x10 (values_of mining 0x10 payload.now) }
+    ensures { ReadsMessage mining kinds.OPEN_STANDARD_MINING_CHANNEL seen payload.now result }
 {
     let mut fields = FieldReader::new(payload);
     let message = OpenStandardMiningChannel {
@@ -67,7 +68,7 @@ pub struct OpenStandardMiningChannelSuccess<'a> {
 impl OpenStandardMiningChannelSuccess<'_> {
     /// The fields in their order.
     pub(crate) fn fields(&self) -> [Field<'_>; 5]
-        ensures { AreFields mining (record { kind = 0x11; fields = open_standard_mining_channel_success self.now }) result }
+        ensures { AreFields mining (seen (Mining.OpenStandardMiningChannelSuccess self.now)) result }
     {
         [
             Field::U32(self.request_id),
@@ -83,7 +84,7 @@ impl OpenStandardMiningChannelSuccess<'_> {
 pub(crate) fn read_open_standard_mining_channel_success<'a>(
     payload: &'a [u8],
 ) -> Result<Mining<'a>, MsgError>
-    ensures { Gives seen result 0x11 (values_of mining 0x11 payload.now) }
+    ensures { ReadsMessage mining kinds.OPEN_STANDARD_MINING_CHANNEL_SUCCESS seen payload.now result }
 {
     let mut fields = FieldReader::new(payload);
     let message = OpenStandardMiningChannelSuccess {
@@ -108,7 +109,7 @@ pub struct OpenMiningChannelError<'a> {
 impl OpenMiningChannelError<'_> {
     /// The fields in their order.
     pub(crate) fn fields(&self) -> [Field<'_>; 2]
-        ensures { AreFields mining (record { kind = 0x12; fields = open_mining_channel_error self.now }) result }
+        ensures { AreFields mining (seen (Mining.OpenMiningChannelError self.now)) result }
     {
         [Field::U32(self.request_id), Field::Str255(self.error_code)]
     }
@@ -116,7 +117,7 @@ impl OpenMiningChannelError<'_> {
 
 #[tactic(auto, unfolding(sv2_messages::specs::Reading::values_of))]
 pub(crate) fn read_open_mining_channel_error<'a>(payload: &'a [u8]) -> Result<Mining<'a>, MsgError>
-    ensures { Gives seen result 0x12 (values_of mining 0x12 payload.now) }
+    ensures { ReadsMessage mining kinds.OPEN_MINING_CHANNEL_ERROR seen payload.now result }
 {
     let mut fields = FieldReader::new(payload);
     let message = OpenMiningChannelError {
@@ -143,7 +144,7 @@ pub struct OpenExtendedMiningChannel<'a> {
 impl OpenExtendedMiningChannel<'_> {
     /// The fields in their order.
     pub(crate) fn fields(&self) -> [Field<'_>; 5]
-        ensures { AreFields mining (record { kind = 0x13; fields = open_extended_mining_channel self.now }) result }
+        ensures { AreFields mining (seen (Mining.OpenExtendedMiningChannel self.now)) result }
     {
         [
             Field::U32(self.request_id),
@@ -159,7 +160,7 @@ impl OpenExtendedMiningChannel<'_> {
 pub(crate) fn read_open_extended_mining_channel<'a>(
     payload: &'a [u8],
 ) -> Result<Mining<'a>, MsgError>
-    ensures { Gives seen result 0x13 (values_of mining 0x13 payload.now) }
+    ensures { ReadsMessage mining kinds.OPEN_EXTENDED_MINING_CHANNEL seen payload.now result }
 {
     let mut fields = FieldReader::new(payload);
     let message = OpenExtendedMiningChannel {
@@ -189,7 +190,7 @@ pub struct OpenExtendedMiningChannelSuccess<'a> {
 impl OpenExtendedMiningChannelSuccess<'_> {
     /// The fields in their order.
     pub(crate) fn fields(&self) -> [Field<'_>; 5]
-        ensures { AreFields mining (record { kind = 0x14; fields = open_extended_mining_channel_success self.now }) result }
+        ensures { AreFields mining (seen (Mining.OpenExtendedMiningChannelSuccess self.now)) result }
     {
         [
             Field::U32(self.request_id),
@@ -205,7 +206,7 @@ impl OpenExtendedMiningChannelSuccess<'_> {
 pub(crate) fn read_open_extended_mining_channel_success<'a>(
     payload: &'a [u8],
 ) -> Result<Mining<'a>, MsgError>
-    ensures { Gives seen result 0x14 (values_of mining 0x14 payload.now) }
+    ensures { ReadsMessage mining kinds.OPEN_EXTENDED_MINING_CHANNEL_SUCCESS seen payload.now result }
 {
     let mut fields = FieldReader::new(payload);
     let message = OpenExtendedMiningChannelSuccess {
@@ -232,7 +233,7 @@ pub struct UpdateChannel {
 impl UpdateChannel {
     /// The fields in their order.
     pub(crate) fn fields(&self) -> [Field<'_>; 3]
-        ensures { AreFields mining (record { kind = 0x16; fields = update_channel self.now }) result }
+        ensures { AreFields mining (seen (Mining.UpdateChannel self.now)) result }
     {
         [
             Field::U32(self.channel_id),
@@ -244,7 +245,7 @@ impl UpdateChannel {
 
 #[tactic(auto, unfolding(sv2_messages::specs::Reading::values_of))]
 pub(crate) fn read_update_channel<'a>(payload: &'a [u8]) -> Result<Mining<'a>, MsgError>
-    ensures { Gives seen result 0x16 (values_of mining 0x16 payload.now) }
+    ensures { ReadsMessage mining kinds.UPDATE_CHANNEL seen payload.now result }
 {
     let mut fields = FieldReader::new(payload);
     let message = UpdateChannel {
@@ -266,7 +267,7 @@ pub struct UpdateChannelError<'a> {
 impl UpdateChannelError<'_> {
     /// The fields in their order.
     pub(crate) fn fields(&self) -> [Field<'_>; 2]
-        ensures { AreFields mining (record { kind = 0x17; fields = update_channel_error self.now }) result }
+        ensures { AreFields mining (seen (Mining.UpdateChannelError self.now)) result }
     {
         [Field::U32(self.channel_id), Field::Str255(self.error_code)]
     }
@@ -274,7 +275,7 @@ impl UpdateChannelError<'_> {
 
 #[tactic(auto, unfolding(sv2_messages::specs::Reading::values_of))]
 pub(crate) fn read_update_channel_error<'a>(payload: &'a [u8]) -> Result<Mining<'a>, MsgError>
-    ensures { Gives seen result 0x17 (values_of mining 0x17 payload.now) }
+    ensures { ReadsMessage mining kinds.UPDATE_CHANNEL_ERROR seen payload.now result }
 {
     let mut fields = FieldReader::new(payload);
     let message = UpdateChannelError {
@@ -295,7 +296,7 @@ pub struct CloseChannel<'a> {
 impl CloseChannel<'_> {
     /// The fields in their order.
     pub(crate) fn fields(&self) -> [Field<'_>; 2]
-        ensures { AreFields mining (record { kind = 0x18; fields = close_channel self.now }) result }
+        ensures { AreFields mining (seen (Mining.CloseChannel self.now)) result }
     {
         [Field::U32(self.channel_id), Field::Str255(self.reason_code)]
     }
@@ -303,7 +304,7 @@ impl CloseChannel<'_> {
 
 #[tactic(auto, unfolding(sv2_messages::specs::Reading::values_of))]
 pub(crate) fn read_close_channel<'a>(payload: &'a [u8]) -> Result<Mining<'a>, MsgError>
-    ensures { Gives seen result 0x18 (values_of mining 0x18 payload.now) }
+    ensures { ReadsMessage mining kinds.CLOSE_CHANNEL seen payload.now result }
 {
     let mut fields = FieldReader::new(payload);
     let message = CloseChannel {
@@ -324,7 +325,7 @@ pub struct SetExtranoncePrefix<'a> {
 impl SetExtranoncePrefix<'_> {
     /// The fields in their order.
     pub(crate) fn fields(&self) -> [Field<'_>; 2]
-        ensures { AreFields mining (record { kind = 0x19; fields = set_extranonce_prefix self.now }) result }
+        ensures { AreFields mining (seen (Mining.SetExtranoncePrefix self.now)) result }
     {
         [
             Field::U32(self.channel_id),
@@ -335,7 +336,7 @@ impl SetExtranoncePrefix<'_> {
 
 #[tactic(auto, unfolding(sv2_messages::specs::Reading::values_of))]
 pub(crate) fn read_set_extranonce_prefix<'a>(payload: &'a [u8]) -> Result<Mining<'a>, MsgError>
-    ensures { Gives seen result 0x19 (values_of mining 0x19 payload.now) }
+    ensures { ReadsMessage mining kinds.SET_EXTRANONCE_PREFIX seen payload.now result }
 {
     let mut fields = FieldReader::new(payload);
     let message = SetExtranoncePrefix {
@@ -357,7 +358,7 @@ pub struct SetTarget {
 impl SetTarget {
     /// The fields in their order.
     pub(crate) fn fields(&self) -> [Field<'_>; 2]
-        ensures { AreFields mining (record { kind = 0x21; fields = set_target self.now }) result }
+        ensures { AreFields mining (seen (Mining.SetTarget self.now)) result }
     {
         [
             Field::U32(self.channel_id),
@@ -368,7 +369,7 @@ impl SetTarget {
 
 #[tactic(auto, unfolding(sv2_messages::specs::Reading::values_of))]
 pub(crate) fn read_set_target<'a>(payload: &'a [u8]) -> Result<Mining<'a>, MsgError>
-    ensures { Gives seen result 0x21 (values_of mining 0x21 payload.now) }
+    ensures { ReadsMessage mining kinds.SET_TARGET seen payload.now result }
 {
     let mut fields = FieldReader::new(payload);
     let message = SetTarget {

@@ -1,10 +1,11 @@
 //! The messages with which a miner brings work of its own (layouts of this project's own).
 
 ghost use Rattle.std.specs.Prelude.{◌≡◌};
+ghost use Rattle.sv2_messages.specs.declared.kinds.TheConstants as kinds;
 ghost use Rattle.sv2_messages.specs.Tables.{mining};
-ghost use Rattle.sv2_messages.specs.Reading.{Gives, values_of};
+ghost use Rattle.sv2_messages.specs.Reading.{ReadsMessage};
 ghost use Rattle.sv2_messages.specs.Writing.{AreFields};
-ghost use Rattle.mining_msgs.specs.Seen.{seen, set_custom_mining_job, set_custom_mining_job_success, set_custom_mining_job_error};
+ghost use Rattle.mining_msgs.specs.Seen.{seen};
 
 use crate::message::Mining;
 use sv2_messages::{Field, FieldReader, MsgError};
@@ -38,7 +39,7 @@ pub struct SetCustomMiningJob<'a> {
 impl SetCustomMiningJob<'_> {
     /// The fields in their order.
     pub(crate) fn fields(&self) -> [Field<'_>; 13]
-        ensures { AreFields mining (record { kind = 0x22; fields = set_custom_mining_job self.now }) result }
+        ensures { AreFields mining (seen (Mining.SetCustomMiningJob self.now)) result }
     {
         [
             Field::U32(self.channel_id),
@@ -60,7 +61,7 @@ impl SetCustomMiningJob<'_> {
 
 #[tactic(auto, unfolding(sv2_messages::specs::Reading::values_of))]
 pub(crate) fn read_set_custom_mining_job<'a>(payload: &'a [u8]) -> Result<Mining<'a>, MsgError>
-    ensures { Gives seen result 0x22 (values_of mining 0x22 payload.now) }
+    ensures { ReadsMessage mining kinds.SET_CUSTOM_MINING_JOB seen payload.now result }
 {
     let mut fields = FieldReader::new(payload);
     let message = SetCustomMiningJob {
@@ -94,7 +95,7 @@ pub struct SetCustomMiningJobSuccess {
 impl SetCustomMiningJobSuccess {
     /// The fields in their order.
     pub(crate) fn fields(&self) -> [Field<'_>; 3]
-        ensures { AreFields mining (record { kind = 0x23; fields = set_custom_mining_job_success self.now }) result }
+        ensures { AreFields mining (seen (Mining.SetCustomMiningJobSuccess self.now)) result }
     {
         [
             Field::U32(self.channel_id),
@@ -108,7 +109,7 @@ impl SetCustomMiningJobSuccess {
 pub(crate) fn read_set_custom_mining_job_success<'a>(
     payload: &'a [u8],
 ) -> Result<Mining<'a>, MsgError>
-    ensures { Gives seen result 0x23 (values_of mining 0x23 payload.now) }
+    ensures { ReadsMessage mining kinds.SET_CUSTOM_MINING_JOB_SUCCESS seen payload.now result }
 {
     let mut fields = FieldReader::new(payload);
     let message = SetCustomMiningJobSuccess {
@@ -132,7 +133,7 @@ pub struct SetCustomMiningJobError<'a> {
 impl SetCustomMiningJobError<'_> {
     /// The fields in their order.
     pub(crate) fn fields(&self) -> [Field<'_>; 3]
-        ensures { AreFields mining (record { kind = 0x24; fields = set_custom_mining_job_error self.now }) result }
+        ensures { AreFields mining (seen (Mining.SetCustomMiningJobError self.now)) result }
     {
         [
             Field::U32(self.channel_id),
@@ -146,7 +147,7 @@ impl SetCustomMiningJobError<'_> {
 pub(crate) fn read_set_custom_mining_job_error<'a>(
     payload: &'a [u8],
 ) -> Result<Mining<'a>, MsgError>
-    ensures { Gives seen result 0x24 (values_of mining 0x24 payload.now) }
+    ensures { ReadsMessage mining kinds.SET_CUSTOM_MINING_JOB_ERROR seen payload.now result }
 {
     let mut fields = FieldReader::new(payload);
     let message = SetCustomMiningJobError {

@@ -1,10 +1,11 @@
 //! The messages that bring work.
 
 ghost use Rattle.std.specs.Prelude.{◌≡◌};
+ghost use Rattle.sv2_messages.specs.declared.kinds.TheConstants as kinds;
 ghost use Rattle.sv2_messages.specs.Tables.{mining};
-ghost use Rattle.sv2_messages.specs.Reading.{Gives, values_of};
+ghost use Rattle.sv2_messages.specs.Reading.{ReadsMessage};
 ghost use Rattle.sv2_messages.specs.Writing.{AreFields};
-ghost use Rattle.mining_msgs.specs.Seen.{seen, new_mining_job, new_extended_mining_job, set_new_prev_hash};
+ghost use Rattle.mining_msgs.specs.Seen.{seen};
 
 use crate::message::Mining;
 use sv2_messages::{Field, FieldReader, MsgError};
@@ -26,7 +27,7 @@ pub struct NewMiningJob {
 impl NewMiningJob {
     /// The fields in their order.
     pub(crate) fn fields(&self) -> [Field<'_>; 5]
-        ensures { AreFields mining (record { kind = 0x15; fields = new_mining_job self.now }) result }
+        ensures { AreFields mining (seen (Mining.NewMiningJob self.now)) result }
     {
         [
             Field::U32(self.channel_id),
@@ -40,7 +41,7 @@ impl NewMiningJob {
 
 #[tactic(auto, unfolding(sv2_messages::specs::Reading::values_of))]
 pub(crate) fn read_new_mining_job<'a>(payload: &'a [u8]) -> Result<Mining<'a>, MsgError>
-    ensures { Gives seen result 0x15 (values_of mining 0x15 payload.now) }
+    ensures { ReadsMessage mining kinds.NEW_MINING_JOB seen payload.now result }
 {
     let mut fields = FieldReader::new(payload);
     let message = NewMiningJob {
@@ -75,7 +76,7 @@ pub struct NewExtendedMiningJob<'a> {
 impl NewExtendedMiningJob<'_> {
     /// The fields in their order.
     pub(crate) fn fields(&self) -> [Field<'_>; 8]
-        ensures { AreFields mining (record { kind = 0x1f; fields = new_extended_mining_job self.now }) result }
+        ensures { AreFields mining (seen (Mining.NewExtendedMiningJob self.now)) result }
     {
         [
             Field::U32(self.channel_id),
@@ -92,7 +93,7 @@ impl NewExtendedMiningJob<'_> {
 
 #[tactic(auto, unfolding(sv2_messages::specs::Reading::values_of))]
 pub(crate) fn read_new_extended_mining_job<'a>(payload: &'a [u8]) -> Result<Mining<'a>, MsgError>
-    ensures { Gives seen result 0x1f (values_of mining 0x1f payload.now) }
+    ensures { ReadsMessage mining kinds.NEW_EXTENDED_MINING_JOB seen payload.now result }
 {
     let mut fields = FieldReader::new(payload);
     let message = NewExtendedMiningJob {
@@ -125,7 +126,7 @@ pub struct SetNewPrevHash {
 impl SetNewPrevHash {
     /// The fields in their order.
     pub(crate) fn fields(&self) -> [Field<'_>; 5]
-        ensures { AreFields mining (record { kind = 0x20; fields = set_new_prev_hash self.now }) result }
+        ensures { AreFields mining (seen (Mining.SetNewPrevHash self.now)) result }
     {
         [
             Field::U32(self.channel_id),
@@ -139,7 +140,7 @@ impl SetNewPrevHash {
 
 #[tactic(auto, unfolding(sv2_messages::specs::Reading::values_of))]
 pub(crate) fn read_set_new_prev_hash<'a>(payload: &'a [u8]) -> Result<Mining<'a>, MsgError>
-    ensures { Gives seen result 0x20 (values_of mining 0x20 payload.now) }
+    ensures { ReadsMessage mining kinds.MINING_SET_NEW_PREV_HASH seen payload.now result }
 {
     let mut fields = FieldReader::new(payload);
     let message = SetNewPrevHash {

@@ -17,7 +17,7 @@ use crate::shares::{
     SubmitSharesError, SubmitSharesExtended, SubmitSharesStandard, SubmitSharesSuccess,
 };
 use std::alloc::AllocError;
-use sv2_messages::{fits, put_frame};
+use sv2_messages::{fits, kinds, put_frame};
 
 /// A common message or one of the mining protocol.
 #[derive(Clone, Copy, Debug, PartialEq, Eq)]
@@ -53,29 +53,31 @@ impl Mining<'_> {
         ensures { result ≡ (seen self.now).kind }
     {
         match self {
-            Mining::SetupConnection(_) => 0x00,
-            Mining::SetupConnectionSuccess(_) => 0x01,
-            Mining::SetupConnectionError(_) => 0x02,
-            Mining::OpenStandardMiningChannel(_) => 0x10,
-            Mining::OpenStandardMiningChannelSuccess(_) => 0x11,
-            Mining::OpenMiningChannelError(_) => 0x12,
-            Mining::OpenExtendedMiningChannel(_) => 0x13,
-            Mining::OpenExtendedMiningChannelSuccess(_) => 0x14,
-            Mining::NewMiningJob(_) => 0x15,
-            Mining::UpdateChannel(_) => 0x16,
-            Mining::UpdateChannelError(_) => 0x17,
-            Mining::CloseChannel(_) => 0x18,
-            Mining::SetExtranoncePrefix(_) => 0x19,
-            Mining::SubmitSharesStandard(_) => 0x1a,
-            Mining::SubmitSharesExtended(_) => 0x1b,
-            Mining::SubmitSharesSuccess(_) => 0x1c,
-            Mining::SubmitSharesError(_) => 0x1d,
-            Mining::NewExtendedMiningJob(_) => 0x1f,
-            Mining::SetNewPrevHash(_) => 0x20,
-            Mining::SetTarget(_) => 0x21,
-            Mining::SetCustomMiningJob(_) => 0x22,
-            Mining::SetCustomMiningJobSuccess(_) => 0x23,
-            Mining::SetCustomMiningJobError(_) => 0x24,
+            Mining::SetupConnection(_) => kinds::SETUP_CONNECTION,
+            Mining::SetupConnectionSuccess(_) => kinds::SETUP_CONNECTION_SUCCESS,
+            Mining::SetupConnectionError(_) => kinds::SETUP_CONNECTION_ERROR,
+            Mining::OpenStandardMiningChannel(_) => kinds::OPEN_STANDARD_MINING_CHANNEL,
+            Mining::OpenStandardMiningChannelSuccess(_) =>
+                kinds::OPEN_STANDARD_MINING_CHANNEL_SUCCESS,
+            Mining::OpenMiningChannelError(_) => kinds::OPEN_MINING_CHANNEL_ERROR,
+            Mining::OpenExtendedMiningChannel(_) => kinds::OPEN_EXTENDED_MINING_CHANNEL,
+            Mining::OpenExtendedMiningChannelSuccess(_) =>
+                kinds::OPEN_EXTENDED_MINING_CHANNEL_SUCCESS,
+            Mining::NewMiningJob(_) => kinds::NEW_MINING_JOB,
+            Mining::UpdateChannel(_) => kinds::UPDATE_CHANNEL,
+            Mining::UpdateChannelError(_) => kinds::UPDATE_CHANNEL_ERROR,
+            Mining::CloseChannel(_) => kinds::CLOSE_CHANNEL,
+            Mining::SetExtranoncePrefix(_) => kinds::SET_EXTRANONCE_PREFIX,
+            Mining::SubmitSharesStandard(_) => kinds::SUBMIT_SHARES_STANDARD,
+            Mining::SubmitSharesExtended(_) => kinds::SUBMIT_SHARES_EXTENDED,
+            Mining::SubmitSharesSuccess(_) => kinds::SUBMIT_SHARES_SUCCESS,
+            Mining::SubmitSharesError(_) => kinds::SUBMIT_SHARES_ERROR,
+            Mining::NewExtendedMiningJob(_) => kinds::NEW_EXTENDED_MINING_JOB,
+            Mining::SetNewPrevHash(_) => kinds::MINING_SET_NEW_PREV_HASH,
+            Mining::SetTarget(_) => kinds::SET_TARGET,
+            Mining::SetCustomMiningJob(_) => kinds::SET_CUSTOM_MINING_JOB,
+            Mining::SetCustomMiningJobSuccess(_) => kinds::SET_CUSTOM_MINING_JOB_SUCCESS,
+            Mining::SetCustomMiningJobError(_) => kinds::SET_CUSTOM_MINING_JOB_ERROR,
         }
     }
 

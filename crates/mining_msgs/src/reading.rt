@@ -3,7 +3,7 @@
 ghost use Rattle.std.specs.Prelude.{◌≡◌, ◌↔◌, IfOk, IsOkAnd, IsErrOf};
 ghost use Rattle.sv2_messages.specs.declared.error.MsgError.{MsgError};
 ghost use Rattle.sv2_messages.specs.Messages.{Message, MsgOf};
-ghost use Rattle.sv2_messages.specs.Reading.{Gives, values_of, IsFirstDefect};
+ghost use Rattle.sv2_messages.specs.Reading.{ReadsMessage, IsFirstDefect};
 ghost use Rattle.sv2_messages.specs.Tables.{mining};
 ghost use Rattle.mining_msgs.specs.Seen.{seen};
 
@@ -26,7 +26,7 @@ use crate::shares::{
     read_submit_shares_error, read_submit_shares_extended, read_submit_shares_standard,
     read_submit_shares_success,
 };
-use sv2_messages::MsgError;
+use sv2_messages::{MsgError, kinds};
 
 /// Reads a message. What it gives borrows the payload; it takes no memory.
 pub fn read<'a>(kind: u8, payload: &'a [u8]) -> Result<Mining<'a>, MsgError>
@@ -41,32 +41,36 @@ pub fn read<'a>(kind: u8, payload: &'a [u8]) -> Result<Mining<'a>, MsgError>
 }
 
 fn read_by_kind<'a>(kind: u8, payload: &'a [u8]) -> Result<Mining<'a>, MsgError>
-    ensures { Gives seen result kind (values_of mining kind payload.now) }
+    ensures { ReadsMessage mining kind seen payload.now result }
 {
     match kind {
-        0x00 => read_setup_connection(payload),
-        0x01 => read_setup_connection_success(payload),
-        0x02 => read_setup_connection_error(payload),
-        0x10 => read_open_standard_mining_channel(payload),
-        0x11 => read_open_standard_mining_channel_success(payload),
-        0x12 => read_open_mining_channel_error(payload),
-        0x13 => read_open_extended_mining_channel(payload),
-        0x14 => read_open_extended_mining_channel_success(payload),
-        0x15 => read_new_mining_job(payload),
-        0x16 => read_update_channel(payload),
-        0x17 => read_update_channel_error(payload),
-        0x18 => read_close_channel(payload),
-        0x19 => read_set_extranonce_prefix(payload),
-        0x1a => read_submit_shares_standard(payload),
-        0x1b => read_submit_shares_extended(payload),
-        0x1c => read_submit_shares_success(payload),
-        0x1d => read_submit_shares_error(payload),
-        0x1f => read_new_extended_mining_job(payload),
-        0x20 => read_set_new_prev_hash(payload),
-        0x21 => read_set_target(payload),
-        0x22 => read_set_custom_mining_job(payload),
-        0x23 => read_set_custom_mining_job_success(payload),
-        0x24 => read_set_custom_mining_job_error(payload),
+        kinds::SETUP_CONNECTION => read_setup_connection(payload),
+        kinds::SETUP_CONNECTION_SUCCESS => read_setup_connection_success(payload),
+        kinds::SETUP_CONNECTION_ERROR => read_setup_connection_error(payload),
+        kinds::OPEN_STANDARD_MINING_CHANNEL => read_open_standard_mining_channel(payload),
+        kinds::OPEN_STANDARD_MINING_CHANNEL_SUCCESS => read_open_standard_mining_channel_success(
+            payload,
+        ),
+        kinds::OPEN_MINING_CHANNEL_ERROR => read_open_mining_channel_error(payload),
+        kinds::OPEN_EXTENDED_MINING_CHANNEL => read_open_extended_mining_channel(payload),
+        kinds::OPEN_EXTENDED_MINING_CHANNEL_SUCCESS => read_open_extended_mining_channel_success(
+            payload,
+        ),
+        kinds::NEW_MINING_JOB => read_new_mining_job(payload),
+        kinds::UPDATE_CHANNEL => read_update_channel(payload),
+        kinds::UPDATE_CHANNEL_ERROR => read_update_channel_error(payload),
+        kinds::CLOSE_CHANNEL => read_close_channel(payload),
+        kinds::SET_EXTRANONCE_PREFIX => read_set_extranonce_prefix(payload),
+        kinds::SUBMIT_SHARES_STANDARD => read_submit_shares_standard(payload),
+        kinds::SUBMIT_SHARES_EXTENDED => read_submit_shares_extended(payload),
+        kinds::SUBMIT_SHARES_SUCCESS => read_submit_shares_success(payload),
+        kinds::SUBMIT_SHARES_ERROR => read_submit_shares_error(payload),
+        kinds::NEW_EXTENDED_MINING_JOB => read_new_extended_mining_job(payload),
+        kinds::MINING_SET_NEW_PREV_HASH => read_set_new_prev_hash(payload),
+        kinds::SET_TARGET => read_set_target(payload),
+        kinds::SET_CUSTOM_MINING_JOB => read_set_custom_mining_job(payload),
+        kinds::SET_CUSTOM_MINING_JOB_SUCCESS => read_set_custom_mining_job_success(payload),
+        kinds::SET_CUSTOM_MINING_JOB_ERROR => read_set_custom_mining_job_error(payload),
         _ => Err(MsgError::UnknownKind(kind)),
     }
 }

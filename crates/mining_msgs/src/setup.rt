@@ -1,10 +1,11 @@
 //! The messages with which every connection begins.
 
 ghost use Rattle.std.specs.Prelude.{◌≡◌};
+ghost use Rattle.sv2_messages.specs.declared.kinds.TheConstants as kinds;
 ghost use Rattle.sv2_messages.specs.Tables.{mining};
-ghost use Rattle.sv2_messages.specs.Reading.{Gives, values_of};
+ghost use Rattle.sv2_messages.specs.Reading.{ReadsMessage};
 ghost use Rattle.sv2_messages.specs.Writing.{AreFields};
-ghost use Rattle.mining_msgs.specs.Seen.{seen, setup_connection, setup_connection_success, setup_connection_error};
+ghost use Rattle.mining_msgs.specs.Seen.{seen};
 
 use crate::message::Mining;
 use sv2_messages::{Field, FieldReader, MsgError};
@@ -29,7 +30,7 @@ pub struct SetupConnection<'a> {
 impl SetupConnection<'_> {
     /// The fields in their order.
     pub(crate) fn fields(&self) -> [Field<'_>; 10]
-        ensures { AreFields mining (record { kind = 0x00; fields = setup_connection self.now }) result }
+        ensures { AreFields mining (seen (Mining.SetupConnection self.now)) result }
     {
         [
             Field::U8(self.protocol),
@@ -48,7 +49,7 @@ impl SetupConnection<'_> {
 
 #[tactic(auto, unfolding(sv2_messages::specs::Reading::values_of))]
 pub(crate) fn read_setup_connection<'a>(payload: &'a [u8]) -> Result<Mining<'a>, MsgError>
-    ensures { Gives seen result 0x00 (values_of mining 0x00 payload.now) }
+    ensures { ReadsMessage mining kinds.SETUP_CONNECTION seen payload.now result }
 {
     let mut fields = FieldReader::new(payload);
     let message = SetupConnection {
@@ -78,7 +79,7 @@ pub struct SetupConnectionSuccess {
 impl SetupConnectionSuccess {
     /// The fields in their order.
     pub(crate) fn fields(&self) -> [Field<'_>; 2]
-        ensures { AreFields mining (record { kind = 0x01; fields = setup_connection_success self.now }) result }
+        ensures { AreFields mining (seen (Mining.SetupConnectionSuccess self.now)) result }
     {
         [Field::U16(self.used_version), Field::U32(self.flags)]
     }
@@ -86,7 +87,7 @@ impl SetupConnectionSuccess {
 
 #[tactic(auto, unfolding(sv2_messages::specs::Reading::values_of))]
 pub(crate) fn read_setup_connection_success<'a>(payload: &'a [u8]) -> Result<Mining<'a>, MsgError>
-    ensures { Gives seen result 0x01 (values_of mining 0x01 payload.now) }
+    ensures { ReadsMessage mining kinds.SETUP_CONNECTION_SUCCESS seen payload.now result }
 {
     let mut fields = FieldReader::new(payload);
     let message = SetupConnectionSuccess {
@@ -108,7 +109,7 @@ pub struct SetupConnectionError<'a> {
 impl SetupConnectionError<'_> {
     /// The fields in their order.
     pub(crate) fn fields(&self) -> [Field<'_>; 2]
-        ensures { AreFields mining (record { kind = 0x02; fields = setup_connection_error self.now }) result }
+        ensures { AreFields mining (seen (Mining.SetupConnectionError self.now)) result }
     {
         [Field::U32(self.flags), Field::Str255(self.error_code)]
     }
@@ -116,7 +117,7 @@ impl SetupConnectionError<'_> {
 
 #[tactic(auto, unfolding(sv2_messages::specs::Reading::values_of))]
 pub(crate) fn read_setup_connection_error<'a>(payload: &'a [u8]) -> Result<Mining<'a>, MsgError>
-    ensures { Gives seen result 0x02 (values_of mining 0x02 payload.now) }
+    ensures { ReadsMessage mining kinds.SETUP_CONNECTION_ERROR seen payload.now result }
 {
     let mut fields = FieldReader::new(payload);
     let message = SetupConnectionError {

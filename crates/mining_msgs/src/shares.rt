@@ -1,10 +1,11 @@
 //! The messages that bring shares, and their answers.
 
 ghost use Rattle.std.specs.Prelude.{◌≡◌};
+ghost use Rattle.sv2_messages.specs.declared.kinds.TheConstants as kinds;
 ghost use Rattle.sv2_messages.specs.Tables.{mining};
-ghost use Rattle.sv2_messages.specs.Reading.{Gives, values_of};
+ghost use Rattle.sv2_messages.specs.Reading.{ReadsMessage};
 ghost use Rattle.sv2_messages.specs.Writing.{AreFields};
-ghost use Rattle.mining_msgs.specs.Seen.{seen, submit_shares_standard, submit_shares_extended, submit_shares_success, submit_shares_error};
+ghost use Rattle.mining_msgs.specs.Seen.{seen};
 
 use crate::message::Mining;
 use sv2_messages::{Field, FieldReader, MsgError};
@@ -25,7 +26,7 @@ pub struct SubmitSharesStandard {
 impl SubmitSharesStandard {
     /// The fields in their order.
     pub(crate) fn fields(&self) -> [Field<'_>; 6]
-        ensures { AreFields mining (record { kind = 0x1a; fields = submit_shares_standard self.now }) result }
+        ensures { AreFields mining (seen (Mining.SubmitSharesStandard self.now)) result }
     {
         [
             Field::U32(self.channel_id),
@@ -40,7 +41,7 @@ impl SubmitSharesStandard {
 
 #[tactic(auto, unfolding(sv2_messages::specs::Reading::values_of))]
 pub(crate) fn read_submit_shares_standard<'a>(payload: &'a [u8]) -> Result<Mining<'a>, MsgError>
-    ensures { Gives seen result 0x1a (values_of mining 0x1a payload.now) }
+    ensures { ReadsMessage mining kinds.SUBMIT_SHARES_STANDARD seen payload.now result }
 {
     let mut fields = FieldReader::new(payload);
     let message = SubmitSharesStandard {
@@ -72,7 +73,7 @@ pub struct SubmitSharesExtended<'a> {
 impl SubmitSharesExtended<'_> {
     /// The fields in their order.
     pub(crate) fn fields(&self) -> [Field<'_>; 7]
-        ensures { AreFields mining (record { kind = 0x1b; fields = submit_shares_extended self.now }) result }
+        ensures { AreFields mining (seen (Mining.SubmitSharesExtended self.now)) result }
     {
         [
             Field::U32(self.channel_id),
@@ -88,7 +89,7 @@ impl SubmitSharesExtended<'_> {
 
 #[tactic(auto, unfolding(sv2_messages::specs::Reading::values_of))]
 pub(crate) fn read_submit_shares_extended<'a>(payload: &'a [u8]) -> Result<Mining<'a>, MsgError>
-    ensures { Gives seen result 0x1b (values_of mining 0x1b payload.now) }
+    ensures { ReadsMessage mining kinds.SUBMIT_SHARES_EXTENDED seen payload.now result }
 {
     let mut fields = FieldReader::new(payload);
     let message = SubmitSharesExtended {
@@ -117,7 +118,7 @@ pub struct SubmitSharesSuccess {
 impl SubmitSharesSuccess {
     /// The fields in their order.
     pub(crate) fn fields(&self) -> [Field<'_>; 4]
-        ensures { AreFields mining (record { kind = 0x1c; fields = submit_shares_success self.now }) result }
+        ensures { AreFields mining (seen (Mining.SubmitSharesSuccess self.now)) result }
     {
         [
             Field::U32(self.channel_id),
@@ -130,7 +131,7 @@ impl SubmitSharesSuccess {
 
 #[tactic(auto, unfolding(sv2_messages::specs::Reading::values_of))]
 pub(crate) fn read_submit_shares_success<'a>(payload: &'a [u8]) -> Result<Mining<'a>, MsgError>
-    ensures { Gives seen result 0x1c (values_of mining 0x1c payload.now) }
+    ensures { ReadsMessage mining kinds.SUBMIT_SHARES_SUCCESS seen payload.now result }
 {
     let mut fields = FieldReader::new(payload);
     let message = SubmitSharesSuccess {
@@ -154,7 +155,7 @@ pub struct SubmitSharesError<'a> {
 impl SubmitSharesError<'_> {
     /// The fields in their order.
     pub(crate) fn fields(&self) -> [Field<'_>; 3]
-        ensures { AreFields mining (record { kind = 0x1d; fields = submit_shares_error self.now }) result }
+        ensures { AreFields mining (seen (Mining.SubmitSharesError self.now)) result }
     {
         [
             Field::U32(self.channel_id),
@@ -166,7 +167,7 @@ impl SubmitSharesError<'_> {
 
 #[tactic(auto, unfolding(sv2_messages::specs::Reading::values_of))]
 pub(crate) fn read_submit_shares_error<'a>(payload: &'a [u8]) -> Result<Mining<'a>, MsgError>
-    ensures { Gives seen result 0x1d (values_of mining 0x1d payload.now) }
+    ensures { ReadsMessage mining kinds.SUBMIT_SHARES_ERROR seen payload.now result }
 {
     let mut fields = FieldReader::new(payload);
     let message = SubmitSharesError {

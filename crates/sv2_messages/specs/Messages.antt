@@ -1,22 +1,42 @@
 -- Messages as contracts see them, and what a payload of one is (Stratum V2, "Message Types").
-use Rattle.std.specs.Prelude.{◌≡◌, ◌==◌, ℕ, ◌<◌, ◌^◌, ◌&&◌, if◌then◌else◌, nat_lt, Option, None, Some, List, [], ◌∷◌, ◌++◌, length}
+use Prim.Native.String.{String}
+use Rattle.std.specs.Prelude.{◌≡◌, ◌==◌, ℕ, ◌<◌, ◌^◌, ◌&&◌, if◌then◌else◌, nat_lt, Option, None, Some, List, [], ◌∷◌, ◌++◌, length, map, codes}
 use Rattle.sv2_types.specs.Fields.{FieldType, FieldValue, Admits, spelling, Spells}
 use Rattle.sv2_frames.specs.Framing.{frame_of, FrameFits}
+use Rattle.sv2_messages.specs.declared.kinds.TheConstants as kinds
 
 -- a message: its kind, and the values of its fields in their order
 pub record Message : Type 0 where
   pub kind : ℕ
   pub fields : List FieldValue
 
--- a kind, and the types of its fields in their order
+-- a field of a kind: its name, and the type of its values
+pub record NamedField : Type 0 where
+  pub name : List ℕ
+  pub type : FieldType
+
+abbrev pub field : String → FieldType → NamedField
+field name type = record { name = codes name; type = type }
+
+-- a kind, its message's name, and its fields in their order
 pub record Row : Type 0 where
   pub kind : ℕ
-  pub types : List FieldType
+  pub name : List ℕ
+  pub fields : List NamedField
+
+-- the types of a row's fields
+abbrev pub row_types : Row → List FieldType
+row_types row = map (λ field. field.type) row.fields
 
 -- the types of a kind's fields, where the table has the kind
 abbrev pub types_of : List Row → ℕ → Option (List FieldType)
 types_of [] kind = None
-types_of (row ∷ rows) kind = if row.kind == kind then Some row.types else types_of rows kind
+types_of (row ∷ rows) kind = if row.kind == kind then Some (row_types row) else types_of rows kind
+
+-- the name of a kind's message, where the table has the kind
+abbrev pub name_in : List Row → ℕ → Option (List ℕ)
+name_in [] kind = None
+name_in (row ∷ rows) kind = if row.kind == kind then Some row.name else name_in rows kind
 
 -- the bytes are spellings of values of these types, in this order, and nothing else
 abbrev pub AreSpelled : List FieldType → List FieldValue → List ℕ → Type 0
@@ -54,9 +74,10 @@ pub record Fits (table : List Row) (message : Message) : Type 0 where
   pub row : types_of table message.kind ≡ Some types
   pub fields : HaveSpelling types message.fields
 
--- the extension type of a message's frame: the channel bit for the kinds 15 to 21, as the standard's table of messages has it
+-- the extension type of a message's frame: the channel bit for the kinds from 15 to 21 in hex digits, as the
+-- standard's table of messages has it
 abbrev pub ext_of : ℕ → ℕ
-ext_of kind = if nat_lt 0x14 kind && nat_lt kind 0x22 then 0x8000 else 0
+ext_of kind = if nat_lt kinds.OPEN_EXTENDED_MINING_CHANNEL_SUCCESS kind && nat_lt kind kinds.SET_CUSTOM_MINING_JOB then 0x8000 else 0
 
 -- the frame of fields
 abbrev pub frame_with : ℕ → List FieldType → List FieldValue → List ℕ

@@ -101,3 +101,7 @@ Ends left (Err e) = end_at left ≡ Err e
 abbrev pub Gives : {X : Type 0} → (X → Message) → Result X MsgError → ℕ → Result (List FieldValue) MsgError → Type 0
 Gives seen (Ok x) kind values = ((seen x).kind ≡ kind) × (values ≡ Ok (seen x).fields)
 Gives seen (Err e) kind values = values ≡ Err e
+
+-- what a function returned is the message of this kind whose fields the payload spells, or the first defect
+abbrev pub ReadsMessage : {X : Type 0} → List Row → ℕ → (X → Message) → List ℕ → Result X MsgError → Type 0
+ReadsMessage table kind seen payload result = Gives seen result kind (values_of table kind payload)

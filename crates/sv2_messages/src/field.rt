@@ -41,13 +41,17 @@ impl Field<'_> {
         ensures { IsTrue result ↔ Admits (field_type self.now) (field_value self.now) }
     {
         match *self {
-            Field::U8(value) => u64::from(value) < 1 << 8,
-            Field::U16(value) => u64::from(value) < 1 << 16,
-            Field::U32(value) => u64::from(value) < 1 << 32,
-            Field::U64(value) => u128::from(value) < 1 << 64,
-            Field::OptionU32(Some(value)) => u64::from(value) < 1 << 32,
-            Field::Boolean(_) | Field::OptionU32(None) => true,
-            Field::U256(hash) => hash.bytes().len() == 32,
+            Field::U8(_number) => true,
+            Field::U16(_number) => true,
+            Field::U32(_number) => true,
+            Field::U64(_number) => true,
+            Field::OptionU32(Some(_number)) => true,
+            Field::OptionU32(None) | Field::Boolean(_) => true,
+            Field::U256(hash) => {
+                prove!(hash.bytes().len() == 32);
+                true
+            }
+            // The proof doesn't know how long an array inside of an enum is.
             Field::F32(bytes) => bytes.as_slice().len() == 4,
             Field::Str255(text) => text.len() < 1 << 8,
             Field::B255(bytes) => bytes.len() < 1 << 8,

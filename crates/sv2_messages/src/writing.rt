@@ -6,6 +6,7 @@ ghost use Rattle.sv2_messages.specs.Messages.{Message, Row, Fits, message_frame,
 ghost use Rattle.sv2_messages.specs.Writing.{AreFields, Fit, types_in, values_in, spelled};
 
 use crate::field::Field;
+use crate::kinds::{NEW_MINING_JOB, SET_TARGET};
 use std::alloc::AllocError;
 use sv2_types::{put_u8, put_u16, put_u24};
 
@@ -53,12 +54,12 @@ fn payload_len(fields: &[Field<'_>]) -> Option<usize>
     Some(len)
 }
 
-/// The extension type of a message's frame. The kinds from 15 to 21 have the channel bit.
+/// The extension type of a message's frame. The kinds from 15 to 21, in hex digits, have the channel bit.
 fn extension_type(kind: u8) -> u16
     ensures { result ≡ ext_of kind }
 {
     match kind {
-        0x15..=0x21 => 0x8000,
+        NEW_MINING_JOB..=SET_TARGET => 0x8000,
         _ => 0,
     }
 }

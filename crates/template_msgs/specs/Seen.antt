@@ -2,6 +2,7 @@
 use Rattle.std.specs.Prelude.{List, [], ◌∷◌}
 use Rattle.sv2_types.specs.Fields.{FieldValue, Number, Truth, Bytes, Parts}
 use Rattle.sv2_types.specs.Reading.{parts_at}
+use Rattle.sv2_messages.specs.declared.kinds.TheConstants as kinds
 use Rattle.sv2_messages.specs.Messages.{Message}
 use Rattle.template_msgs.specs.declared.templates.CoinbaseOutputConstraints.{CoinbaseOutputConstraints}
 use Rattle.template_msgs.specs.declared.templates.NewTemplate.{NewTemplate}
@@ -37,10 +38,10 @@ submit_solution m = Number m.template_id ∷ Number m.version ∷ Number m.heade
 
 -- a message is its kind and its fields
 abbrev pub seen : Template → Message
-seen (messages.CoinbaseOutputConstraints m) = record { kind = 0x70; fields = coinbase_output_constraints m }
-seen (messages.NewTemplate m) = record { kind = 0x71; fields = new_template m }
-seen (messages.SetNewPrevHash m) = record { kind = 0x72; fields = set_new_prev_hash m }
-seen (messages.RequestTransactionData m) = record { kind = 0x73; fields = request_transaction_data m }
-seen (messages.RequestTransactionDataSuccess m) = record { kind = 0x74; fields = request_transaction_data_success m }
-seen (messages.RequestTransactionDataError m) = record { kind = 0x75; fields = request_transaction_data_error m }
-seen (messages.SubmitSolution m) = record { kind = 0x76; fields = submit_solution m }
+seen (messages.CoinbaseOutputConstraints m) = record { kind = kinds.COINBASE_OUTPUT_CONSTRAINTS; fields = coinbase_output_constraints m }
+seen (messages.NewTemplate m) = record { kind = kinds.NEW_TEMPLATE; fields = new_template m }
+seen (messages.SetNewPrevHash m) = record { kind = kinds.TEMPLATE_SET_NEW_PREV_HASH; fields = set_new_prev_hash m }
+seen (messages.RequestTransactionData m) = record { kind = kinds.REQUEST_TRANSACTION_DATA; fields = request_transaction_data m }
+seen (messages.RequestTransactionDataSuccess m) = record { kind = kinds.REQUEST_TRANSACTION_DATA_SUCCESS; fields = request_transaction_data_success m }
+seen (messages.RequestTransactionDataError m) = record { kind = kinds.REQUEST_TRANSACTION_DATA_ERROR; fields = request_transaction_data_error m }
+seen (messages.SubmitSolution m) = record { kind = kinds.SUBMIT_SOLUTION; fields = submit_solution m }

@@ -10,7 +10,7 @@ use crate::transactions::{
     RequestTransactionData, RequestTransactionDataError, RequestTransactionDataSuccess,
 };
 use std::alloc::AllocError;
-use sv2_messages::{fits, put_frame};
+use sv2_messages::{fits, kinds, put_frame};
 
 /// A message of the template distribution protocol.
 #[derive(Clone, Copy, Debug, PartialEq, Eq)]
@@ -30,13 +30,13 @@ impl Template<'_> {
         ensures { result ≡ (seen self.now).kind }
     {
         match self {
-            Template::CoinbaseOutputConstraints(_) => 0x70,
-            Template::NewTemplate(_) => 0x71,
-            Template::SetNewPrevHash(_) => 0x72,
-            Template::RequestTransactionData(_) => 0x73,
-            Template::RequestTransactionDataSuccess(_) => 0x74,
-            Template::RequestTransactionDataError(_) => 0x75,
-            Template::SubmitSolution(_) => 0x76,
+            Template::CoinbaseOutputConstraints(_) => kinds::COINBASE_OUTPUT_CONSTRAINTS,
+            Template::NewTemplate(_) => kinds::NEW_TEMPLATE,
+            Template::SetNewPrevHash(_) => kinds::TEMPLATE_SET_NEW_PREV_HASH,
+            Template::RequestTransactionData(_) => kinds::REQUEST_TRANSACTION_DATA,
+            Template::RequestTransactionDataSuccess(_) => kinds::REQUEST_TRANSACTION_DATA_SUCCESS,
+            Template::RequestTransactionDataError(_) => kinds::REQUEST_TRANSACTION_DATA_ERROR,
+            Template::SubmitSolution(_) => kinds::SUBMIT_SOLUTION,
         }
     }
 

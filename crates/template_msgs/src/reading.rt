@@ -3,7 +3,7 @@
 ghost use Rattle.std.specs.Prelude.{◌≡◌, ◌↔◌, IfOk, IsOkAnd, IsErrOf};
 ghost use Rattle.sv2_messages.specs.declared.error.MsgError.{MsgError};
 ghost use Rattle.sv2_messages.specs.Messages.{Message, MsgOf};
-ghost use Rattle.sv2_messages.specs.Reading.{Gives, values_of, IsFirstDefect};
+ghost use Rattle.sv2_messages.specs.Reading.{ReadsMessage, IsFirstDefect};
 ghost use Rattle.sv2_messages.specs.Tables.{template};
 ghost use Rattle.template_msgs.specs.Seen.{seen};
 
@@ -16,7 +16,7 @@ use crate::transactions::{
     read_request_transaction_data, read_request_transaction_data_error,
     read_request_transaction_data_success,
 };
-use sv2_messages::MsgError;
+use sv2_messages::{MsgError, kinds};
 
 /// Reads a message. What it gives borrows the payload; it takes no memory.
 pub fn read<'a>(kind: u8, payload: &'a [u8]) -> Result<Template<'a>, MsgError>
@@ -31,16 +31,16 @@ pub fn read<'a>(kind: u8, payload: &'a [u8]) -> Result<Template<'a>, MsgError>
 }
 
 fn read_by_kind<'a>(kind: u8, payload: &'a [u8]) -> Result<Template<'a>, MsgError>
-    ensures { Gives seen result kind (values_of template kind payload.now) }
+    ensures { ReadsMessage template kind seen payload.now result }
 {
     match kind {
-        0x70 => read_coinbase_output_constraints(payload),
-        0x71 => read_new_template(payload),
-        0x72 => read_set_new_prev_hash(payload),
-        0x73 => read_request_transaction_data(payload),
-        0x74 => read_request_transaction_data_success(payload),
-        0x75 => read_request_transaction_data_error(payload),
-        0x76 => read_submit_solution(payload),
+        kinds::COINBASE_OUTPUT_CONSTRAINTS => read_coinbase_output_constraints(payload),
+        kinds::NEW_TEMPLATE => read_new_template(payload),
+        kinds::TEMPLATE_SET_NEW_PREV_HASH => read_set_new_prev_hash(payload),
+        kinds::REQUEST_TRANSACTION_DATA => read_request_transaction_data(payload),
+        kinds::REQUEST_TRANSACTION_DATA_SUCCESS => read_request_transaction_data_success(payload),
+        kinds::REQUEST_TRANSACTION_DATA_ERROR => read_request_transaction_data_error(payload),
+        kinds::SUBMIT_SOLUTION => read_submit_solution(payload),
         _ => Err(MsgError::UnknownKind(kind)),
     }
 }

@@ -1,10 +1,11 @@
 //! The messages that bring templates.
 
 ghost use Rattle.std.specs.Prelude.{◌≡◌};
+ghost use Rattle.sv2_messages.specs.declared.kinds.TheConstants as kinds;
 ghost use Rattle.sv2_messages.specs.Tables.{template};
-ghost use Rattle.sv2_messages.specs.Reading.{Gives, values_of};
+ghost use Rattle.sv2_messages.specs.Reading.{ReadsMessage};
 ghost use Rattle.sv2_messages.specs.Writing.{AreFields};
-ghost use Rattle.template_msgs.specs.Seen.{seen, coinbase_output_constraints, new_template, set_new_prev_hash, submit_solution};
+ghost use Rattle.template_msgs.specs.Seen.{seen};
 
 use crate::message::Template;
 use sv2_messages::{Field, FieldReader, MsgError};
@@ -22,7 +23,7 @@ pub struct CoinbaseOutputConstraints {
 impl CoinbaseOutputConstraints {
     /// The fields in their order.
     pub(crate) fn fields(&self) -> [Field<'_>; 2]
-        ensures { AreFields template (record { kind = 0x70; fields = coinbase_output_constraints self.now }) result }
+        ensures { AreFields template (seen (Template.CoinbaseOutputConstraints self.now)) result }
     {
         [
             Field::U32(self.max_additional_size),
@@ -35,7 +36,7 @@ impl CoinbaseOutputConstraints {
 pub(crate) fn read_coinbase_output_constraints<'a>(
     payload: &'a [u8],
 ) -> Result<Template<'a>, MsgError>
-    ensures { Gives seen result 0x70 (values_of template 0x70 payload.now) }
+    ensures { ReadsMessage template kinds.COINBASE_OUTPUT_CONSTRAINTS seen payload.now result }
 {
     let mut fields = FieldReader::new(payload);
     let message = CoinbaseOutputConstraints {
@@ -70,7 +71,7 @@ pub struct NewTemplate<'a> {
 impl NewTemplate<'_> {
     /// The fields in their order.
     pub(crate) fn fields(&self) -> [Field<'_>; 11]
-        ensures { AreFields template (record { kind = 0x71; fields = new_template self.now }) result }
+        ensures { AreFields template (seen (Template.NewTemplate self.now)) result }
     {
         [
             Field::U64(self.template_id),
@@ -90,7 +91,7 @@ impl NewTemplate<'_> {
 
 #[tactic(auto, unfolding(sv2_messages::specs::Reading::values_of))]
 pub(crate) fn read_new_template<'a>(payload: &'a [u8]) -> Result<Template<'a>, MsgError>
-    ensures { Gives seen result 0x71 (values_of template 0x71 payload.now) }
+    ensures { ReadsMessage template kinds.NEW_TEMPLATE seen payload.now result }
 {
     let mut fields = FieldReader::new(payload);
     let message = NewTemplate {
@@ -127,7 +128,7 @@ pub struct SetNewPrevHash {
 impl SetNewPrevHash {
     /// The fields in their order.
     pub(crate) fn fields(&self) -> [Field<'_>; 5]
-        ensures { AreFields template (record { kind = 0x72; fields = set_new_prev_hash self.now }) result }
+        ensures { AreFields template (seen (Template.SetNewPrevHash self.now)) result }
     {
         [
             Field::U64(self.template_id),
@@ -141,7 +142,7 @@ impl SetNewPrevHash {
 
 #[tactic(auto, unfolding(sv2_messages::specs::Reading::values_of))]
 pub(crate) fn read_set_new_prev_hash<'a>(payload: &'a [u8]) -> Result<Template<'a>, MsgError>
-    ensures { Gives seen result 0x72 (values_of template 0x72 payload.now) }
+    ensures { ReadsMessage template kinds.TEMPLATE_SET_NEW_PREV_HASH seen payload.now result }
 {
     let mut fields = FieldReader::new(payload);
     let message = SetNewPrevHash {
@@ -171,7 +172,7 @@ pub struct SubmitSolution<'a> {
 impl SubmitSolution<'_> {
     /// The fields in their order.
     pub(crate) fn fields(&self) -> [Field<'_>; 5]
-        ensures { AreFields template (record { kind = 0x76; fields = submit_solution self.now }) result }
+        ensures { AreFields template (seen (Template.SubmitSolution self.now)) result }
     {
         [
             Field::U64(self.template_id),
@@ -185,7 +186,7 @@ impl SubmitSolution<'_> {
 
 #[tactic(auto, unfolding(sv2_messages::specs::Reading::values_of))]
 pub(crate) fn read_submit_solution<'a>(payload: &'a [u8]) -> Result<Template<'a>, MsgError>
-    ensures { Gives seen result 0x76 (values_of template 0x76 payload.now) }
+    ensures { ReadsMessage template kinds.SUBMIT_SOLUTION seen payload.now result }
 {
     let mut fields = FieldReader::new(payload);
     let message = SubmitSolution {

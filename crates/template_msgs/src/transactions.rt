@@ -1,10 +1,11 @@
 //! The messages that bring a template's transactions.
 
 ghost use Rattle.std.specs.Prelude.{◌≡◌};
+ghost use Rattle.sv2_messages.specs.declared.kinds.TheConstants as kinds;
 ghost use Rattle.sv2_messages.specs.Tables.{template};
-ghost use Rattle.sv2_messages.specs.Reading.{Gives, values_of};
+ghost use Rattle.sv2_messages.specs.Reading.{ReadsMessage};
 ghost use Rattle.sv2_messages.specs.Writing.{AreFields};
-ghost use Rattle.template_msgs.specs.Seen.{seen, request_transaction_data, request_transaction_data_success, request_transaction_data_error};
+ghost use Rattle.template_msgs.specs.Seen.{seen};
 
 use crate::message::Template;
 use sv2_messages::{Field, FieldReader, MsgError};
@@ -19,7 +20,7 @@ pub struct RequestTransactionData {
 impl RequestTransactionData {
     /// The fields in their order.
     pub(crate) fn fields(&self) -> [Field<'_>; 1]
-        ensures { AreFields template (record { kind = 0x73; fields = request_transaction_data self.now }) result }
+        ensures { AreFields template (seen (Template.RequestTransactionData self.now)) result }
     {
         [Field::U64(self.template_id)]
     }
@@ -27,7 +28,7 @@ impl RequestTransactionData {
 
 #[tactic(auto, unfolding(sv2_messages::specs::Reading::values_of))]
 pub(crate) fn read_request_transaction_data<'a>(payload: &'a [u8]) -> Result<Template<'a>, MsgError>
-    ensures { Gives seen result 0x73 (values_of template 0x73 payload.now) }
+    ensures { ReadsMessage template kinds.REQUEST_TRANSACTION_DATA seen payload.now result }
 {
     let mut fields = FieldReader::new(payload);
     let message = RequestTransactionData {
@@ -49,7 +50,7 @@ pub struct RequestTransactionDataSuccess<'a> {
 impl RequestTransactionDataSuccess<'_> {
     /// The fields in their order.
     pub(crate) fn fields(&self) -> [Field<'_>; 3]
-        ensures { AreFields template (record { kind = 0x74; fields = request_transaction_data_success self.now }) result }
+        ensures { AreFields template (seen (Template.RequestTransactionDataSuccess self.now)) result }
     {
         [
             Field::U64(self.template_id),
@@ -63,7 +64,7 @@ impl RequestTransactionDataSuccess<'_> {
 pub(crate) fn read_request_transaction_data_success<'a>(
     payload: &'a [u8],
 ) -> Result<Template<'a>, MsgError>
-    ensures { Gives seen result 0x74 (values_of template 0x74 payload.now) }
+    ensures { ReadsMessage template kinds.REQUEST_TRANSACTION_DATA_SUCCESS seen payload.now result }
 {
     let mut fields = FieldReader::new(payload);
     let message = RequestTransactionDataSuccess {
@@ -85,7 +86,7 @@ pub struct RequestTransactionDataError<'a> {
 impl RequestTransactionDataError<'_> {
     /// The fields in their order.
     pub(crate) fn fields(&self) -> [Field<'_>; 2]
-        ensures { AreFields template (record { kind = 0x75; fields = request_transaction_data_error self.now }) result }
+        ensures { AreFields template (seen (Template.RequestTransactionDataError self.now)) result }
     {
         [Field::U64(self.template_id), Field::Str255(self.error_code)]
     }
@@ -95,7 +96,7 @@ impl RequestTransactionDataError<'_> {
 pub(crate) fn read_request_transaction_data_error<'a>(
     payload: &'a [u8],
 ) -> Result<Template<'a>, MsgError>
-    ensures { Gives seen result 0x75 (values_of template 0x75 payload.now) }
+    ensures { ReadsMessage template kinds.REQUEST_TRANSACTION_DATA_ERROR seen payload.now result }
 {
     let mut fields = FieldReader::new(payload);
     let message = RequestTransactionDataError {
