@@ -1,6 +1,6 @@
 -- What the command owes for the bytes of its input (this project's own).
 use Rattle.std.specs.Prelude.{ℕ, ◌≡◌, ◌≢◌, List, []}
-use Rattle.pool_turns.specs.Duties.{Duty}
+use Rattle.pool_turns.specs.Duties.{Duty, IsNothing}
 use Rattle.mining_msgs.specs.declared.shares.SubmitSharesStandard.{SubmitSharesStandard}
 use Rattle.fixed_job.specs.declared.judge.Job.{Job}
 use Rattle.fixed_job.specs.Answers.{answers_to}
@@ -13,9 +13,6 @@ pub record AnswersShares (class : ℕ) (job : Job) (IsKind : List ℕ → Type 0
   pub spelled : SpellShares bytes shares rest
   pub is_kind : IsKind rest
   pub answered : text ≡ answers_to class job shares
-
-abbrev pub IsNothing : List ℕ → Type 0
-IsNothing rest = rest ≡ []
 
 -- a part of a submission's frame, at the end of the input
 pub record IsCutShare (rest : List ℕ) : Type 0 where

@@ -1,11 +1,11 @@
 -- Bytes have one verdict.
 use Rattle.std.proofs.Common.{◌≡◌, ℕ, ◌≤◌, List, [], ◌++◌, length, take, refl, sym, ap, ◌∙◌, arith, length-append}
 use Rattle.std.proofs.lemmas.List.{take-append-le}
-use Rattle.pool_turns.specs.Duties.{IsSoundDuty}
+use Rattle.pool_turns.specs.Duties.{IsNothing, IsSoundDuty}
 use Rattle.fixed_job.specs.declared.judge.Job.{Job}
 use Rattle.fixed_job.specs.Answers.{answers_after}
 use Rattle.fixed_job.specs.Submitting.{IsPartialShare, IsOtherHeader, BeginsNoShare}
-use Rattle.fixed_job.specs.Duty.{AnswersShares, IsNothing, IsCutShare, share_duty}
+use Rattle.fixed_job.specs.Duty.{AnswersShares, IsCutShare, share_duty}
 use Rattle.fixed_job.specs.OneReading.{SpellShares-more, none_short, none_other, one_reading}
 
 none_empty : BeginsNoShare []

@@ -1,6 +1,3 @@
+pub mod Frames
 pub mod Listed
-pub mod Only
-pub mod OneEnd
-pub mod Running
-pub mod Tracking
 pub mod Verdicts

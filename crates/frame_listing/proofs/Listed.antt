@@ -1,5 +1,5 @@
 -- Lines of frames, and frames of bytes.
-use Rattle.std.proofs.Common.{◌≡◌, ℕ, ◌+◌, ◌<◌, ◌≤◌, List, [], ◌∷◌, ◌++◌, length, refl, sym, ap, ◌∙◌, append_assoc, append-nil, arith, length-append, inl, inr}
+use Rattle.std.proofs.Common.{◌≡◌, ℕ, ◌+◌, ◌<◌, ◌≤◌, List, [], ◌∷◌, ◌++◌, length, sym, ap, ◌∙◌, append_assoc, append-nil, arith, length-append, inl, inr}
 use Rattle.std.specs.List.{flat_map, AllByRecursion}
 use Rattle.sv2_frames.specs.Framing.{FrameValue, bytes_of, header_of, IsFrame, payload_length}
 use Rattle.sv2_frames.specs.Holding.{Holding, frame_end, IsCutWithin}
@@ -7,9 +7,9 @@ use Rattle.sv2_frames.specs.Stream.{stream_of}
 use Rattle.sv2_frames.proofs.Cutting.{payload_length-header}
 use Rattle.sv2_frames.proofs.Fronts.{fronts_agree}
 use Rattle.sv2_frames.proofs.Handing.{stream_of-push}
-use Rattle.sv2_frames.proofs.Standing.{frame_end-over, nothing_is_cut}
+use Rattle.sv2_frames.proofs.Standing.{frame_end-over}
 use Rattle.std.proofs.lemmas.Bool.{cases_lt}
-use Rattle.frame_listing.specs.Listing.{limit, IsGood, Lists, IsPartial}
+use Rattle.frame_listing.specs.Listing.{payload_limit, IsGood, ListsFrames, IsPartialFrame}
 use Rattle.frame_listing.specs.Lines.{frame_line, lines_from, lines_of}
 
 -- one frame more is one line more
@@ -33,26 +33,13 @@ pub all-push : {A : Type 0} (P : A → Type 0) (xs : List A) (x : A) → AllByRe
 all-push P [] x all p = (p, tt)
 all-push P (y ∷ xs) x all p = (all.0, all-push P xs x all.1 p)
 
--- nothing was seen
-pub Lists-none : Lists [] [] []
-Lists-none = record { whole = refl; each = tt; within = tt; good = tt }
-
--- bytes more are held
-pub Lists-more : (seen : List ℕ) (frames : List FrameValue) (held more : List ℕ) → Lists seen frames held → Lists (seen ++ more) frames (held ++ more)
-Lists-more seen frames held more lists = record {
-  whole = ap (λ (l : List ℕ). l ++ more) lists.whole ∙ append_assoc (flat_map bytes_of frames) held more;
-  each = lists.each;
-  within = lists.within;
-  good = lists.good;
-}
-
 -- what is held is a good frame
-pub Lists-push : (seen : List ℕ) (frames : List FrameValue) (frame : FrameValue) → Lists seen frames (bytes_of frame) → IsFrame frame
-    → length frame.payload ≤ limit → IsGood frame → Lists seen (frames ++ frame ∷ []) []
-Lists-push seen frames frame lists fits within good = record {
+pub ListsFrames-push : (seen : List ℕ) (frames : List FrameValue) (frame : FrameValue) → ListsFrames seen frames (bytes_of frame) → IsFrame frame
+    → length frame.payload ≤ payload_limit → IsGood frame → ListsFrames seen (frames ++ frame ∷ []) []
+ListsFrames-push seen frames frame lists fits within good = record {
   whole = lists.whole ∙ sym (stream_of-push frames frame);
   each = all-push IsFrame frames frame lists.each fits;
-  within = all-push (λ f. length f.payload ≤ limit) frames frame lists.within within;
+  within = all-push (λ f. length f.payload ≤ payload_limit) frames frame lists.within within;
   good = all-push IsGood frames frame lists.good good;
 }
 
@@ -63,24 +50,24 @@ count_frames (frame ∷ frames) held =
     let split : stream_of (frame ∷ frames) held ≡ bytes_of frame ++ stream_of frames held = append_assoc (bytes_of frame) (flat_map bytes_of frames) held in
     omega (arith, count_frames frames held, ap length split, length-append (bytes_of frame) (stream_of frames held), length-append (header_of frame.ext frame.kind (length frame.payload)) frame.payload)
 
-pub frames_below : (seen : List ℕ) (frames : List FrameValue) (held : List ℕ) → Lists seen frames held → length frames ≤ length seen
+pub frames_below : (seen : List ℕ) (frames : List FrameValue) (held : List ℕ) → ListsFrames seen frames held → length frames ≤ length seen
 frames_below seen frames held lists = omega (arith, count_frames frames held, ap length lists.whole)
 
 -- less than a frame is held, and no header over the limit
-pub partial_from : (holding : Holding) → holding.limit ≡ limit → IsCutWithin holding → length holding.held ≤ frame_end limit holding.held → IsPartial holding.held
+pub partial_from : (holding : Holding) → holding.limit ≡ payload_limit → IsCutWithin holding → length holding.held ≤ frame_end payload_limit holding.held → IsPartialFrame holding.held
 partial_from holding taken cut present = record {
   cut = cut.cut;
   within = λ long.
-      elim (cases_lt limit (payload_length holding.held)) [
+      elim (cases_lt payload_limit (payload_length holding.held)) [
         | inr few ↦ few
         | inl over ↦ absurd (not_over long over)
       ];
 }
   where
-    not_over : 6 ≤ length holding.held → limit < payload_length holding.held → ⊥
+    not_over : 6 ≤ length holding.held → payload_limit < payload_length holding.held → ⊥
     not_over long over =
         let f = cut.cut.frame in
-        let six : length holding.held ≡ 6 = omega (arith, long, present, frame_end-over limit holding.held long over) in
+        let six : length holding.held ≡ 6 = omega (arith, long, present, frame_end-over payload_limit holding.held long over) in
         let same : holding.held ≡ header_of f.ext f.kind (length f.payload) =
         (fronts_agree holding.held (header_of f.ext f.kind (length f.payload)) cut.cut.missing f.payload six cut.cut.whole).0 in
         let says : payload_length holding.held ≡ length f.payload =
@@ -94,6 +81,3 @@ partial_from holding taken cut present = record {
           over = omega (arith, taken, says, over);
           header = same;
         })
-
-pub partial_none : IsPartial []
-partial_none = record { cut = (nothing_is_cut limit).cut; within = λ long. absurd (omega arith) }

@@ -7,7 +7,8 @@ use Rattle.sv2_messages.specs.declared.error.MsgError.{MsgError}
 use Rattle.sv2_messages.specs.declared.error.MsgError.TheVariants.{UnknownKind}
 use Rattle.sv2_messages.specs.Messages.{Row, row_types, types_of}
 use Rattle.sv2_messages.specs.Reading.{IsDefectBy, IsFirstDefect}
-use Rattle.frame_listing.specs.Listing.{messages, IsBad, IsGood}
+use Rattle.frame_listing.specs.Listing.{IsBad, IsGood}
+use Rattle.sv2_messages.specs.Tables.{all_messages}
 
 -- a kind that the first tables lack is looked up in the others
 pub types_of-other : (rows more : List Row) (kind : ℕ) → types_of rows kind ≡ None → types_of (rows ++ more) kind ≡ types_of more kind
@@ -63,21 +64,21 @@ answers_other read result rows more kind k payload exact unknown others e =
     rw (types_of-other rows more kind none) (others e)
 
 -- a payload that is read, or whose kind isn't there, is good
-defect_is_bad : (frame : FrameValue) (e : MsgError) (bad : IsBad frame e) → IsFirstDefect messages frame.kind frame.payload e
+defect_is_bad : (frame : FrameValue) (e : MsgError) (bad : IsBad frame e) → IsFirstDefect all_messages frame.kind frame.payload e
 defect_is_bad frame e bad = rw bad.row bad.defect
 
-pub good_if : (frame : FrameValue) (result : Result Unit MsgError) → ((e : MsgError) → IsErrOf result e ↔ IsFirstDefect messages frame.kind frame.payload e)
+pub good_if : (frame : FrameValue) (result : Result Unit MsgError) → ((e : MsgError) → IsErrOf result e ↔ IsFirstDefect all_messages frame.kind frame.payload e)
     → ((e : MsgError) → IsErrOf result e → (k : ℕ) × (e ≡ UnknownKind k)) → IsGood frame
 good_if frame result exact only e bad =
     let unknown = only e ((exact e).1 (defect_is_bad frame e bad)) in
     rw unknown.1 at bad.defect
 
-pub bad_if : (frame : FrameValue) (result : Result Unit MsgError) (e : MsgError) → frame.ext % 0x8000 ≡ 0 → ((d : MsgError) → IsErrOf result d ↔ IsFirstDefect messages frame.kind frame.payload d)
+pub bad_if : (frame : FrameValue) (result : Result Unit MsgError) (e : MsgError) → frame.ext % 0x8000 ≡ 0 → ((d : MsgError) → IsErrOf result d ↔ IsFirstDefect all_messages frame.kind frame.payload d)
     → result ≡ Err e → ((k : ℕ) → e ≡ UnknownKind k → ⊥) → IsBad frame e
 bad_if frame result e plain exact is known =
-    found (types_of messages frame.kind) refl ((exact e).0 is)
+    found (types_of all_messages frame.kind) refl ((exact e).0 is)
   where
-    found : (row : Option (List FieldType)) → types_of messages frame.kind ≡ row → IsDefectBy row frame.kind frame.payload e → IsBad frame e
+    found : (row : Option (List FieldType)) → types_of all_messages frame.kind ≡ row → IsDefectBy row frame.kind frame.payload e → IsBad frame e
     found None row defect = absurd (known frame.kind defect)
     found (Some types) row defect = record { plain = plain; types = types; row = row; defect = defect }
 

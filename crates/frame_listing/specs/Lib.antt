@@ -1,6 +1,6 @@
-pub mod Ending
+pub mod Duty
 pub mod Lines
 pub mod Listing
-pub mod Names
-pub mod Reading
-pub mod Standing
+pub mod OneListing
+pub mod Sound
+pub mod Tracking

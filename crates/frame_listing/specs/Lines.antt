@@ -9,7 +9,7 @@ use Rattle.sv2_messages.specs.declared.error.MsgError.{MsgError}
 use Rattle.sv2_messages.specs.declared.error.MsgError.TheVariants.{UnknownKind, BadField, Trailing}
 use Rattle.frame_listing.specs.declared.flaw.Flaw.{Flaw}
 use Rattle.frame_listing.specs.declared.flaw.Flaw.TheVariants.{Payload, Length, Cut}
-use Rattle.frame_listing.specs.Names.{name_of}
+use Rattle.sv2_messages.specs.Tables.{name_of}
 
 -- a name, or a dash where there is none
 abbrev pub or_dash : Option (List ℕ) → List ℕ

@@ -1,15 +1,14 @@
-//! The command `frames`: it lists the frames of a stream, from the bytes of a source to the lines of a sink,
-//! and says where the first bad one goes wrong. It opens nothing, and it answers no frame.
+//! The command `frames`: it lists the frames of standard input on standard output, and says where the first bad
+//! one goes wrong. It answers no frame.
 #![tactic(auto)]
 
 mod command;
 mod flaw;
 mod lines;
 mod lister;
-mod names;
 mod verdict;
 
-pub use command::{ListEnd, list_frames};
+pub use command::list_frames;
 pub use flaw::Flaw;
 
 #[cfg(test)]

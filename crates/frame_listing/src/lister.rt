@@ -1,113 +1,110 @@
-//! The frames of a stream, one after the other, and the lines that aren't put yet.
+//! The frames of a stream, one after the other, and their lines.
 
-ghost use Rattle.std.specs.Prelude.{◌≡◌, ◌++◌, ◌<◌, ◌^◌, ℕ, List, [], length, OnOk, IfOk, IsErrOf};
+ghost use Rattle.std.specs.Prelude.{◌++◌, ◌≤◌, ◌^◌, ℕ, List, length, OnOk, IsErrOf};
 
 use crate::flaw::Flaw;
 use crate::lines::{put_bad_line, put_frame_line};
 use crate::verdict::verdict;
+use pool_turns::{Stop, StreamCommand};
 use std::alloc::{AllocError, Global};
 use sv2_frames::{Splitter, TooLong};
 
 /// The greatest payload that is taken.
 const LIMIT: u32 = 262_144;
 
-/// Why a listing goes no further.
-#[derive(Clone, Copy, Debug, PartialEq, Eq)]
-pub enum Stop {
-    /// A frame was bad; its line is the last.
-    BadFrame,
-    Memory,
-}
-
-impl From<AllocError> for Stop {
-    ghost use Rattle.std.specs.Prelude.{◌≡◌};
-    ghost use Rattle.frame_listing.specs.declared.lister.Stop.TheVariants.{Memory};
-
-    ghost from_gives = { λ _ e. e ≡ Memory };
-
-    fn from(_: AllocError) -> Stop {
-        Stop::Memory
-    }
-}
-
-/// Holds less than a frame, the number of the next one, and the lines that weren't put yet.
+/// Holds less than a frame, and the number of the next one.
 #[derive(Drop)]
 pub struct Lister {
     pub splitter: Splitter,
     pub count: u64,
-    pub text: Vec<u8>,
 }
 
 impl Lister {
     ghost use Rattle.sv2_frames.specs.Holding.{IsCutWithin};
-    ghost use Rattle.frame_listing.specs.Standing.{Stands, Fills, Breaks, BreaksIn, CutsOff, EndsWhole};
-
-    pub fn new(alloc: Global) -> Result<Lister, AllocError>
-        ensures stands { IfOk result (λ lister. Stands [] [] lister) }
-        ensures empty { IfOk result (λ lister. lister.text.items ≡ []) }
-        ensures cut { IfOk result (λ lister. IsCutWithin lister.splitter) }
-    {
-        let splitter = Splitter::new(alloc, LIMIT)?;
-        Ok(Lister {
-            splitter,
-            count: 0,
-            text: Vec::new(alloc),
-        })
-    }
-
-    /// Takes a piece, frame by frame, up to the first bad one.
-    pub fn piece(&mut self, piece: &[u8]) -> Result<(), Stop>
-        requires { IsCutWithin self.old.splitter }
-        ensures ok { OnOk result ((seen given : List ℕ) → length (seen ++ piece.now) < 2 ^ 63 → Stands seen given self.old → Stands (seen ++ piece.now) given self.new) }
-        ensures bad { IsErrOf result Stop.BadFrame → BreaksIn piece.now self.old self.new }
-        ensures cut { OnOk result (IsCutWithin self.new.splitter) }
-    {
-        let mut rest = piece;
-        while !rest.is_empty() {
-            let count = self.splitter.feed(rest);
-            rest = &rest[count..];
-            self.frame()?;
-        }
-        Ok(())
-    }
+    ghost use Rattle.frame_listing.specs.Duty.{ListsFlaw};
+    ghost use Rattle.frame_listing.specs.Listing.{IsFlawed};
+    ghost use Rattle.frame_listing.specs.Tracking.{HasListedFrames, MayHoldFrame};
 
     /// Lists the frame that is held, where it is whole, and lets go of it.
-    fn frame(&mut self) -> Result<(), Stop>
-        ensures ok { OnOk result ((seen given : List ℕ) → length seen < 2 ^ 63 → Fills seen given self.old → Stands seen given self.new) }
-        ensures bad { IsErrOf result Stop.BadFrame → (seen given : List ℕ) → Fills seen given self.old → Breaks seen given self.new }
+    fn frame(&mut self, text: &mut Vec<u8>) -> Result<(), Stop>
+        ensures ok { OnOk result ((bytes given : List ℕ) → length bytes ≤ 2 ^ 40 → MayHoldFrame bytes (given ++ text.old.items) self.old
+            → HasListedFrames bytes (given ++ text.new.items) self.new) }
+        ensures bad { IsErrOf result Stop.Refused → (bytes given : List ℕ) → MayHoldFrame bytes (given ++ text.old.items) self.old
+            → ListsFlaw IsFlawed bytes (given ++ text.new.items) }
         ensures cut { OnOk result (IsCutWithin self.new.splitter) }
     {
         let frame = match self.splitter.next() {
             Ok(Some(frame)) => frame,
             Ok(None) => return Ok(()),
             Err(TooLong(len)) => {
-                put_bad_line(&mut self.text, self.count, Flaw::Length(len))?;
-                return Err(Stop::BadFrame);
+                put_bad_line(text, self.count, Flaw::Length(len))?;
+                return Err(Stop::Refused);
             }
         };
         match verdict(frame) {
-            Ok(name) => put_frame_line(&mut self.text, self.count, frame, name)?,
+            Ok(name) => put_frame_line(text, self.count, frame, name)?,
             Err(error) => {
-                put_bad_line(&mut self.text, self.count, Flaw::Payload(error))?;
-                return Err(Stop::BadFrame);
+                put_bad_line(text, self.count, Flaw::Payload(error))?;
+                return Err(Stop::Refused);
             }
         }
         self.count = self.count.saturating_add(1);
         self.splitter.drop_frame();
         Ok(())
     }
+}
 
-    /// Lists what is left of a frame at the end of the input, where anything is.
-    pub fn end(&mut self) -> Result<(), Stop>
-        ensures whole { OnOk result ((seen given : List ℕ) → Stands seen given self.old → EndsWhole seen given self.new) }
-        ensures cut { IsErrOf result Stop.BadFrame → (seen given : List ℕ) → Stands seen given self.old → CutsOff seen given self.new }
-    {
-        match self.splitter.held() {
-            0 => Ok(()),
-            count => {
-                put_bad_line(&mut self.text, self.count, Flaw::Cut(count))?;
-                Err(Stop::BadFrame)
-            }
-        }
+impl StreamCommand for Lister {
+    ghost use Rattle.sv2_frames.specs.Holding.{IsCutWithin};
+    ghost use Rattle.frame_listing.specs.Duty.{listing_duty};
+    ghost use Rattle.frame_listing.specs.Sound.{listing_duty_is_sound};
+    ghost use Rattle.frame_listing.specs.Tracking.{HasListedFrames};
+
+    type Task = ();
+
+    ghost can_run = { λ _. Unit {0} };
+
+    ghost duty = { λ _. listing_duty };
+
+    ghost asked = { λ _. tt };
+
+    ghost is_ready = { λ lister. IsCutWithin lister.splitter };
+
+    ghost has_read = { λ lister bytes text. HasListedFrames bytes text lister };
+
+    fn start(alloc: Global, _task: &()) -> Result<Lister, AllocError> {
+        Ok(Lister {
+            splitter: Splitter::new(alloc, LIMIT)?,
+            count: 0,
+        })
     }
+
+    fn read(&mut self, piece: &[u8], text: &mut Vec<u8>) -> Result<(), Stop> {
+        let mut rest = piece;
+        while !rest.is_empty() {
+            let count = self.splitter.feed(rest);
+            rest = &rest[count..];
+            self.frame(text)?;
+        }
+        Ok(())
+    }
+
+    fn end(&mut self, text: &mut Vec<u8>) -> Result<(), Stop> {
+        let count = self.splitter.held();
+        if count == 0 {
+            return Ok(());
+        }
+        put_bad_line(text, self.count, Flaw::Cut(count))?;
+        Err(Stop::Refused)
+    }
+
+    ghost owes_so_far = { λ lister bytes text read. record {
+      frames = read.frames;
+      rest = lister.splitter.held;
+      lists = read.tracks.lists;
+      is_kind = read.partial;
+      listed = read.tracks.listed;
+    } };
+
+    ghost is_sound = { λ _. listing_duty_is_sound };
 }

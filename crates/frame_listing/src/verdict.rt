@@ -4,11 +4,11 @@ ghost use Rattle.std.specs.Prelude.{◌≡◌, ◌↔◌, IsErrOf, IfOk, OnOk, I
 ghost use Rattle.sv2_messages.specs.declared.error.MsgError.{MsgError};
 ghost use Rattle.sv2_messages.specs.Reading.{IsFirstDefect};
 ghost use Rattle.frame_listing.specs.Lines.{name_for};
-ghost use Rattle.frame_listing.specs.Listing.{messages, IsBad, IsGood};
+ghost use Rattle.sv2_messages.specs.Tables.{all_messages};
+ghost use Rattle.frame_listing.specs.Listing.{IsBad, IsGood};
 
-use crate::names::name_of;
 use sv2_frames::Frame;
-use sv2_messages::MsgError;
+use sv2_messages::{MsgError, name_of};
 
 /// The channel bit of an extension type, which isn't looked at.
 const CHANNEL_BIT: u16 = 0x8000;
@@ -45,7 +45,7 @@ fn name_or_dash(kind: u8) -> &'static str
 
 /// Whether the payload is a message of its kind; else the first defect.
 fn check(kind: u8, payload: &[u8]) -> Result<(), MsgError>
-    ensures { (e : MsgError) → IsErrOf result e ↔ IsFirstDefect messages kind payload.now e }
+    ensures { (e : MsgError) → IsErrOf result e ↔ IsFirstDefect all_messages kind payload.now e }
 {
     match mining_msgs::read(kind, payload) {
         Ok(_) => return Ok(()),

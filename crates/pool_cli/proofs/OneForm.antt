@@ -1,16 +1,14 @@
 -- Words have one class and one job.
-use Rattle.std.proofs.Common.{◌≡◌, ℕ, List, ◌++◌, take, drop, ◌⊎◌, Option, sym, ap, ◌∙◌}
+use Rattle.std.proofs.Common.{◌≡◌, ℕ, List, ◌++◌, take, drop, refl, sym, ap, ◌∙◌}
 use Rattle.std.specs.Int.{w32, to_le_bytes, from_le_bytes}
 use Rattle.std.proofs.lemmas.List.{take_at, drop_at}
 use Rattle.std.proofs.lemmas.Nat.{from_le_bytes-to_le_bytes_4}
 use Rattle.fixed_job.specs.declared.judge.Job.{Job}
 use Rattle.pool_cli.specs.Numbers.{IsNumber}
-use Rattle.pool_io.specs.declared.turn.Turn.{Turn}
-use Rattle.pool_io.specs.Seen.{Seen}
 use Rattle.pool_cli.specs.declared.words.Form.{Form}
 use Rattle.pool_cli.specs.declared.words.Form.TheVariants.{SoloFixed, Frames}
-use Rattle.pool_cli.specs.Forms.{IsJob, IsSoloFixed, IsFrames, IsForm}
-use Rattle.pool_cli.specs.Running.{FixedRan, FramesRan, NotGiven, Does, IsWithinLimits}
+use Rattle.pool_cli.specs.Forms.{IsJob, IsSoloFixed, IsForm}
+use Rattle.pool_cli.specs.Running.{IsWithinLimits}
 
 one_number : (text other : List ℕ) (m n : ℕ) → text ≡ other → IsNumber text m → IsNumber other n → m ≡ n
 one_number text other m n same a b = sym a.value ∙ ap (λ t. Rattle.std.specs.Str.Parse.digits_value 10 t) same ∙ b.value
@@ -41,22 +39,13 @@ module _ (words : List (List ℕ)) (class other : ℕ) (job work : Job) (a : IsS
       let bytes : a.bytes ≡ b.bytes = cc in
       one_job a.bytes b.bytes job work bytes a.is_job b.is_job
 
--- the words ask for this job, so it was judged
-pub was_asked : {S T : Type 0} (left : S → Option (List Turn)) (read_faults : S → ℕ) (held : T → Option (List ℕ)) (write_faults : T → ℕ) (words : List (List ℕ)) (form : Form) (old new : Seen S T) (status : ℕ)
-    → IsForm words form → Does left read_faults held write_faults form old new status
-    → (class : ℕ) (job : Job) → IsSoloFixed words class job → FixedRan left read_faults held write_faults class job old new status ⊎ NotGiven old new status
-was_asked {S} {T} left read_faults held write_faults words (SoloFixed other work) old new status is does class job asked =
-    rw (one_class words class other job work asked is, one_work words class other job work asked is) does
-was_asked {S} {T} left read_faults held write_faults words Frames old new status is does class job asked =
-    absurd (let both = sym is ∙ asked.spelled in cc)
-
--- the words are `frames`, so the frames were listed
-pub was_frames : {S T : Type 0} (left : S → Option (List Turn)) (read_faults : S → ℕ) (held : T → Option (List ℕ)) (write_faults : T → ℕ) (words : List (List ℕ)) (form : Form) (old new : Seen S T) (status : ℕ)
-    → IsForm words form → Does left read_faults held write_faults form old new status
-    → IsFrames words → FramesRan left read_faults held write_faults old new status ⊎ NotGiven old new status
-was_frames {S} {T} left read_faults held write_faults words (SoloFixed class job) old new status is does asked =
-    absurd (let both = sym asked ∙ is.spelled in cc)
-was_frames {S} {T} left read_faults held write_faults words Frames old new status is does asked = does
+-- the words are of one form
+pub one_form : (words : List (List ℕ)) (form other : Form) → IsForm words form → IsForm words other → form ≡ other
+one_form words (SoloFixed class job) (SoloFixed other work) is also =
+    ap (λ z. SoloFixed z job) (one_class words class other job work is also) ∙ ap (λ w. SoloFixed other w) (one_work words class other job work is also)
+one_form words (SoloFixed class job) Frames is also = absurd (let both = sym is.spelled ∙ also in cc)
+one_form words Frames (SoloFixed class job) is also = absurd (let both = sym also.spelled ∙ is in cc)
+one_form words Frames Frames is also = refl
 
 pub within_limits : (words : List (List ℕ)) (form : Form) → IsForm words form → IsWithinLimits form
 within_limits words (SoloFixed class job) is = is.limit

@@ -25,8 +25,7 @@ impl<R: Read + Drop> ReadSource<R> {
 
 impl<R: Read + Drop> Source for ReadSource<R> {
     ghost use Rattle.std.specs.Prelude.{None, ◌<◌, ◌≤◌, length};
-    ghost use Rattle.pool_base.specs.Counts.{Rose};
-    ghost use Rattle.pool_io.specs.Outside.{IsWithin, TakeStays, Takes};
+    ghost use Rattle.pool_io.specs.Outside.{IsWithin, Takes, CountsFailure, is_failed_take};
     ghost use Rattle.pool_cli.specs.Edges.{ReadsOn};
 
     ghost faults = { λ s. s.faults };
@@ -37,9 +36,7 @@ impl<R: Read + Drop> Source for ReadSource<R> {
         requires { 0 < length buffer.old }
         ensures bound { IsWithin result (length buffer.new) }
         ensures turns { Takes None None result buffer.new }
-        ensures later { self.old.faults ≤ self.new.faults }
-        ensures cause { result ≡ Took.Failed → Rose self.old.faults self.new.faults }
-        ensures kept { TakeStays result self.old.faults self.new.faults }
+        ensures counts { CountsFailure (is_failed_take result) self.old.faults self.new.faults }
 
         // Where the reader tells its bytes, they are those that come.
         ensures reads { ReadsOn (R.remaining self.old.reader) (R.remaining self.new.reader) result buffer.new }
@@ -77,8 +74,7 @@ impl<W: Write + Drop> WriteSink<W> {
 impl<W: Write + Drop> Sink for WriteSink<W> {
     ghost use Rattle.std.specs.Prelude.{None, ◌<◌, ◌≤◌, length, take, IfOk, OnErr};
     ghost use Rattle.std.specs.Io.KnownBytes.{Appends, Keeps};
-    ghost use Rattle.pool_base.specs.Counts.{Rose};
-    ghost use Rattle.pool_io.specs.Outside.{Adds, PutStays};
+    ghost use Rattle.pool_io.specs.Outside.{Adds, CountsFailure, is_failed_put};
 
     ghost faults = { λ s. s.faults };
 
@@ -89,9 +85,7 @@ impl<W: Write + Drop> Sink for WriteSink<W> {
         ensures some { IfOk result (λ n. 0 < n) }
         ensures bound { IfOk result (λ n. n ≤ length piece.now) }
         ensures taken { IfOk result (λ n. Adds None None (take n piece.now)) }
-        ensures later { self.old.faults ≤ self.new.faults }
-        ensures cause { result ≡ Err SinkFailed.Failed → Rose self.old.faults self.new.faults }
-        ensures kept { PutStays result self.old.faults self.new.faults }
+        ensures counts { CountsFailure (is_failed_put result) self.old.faults self.new.faults }
 
         // Where the writer tells its bytes, it has those that were taken, and after a failure no more.
         ensures unwritten { OnErr result (Keeps (W.contents self.old.writer) (W.contents self.new.writer)) }
@@ -134,7 +128,8 @@ impl<R: Read + Copy + Drop, W: Write + Copy + Drop> StreamHost<R, W> {
 }
 
 impl<R: Read + Copy + Drop, W: Write + Copy + Drop> Host for StreamHost<R, W> {
-    ghost use Rattle.std.specs.Prelude.{None};
+    ghost use Rattle.std.specs.Prelude.{None, ◌≢◌, IfOk, OnOk, OnErr};
+    ghost use Rattle.pool_io.specs.Lending.{lent_one};
 
     type S = ReadSource<R>;
 
@@ -142,14 +137,30 @@ impl<R: Read + Copy + Drop, W: Write + Copy + Drop> Host for StreamHost<R, W> {
 
     ghost seen = { λ h. record { faults = 0; input = None; output = None; sources = h.sources; sinks = h.sinks } };
 
-    fn input(&mut self) -> Result<ReadSource<R>, HostError> {
+    fn input(&mut self) -> Result<ReadSource<R>, HostError>
+        ensures fresh { IfOk result (λ given. given.faults ≡ 0) }
+        ensures given { OnOk result (self.new ≡ record self.old { sources = lent_one self.old.sources }) }
+        ensures refused { OnErr result (self.new ≡ self.old) }
+        ensures counts { result ≢ Err HostError.Failed }
+
+        // It was not used before it was given.
+        ensures unused { IfOk result (λ given. given.reader ≡ self.old.input) }
+    {
         if self.sources.lend().is_err() {
             return Err(HostError::Memory);
         }
         Ok(ReadSource::new(self.input))
     }
 
-    fn output(&mut self) -> Result<WriteSink<W>, HostError> {
+    fn output(&mut self) -> Result<WriteSink<W>, HostError>
+        ensures fresh { IfOk result (λ given. given.faults ≡ 0) }
+        ensures given { OnOk result (self.new ≡ record self.old { sinks = lent_one self.old.sinks }) }
+        ensures refused { OnErr result (self.new ≡ self.old) }
+        ensures counts { result ≢ Err HostError.Failed }
+
+        // It was not used before it was given.
+        ensures unused { IfOk result (λ given. given.writer ≡ self.old.output) }
+    {
         if self.sinks.lend().is_err() {
             return Err(HostError::Memory);
         }

@@ -11,7 +11,8 @@ mod tests;
 mod words;
 
 use edge::StreamHost;
-use run::{MEMORY, USAGE, run};
+use pool_turns::Status;
+use run::run;
 use std::alloc::{AllocError, Global};
 use std::env::Args;
 use std::process::ExitCode;
@@ -40,8 +41,10 @@ fn main(rt: HostRuntime) -> ExitCode {
     let words = match words_of(&rt) {
         Ok(words) => words,
         // A word that is no text is in none of the forms.
-        Err(error) if error.kind() == io::ErrorKind::InvalidData => return ExitCode::from(USAGE),
-        Err(_) => return ExitCode::from(MEMORY),
+        Err(error) if error.kind() == io::ErrorKind::InvalidData => return ExitCode::from(
+            Status::Usage.code(),
+        ),
+        Err(_) => return ExitCode::from(Status::Memory.code()),
     };
     let mut host = StreamHost::new(rt.alloc(), rt.stdin(), rt.stdout());
     ExitCode::from(run(rt.alloc(), &mut host, &words))

@@ -5,14 +5,16 @@ use crate::run::run;
 use crate::words::Word;
 use pool_io::{Host, MemHost, Piece, Script, Sink, SinkFailed, Source, Took, Turn};
 use std::alloc::{AllocError, Global};
+use std::cell::Cell;
 use std::io;
 use std::io::{ErrorKind, Read, Write};
 use std::process::Abort;
 use std::test::Fail;
 
 /// Previous hash, merkle root and nbits of Bitcoin's first block, as they stand in its header.
-const FIRST_BLOCK: &str =
-    "00000000000000000000000000000000000000000000000000000000000000003ba3edfd7a7b12b27ac72c3e67768f617fc81bc3888a51323a9fb8aa4b1e5e4affff001d";
+const FIRST_BLOCK: &str = "0000000000000000000000000000000000000000000000000000000000000000\
+    3ba3edfd7a7b12b27ac72c3e67768f617fc81bc3888a51323a9fb8aa4b1e5e4a\
+    ffff001d";
 
 /// The digits of a frame by its name, or the word itself.
 fn digits(word: &str) -> &str {
@@ -373,6 +375,98 @@ impl Write for Broken {
     fn flush(&mut self) -> io::Result<()> {
         Ok(())
     }
+}
+
+/// Counts its calls in a cell, and fails at the first one, or never.
+#[derive(Clone, Copy)]
+struct Counting<'a> {
+    calls: &'a Cell<u8>,
+    fails_first: bool,
+}
+
+impl Counting<'_> {
+    /// The number of this call, from 1 on, or a failure.
+    fn call(self) -> io::Result<u8> {
+        let call = self.calls.get().saturating_add(1);
+        self.calls.set(call);
+        if self.fails_first && call == 1 {
+            return Err(io::Error::from(ErrorKind::BrokenPipe));
+        }
+        Ok(call)
+    }
+}
+
+impl Read for Counting<'_> {
+    fn read(&mut self, buffer: &mut [u8]) -> io::Result<usize> {
+        let call = self.call()?;
+        let Some(first) = buffer.first_mut() else {
+            return Ok(0);
+        };
+        *first = call;
+        Ok(1)
+    }
+}
+
+impl Write for Counting<'_> {
+    fn write(&mut self, piece: &[u8]) -> io::Result<usize> {
+        self.call()?;
+        Ok(piece.len())
+    }
+
+    fn flush(&mut self) -> io::Result<()> {
+        Ok(())
+    }
+}
+
+#[test]
+fn each_take_and_put_is_one_call_also_after_a_failure(rt: HostRuntime) {
+    let mut buffer = [0; 2];
+    for (fails_first, took) in [(false, Took::Bytes(1)), (true, Took::Failed)] {
+        let calls = Cell::new(0);
+        let mut source = ReadSource::new(Counting {
+            calls: &calls,
+            fails_first,
+        });
+        assert_eq!(rt; source.take(&mut buffer), took);
+        assert_eq!(rt; calls.get(), 1);
+        assert_eq!(rt; source.take(&mut buffer), Took::Bytes(1));
+        assert_eq!(rt; calls.get(), 2);
+    }
+    for (fails_first, put) in [(false, Ok(2)), (true, Err(SinkFailed::Failed))] {
+        let calls = Cell::new(0);
+        let mut sink = WriteSink::new(Counting {
+            calls: &calls,
+            fails_first,
+        });
+        assert_eq!(rt; sink.put(b"ab"), put);
+        assert_eq!(rt; calls.get(), 1);
+        assert_eq!(rt; sink.put(b"ab"), Ok(2));
+        assert_eq!(rt; calls.get(), 2);
+    }
+}
+
+#[test]
+fn a_host_neither_reads_nor_writes_by_itself(rt: HostRuntime) -> Result<(), Fail> {
+    let reads = Cell::new(0);
+    let writes = Cell::new(0);
+    let input = Counting {
+        calls: &reads,
+        fails_first: false,
+    };
+    let output = Counting {
+        calls: &writes,
+        fails_first: false,
+    };
+    let mut host = StreamHost::new(rt.alloc(), input, output);
+    let mut source = host.input()?;
+    let sink = host.output()?;
+    assert_eq!(rt; reads.get(), 0);
+    assert_eq!(rt; source.take(&mut [0; 2]), Took::Bytes(1));
+    host.done_source(source);
+    host.done_sink(sink);
+    assert_eq!(rt; reads.get(), 1);
+    assert_eq!(rt; writes.get(), 0);
+    Ok(())
 }
 
 #[test]

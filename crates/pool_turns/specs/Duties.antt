@@ -12,6 +12,10 @@ pub record Duty : Type 1 where
   -- the text so far for these bytes, where more may come
   pub SoFar : List ℕ → List ℕ → Type 0
 
+-- nothing is left of the bytes
+abbrev pub IsNothing : List ℕ → Type 0
+IsNothing rest = rest ≡ []
+
 -- Nothing is owed for nothing, and bytes have one verdict: what is refused is refused whatever follows, and where
 -- the input ends it is whole or cut.
 pub record IsSoundDuty (duty : Duty) : Type 0 where

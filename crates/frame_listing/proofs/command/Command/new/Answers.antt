@@ -1,6 +1,0 @@
-use Rattle.std.proofs.Common.{refl}
-use Rattle.frame_listing.proofs.Running.{made_first}
-use Rattle.frame_listing.proofs.command.Command.new.Goals as goal
-
-pub returns-clause-made : goal.returns-clause-made
-returns-clause-made c = made_first _ c.in_ok-new.ensures.stands c.in_ok-new.ensures.empty refl refl
