@@ -1,4 +1,5 @@
--- The headers that the benchmark hashes (this project's own; the hash is Bitcoin's, as `block_header` says).
+-- The headers that the benchmark hashes (this project's own; the hash is Bitcoin's, as
+-- `block_header` says).
 use Rattle.std.specs.Prelude.{ℕ, List}
 use Rattle.block_header.specs.Hash.{dsha}
 use Rattle.block_header.specs.Layout.{header_bytes}

@@ -18,4 +18,5 @@ root_with parts path number = root (dsha (coin parts (extranonce_of number))) pa
 -- the hash of the header with that root
 abbrev pub share_hash : Parts → List (List ℕ) → Header → ℕ → List ℕ
 share_hash parts path header number =
-    dsha (header_bytes header.version header.prev_hash (root_with parts path number) header.ntime header.nbits header.nonce)
+    dsha (header_bytes header.version header.prev_hash (root_with parts path number)
+    header.ntime header.nbits header.nonce)

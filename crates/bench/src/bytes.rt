@@ -1,4 +1,5 @@
-//! Double hashes of bytes of one length and nothing else: what the hashing of shares is compared with.
+//! Double hashes of bytes of one length and nothing else: what the hashing of shares is compared
+//! with.
 
 ghost use Rattle.std.specs.Prelude.{◌≡◌, ◌-◌, ◌<◌, ◌≤◌, ◌++◌, length, drop};
 ghost use Rattle.std.specs.Int.{w64, to_le_bytes};
@@ -31,7 +32,8 @@ fn last_hash(count: u64, bytes: &mut [u8]) -> [u8; 32]
     hash
 }
 
-/// Hashes bytes of this length, of at least 8, so many times, and tells the last hash as it is displayed.
+/// Hashes bytes of this length, of at least 8, so many times, and tells the last hash as it is
+/// displayed.
 pub fn report(alloc: Global, len: u32, count: u32) -> Result<String> {
     let mut bytes = vec![in alloc; 0; len.max(8) as usize]?;
     let mut hash = last_hash(u64::from(count), &mut bytes);

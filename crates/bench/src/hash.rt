@@ -1,4 +1,5 @@
-//! Double hashes of a header's 80 bytes and nothing else: what the judging of shares is compared with.
+//! Double hashes of a header's 80 bytes and nothing else: what the judging of shares is compared
+//! with.
 
 ghost use Rattle.std.specs.Prelude.{◌≡◌, ◌-◌, ◌<◌};
 ghost use Rattle.bench.specs.Headers.{header_hash};

@@ -1,5 +1,5 @@
-//! The benchmarks: the first word picks what is done, and what comes of it is printed in one line. It
-//! measures no time: the scripts that call it do.
+//! The benchmarks: the first word picks what is done, and what comes of it is printed in one line.
+//! It measures no time: the scripts that call it do.
 #![tactic(auto)]
 
 mod bytes;

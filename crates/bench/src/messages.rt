@@ -19,7 +19,8 @@ struct Count {
 impl TakeFrames for Count {
     ghost use Rattle.bench.specs.Counting.{CountsFrame};
 
-    ghost takes = { λ old frame more new. CountsFrame frame more old.messages old.others new.messages new.others };
+    ghost takes = { λ old frame more new.
+        CountsFrame frame more old.messages old.others new.messages new.others };
 
     fn take_frame(&mut self, frame: Frame<'_>) -> bool {
         if is_message(frame.kind, frame.payload) {

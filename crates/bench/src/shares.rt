@@ -59,7 +59,8 @@ fn last_share(count: u64, assembly: &Assembly, path: &[[u8; 32]], header: &Heade
     hash
 }
 
-/// Hashes so many shares with a merkle path of so many hashes, and tells the last hash as it is displayed.
+/// Hashes so many shares with a merkle path of so many hashes, and tells the last hash as it is
+/// displayed.
 pub fn report(alloc: Global, siblings: u32, count: u32) -> Result<String> {
     let assembly = Assembly::of(alloc, &TEMPLATE, &SCRIPT)?;
     let path = vec![in alloc; [0x22; 32]; siblings as usize]?;

@@ -11,8 +11,8 @@ const LIMIT: u32 = 262_144;
 /// The bytes that are read at once.
 const PIECE_LEN: usize = 65_536;
 
-/// Hands each frame of the input to the taker, up to the first header over the limit, and says how many
-/// bytes are held behind the last.
+/// Hands each frame of the input to the taker, up to the first header over the limit, and says how
+/// many bytes are held behind the last.
 pub fn split<R: Read, T: TakeFrames>(alloc: Global, input: &mut R, taker: &mut T) -> Result<usize> {
     let mut splitter = Splitter::new(alloc, LIMIT)?;
     let mut buffer = vec![in alloc; 0; PIECE_LEN]?;

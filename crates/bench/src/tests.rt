@@ -1,14 +1,15 @@
-//! What each benchmark prints. The hashes were worked out apart, by Python's `hashlib`, and the streams were
-//! written by hand.
+//! What each benchmark prints. The hashes were worked out apart, by Python's `hashlib`, and the
+//! streams were written by hand.
 
 use crate::{bytes, frames, hash, messages, shares};
 use anyhow::Result;
 
-/// A SetupConnection, a NewTemplate and a SubmitSharesExtended, a frame with the kind of a NewMiningJob whose
-/// optional number has the count 2, and two bytes of a next frame.
+/// A SetupConnection, a NewTemplate and a SubmitSharesExtended, a frame with the kind of a
+/// NewMiningJob whose optional number has the count 2, and two bytes of a next frame.
 const MESSAGES: &str = "\
     00000010000000020002000000000000000000000000\
-    0000712b00000500000000000000010000002002000000025151ffffffffe8030000000000000000000000000000000000\
+    0000712b00000500000000000000010000002002000000025151ffffffffe803000000000000000000000000000000\
+    0000\
     00801b2100000100000009000000010000000000000040420f0000000020080000000000000000\
     008015090000010000000100000002\
     0000";

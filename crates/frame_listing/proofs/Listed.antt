@@ -1,7 +1,7 @@
 -- Lines of frames, and frames of bytes.
 use Rattle.std.proofs.Common.{◌≡◌, ℕ, ◌+◌, ◌<◌, ◌≤◌, List, [], ◌∷◌, ◌++◌, length, refl, sym, ap, ◌∙◌, append_assoc, append-nil, arith, length-append, inl, inr}
 use Rattle.std.specs.List.{flat_map, AllByRecursion}
-use Rattle.sv2_frames.specs.Framing.{FrameValue, bytes_of, header_of, IsFrame, payload_length}
+use Rattle.sv2_frames.specs.Framing.{FrameValue, frame_bytes, header_of, IsFrame, payload_length}
 use Rattle.sv2_frames.specs.Holding.{Holding, frame_end, IsCutWithin}
 use Rattle.sv2_frames.specs.Stream.{stream_of}
 use Rattle.sv2_frames.proofs.Cutting.{payload_length-header}
@@ -40,14 +40,14 @@ Lists-none = record { whole = refl; each = tt; within = tt; good = tt }
 -- bytes more are held
 pub Lists-more : (seen : List ℕ) (frames : List FrameValue) (held more : List ℕ) → Lists seen frames held → Lists (seen ++ more) frames (held ++ more)
 Lists-more seen frames held more lists = record {
-  whole = ap (λ (l : List ℕ). l ++ more) lists.whole ∙ append_assoc (flat_map bytes_of frames) held more;
+  whole = ap (λ (l : List ℕ). l ++ more) lists.whole ∙ append_assoc (flat_map frame_bytes frames) held more;
   each = lists.each;
   within = lists.within;
   good = lists.good;
 }
 
 -- what is held is a good frame
-pub Lists-push : (seen : List ℕ) (frames : List FrameValue) (frame : FrameValue) → Lists seen frames (bytes_of frame) → IsFrame frame
+pub Lists-push : (seen : List ℕ) (frames : List FrameValue) (frame : FrameValue) → Lists seen frames (frame_bytes frame) → IsFrame frame
     → length frame.payload ≤ limit → IsGood frame → Lists seen (frames ++ frame ∷ []) []
 Lists-push seen frames frame lists fits within good = record {
   whole = lists.whole ∙ sym (stream_of-push frames frame);
@@ -60,8 +60,8 @@ Lists-push seen frames frame lists fits within good = record {
 count_frames : (frames : List FrameValue) (held : List ℕ) → length frames ≤ length (stream_of frames held)
 count_frames [] held = omega arith
 count_frames (frame ∷ frames) held =
-    let split : stream_of (frame ∷ frames) held ≡ bytes_of frame ++ stream_of frames held = append_assoc (bytes_of frame) (flat_map bytes_of frames) held in
-    omega (arith, count_frames frames held, ap length split, length-append (bytes_of frame) (stream_of frames held), length-append (header_of frame.ext frame.kind (length frame.payload)) frame.payload)
+    let split : stream_of (frame ∷ frames) held ≡ frame_bytes frame ++ stream_of frames held = append_assoc (frame_bytes frame) (flat_map frame_bytes frames) held in
+    omega (arith, count_frames frames held, ap length split, length-append (frame_bytes frame) (stream_of frames held), length-append (header_of frame.ext frame.kind (length frame.payload)) frame.payload)
 
 pub frames_below : (seen : List ℕ) (frames : List FrameValue) (held : List ℕ) → Lists seen frames held → length frames ≤ length seen
 frames_below seen frames held lists = omega (arith, count_frames frames held, ap length lists.whole)

@@ -2,7 +2,7 @@
 use Rattle.std.proofs.Common.{◌≡◌, ◌⊎◌, ℕ, ◌+◌, ◌-◌, ◌^◌, ◌<◌, ◌≤◌, min, List, [], ◌∷◌, ◌++◌, length, take, drop, sym, ap, subst, ◌∙◌, append_assoc, arith, length-append, inl, inr}
 use Rattle.std.proofs.lemmas.Bool.{cases_lt}
 use Rattle.std.proofs.lemmas.List.{nil_from_length, take-append-drop, take_rest, length-take-le}
-use Rattle.sv2_frames.specs.Framing.{FrameValue, bytes_of}
+use Rattle.sv2_frames.specs.Framing.{FrameValue, frame_bytes}
 use Rattle.sv2_frames.specs.Holding.{Holding, frame_end, HoldsOver, IsCutWithin, IsFull, IsHeldFrame}
 use Rattle.sv2_frames.proofs.Feeding.{present_after}
 use Rattle.sv2_frames.proofs.Standing.{full_not_cut}
@@ -95,7 +95,7 @@ module _ (seen given : List ℕ) (old new : Lister) (fills : Fills seen given ol
         → new.count ≡ min (old.count + 1) (2 ^ 64 - 1) → new.splitter ≡ record old.splitter { held = [] } → Stands seen given new
     good_stands short good text count splitter =
         let frames = fills.frames in
-        let lists : Lists seen frames (bytes_of frame) = subst (λ (h : List ℕ). Lists seen frames h) held.whole fills.tracks.lists in
+        let lists : Lists seen frames (frame_bytes frame) = subst (λ (h : List ℕ). Lists seen frames h) held.whole fills.tracks.lists in
         let below = frames_below seen frames old.splitter.held fills.tracks.lists in
         record {
           frames = frames ++ frame ∷ [];

@@ -2,13 +2,13 @@
 use Rattle.std.specs.Prelude.{◌≡◌, ℕ, ◌≤◌, ◌%◌, Some, List, ◌++◌, length}
 use Rattle.std.specs.List.{AllByRecursion}
 use Rattle.sv2_types.specs.Fields.{FieldType}
-use Rattle.sv2_frames.specs.Framing.{FrameValue, bytes_of, IsFrame, payload_length}
+use Rattle.sv2_frames.specs.Framing.{FrameValue, frame_bytes, IsFrame, payload_length}
 use Rattle.sv2_frames.specs.Holding.{IsCut, HoldsOver}
 use Rattle.sv2_frames.specs.Stream.{stream_of, AreWithin}
 use Rattle.sv2_messages.specs.declared.error.MsgError.{MsgError}
 use Rattle.sv2_messages.specs.Messages.{Row, types_of}
 use Rattle.sv2_messages.specs.Reading.{IsDefect}
-use Rattle.sv2_messages.specs.Tables.{mining, template, declare}
+use Rattle.sv2_messages.specs.Tables.{mining_table, template_table, declare_table}
 use Rattle.frame_listing.specs.declared.flaw.Flaw.{Flaw}
 use Rattle.frame_listing.specs.declared.flaw.Flaw.TheVariants.{Payload, Length, Cut}
 
@@ -18,7 +18,7 @@ limit = 262144
 
 -- all messages that are there
 abbrev pub messages : List Row
-messages = mining ++ (template ++ declare)
+messages = mining_table ++ (template_table ++ declare_table)
 
 -- the frame is one of a message that is there, its low extension bits are 0, and its payload has this as its first defect
 pub record IsBad (frame : FrameValue) (error : MsgError) : Type 0 where
@@ -49,7 +49,7 @@ pub record IsBadFrame (held : List ℕ) (error : MsgError) : Type 0 where
   pub fits : IsFrame frame
   pub within : length frame.payload ≤ limit
   pub bad : IsBad frame error
-  pub whole : held ≡ bytes_of frame
+  pub whole : held ≡ frame_bytes frame
 
 -- what is held goes no further, whatever comes
 abbrev pub IsFlawed : Flaw → List ℕ → Type 0
