@@ -10,7 +10,7 @@ trap 'rm -rf "$work"' EXIT
 
 echo "building"
 (cd crates/pool_cli && rt run -- solo fixed 0 "$job" < /dev/null > "$work/build" 2>&1) || { cat "$work/build"; exit 1; }
-(cd crates/bench_hash && rt run -- 1 < /dev/null > "$work/build" 2>&1) || { cat "$work/build"; exit 1; }
+(cd crates/bench && rt run -- hash 1 < /dev/null > "$work/build" 2>&1) || { cat "$work/build"; exit 1; }
 
 python3 - "$count" "$work/shares" <<'PY'
 import struct, sys
@@ -23,11 +23,11 @@ now() { python3 -c 'import time; print(time.monotonic())'; }
 report() { python3 -c "print(f'{\"$1\":<24} {$2 / ($4 - $3):>12,.0f} a second')"; }
 
 start=$(now)
-crates/bench_hash/out/bench_hash "$count" > /dev/null
+crates/bench/out/bench hash "$count" > /dev/null
 middle=$(now)
 crates/pool_cli/out/pool_cli solo fixed 60 "$job" < "$work/shares" > "$work/answers"
 end=$(now)
 report "bare double hashes" "$count" "$start" "$middle"
 report "shares judged" "$count" "$middle" "$end"
-python3 -c "print(f'ratio {($middle - $start) / ($end - $middle):.2f}')"
 [ "$(wc -c < "$work/answers")" -eq $((33 * count)) ] || { echo "not every share was answered"; exit 1; }
+python3 -c "print(f'ratio {($middle - $start) / ($end - $middle):.2f}, shares judged to bare double hashes')"

@@ -8,31 +8,30 @@ work=$(mktemp -d)
 trap 'rm -rf "$work"' EXIT
 
 echo "building"
-for program in bench_frames bench_messages; do
-    (cd "crates/$program" && rt run < /dev/null > "$work/build" 2>&1) || { cat "$work/build"; exit 1; }
-done
+(cd crates/bench && rt run -- messages < /dev/null > "$work/build" 2>&1) || { cat "$work/build"; exit 1; }
 
 share=0100000009000000010000000000000040420f0000000020
 template=0500000000000000010000002002000000025151ffffffffe803000000000000000000000000000000000c
 python3 examples/stream-of-frames.py 00801a "$share" 0 6000000 "$work/1a"
 python3 examples/stream-of-frames.py 000071 "$template" 384 600000 "$work/71"
 
-for kind in 1a 71; do
-    python3 - "$kind" "$work/$kind" <<'PY'
+python3 - "$work" <<'PY'
 import subprocess, sys, time
-kind, path = sys.argv[1:]
-def run(program):
+def run(word, path):
     best = None
     for _ in range(3):
         with open(path, "rb") as stream:
             start = time.monotonic()
-            said = subprocess.run([f"crates/{program}/out/{program}"], stdin=stream, capture_output=True, check=True).stdout.decode()
+            said = subprocess.run(["crates/bench/out/bench", word], stdin=stream, capture_output=True,
+                                  check=True).stdout.decode()
             took = time.monotonic() - start
         best = took if best is None else min(best, took)
     return best, said
-split, _ = run("bench_frames")
-read, said = run("bench_messages")
-count = int(said.split()[1].rstrip(","))
-print(f"kind {kind}: {count / read:>12,.0f} messages a second, splitting is {100 * split / read:.0f} % of it ({said.strip()})")
+for kind in ("71", "1a"):
+    path = f"{sys.argv[1]}/{kind}"
+    split, _ = run("frames", path)
+    read, said = run("messages", path)
+    count = int(said.split()[1].rstrip(","))
+    print(f"kind {kind}: {count / read:>12,.0f} messages a second ({said.strip()})")
+    print(f"ratio {split / read:.2f}, time of splitting alone to splitting and reading, kind {kind}")
 PY
-done

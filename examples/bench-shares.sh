@@ -10,7 +10,7 @@ work=$(mktemp -d)
 trap 'rm -rf "$work"' EXIT
 
 echo "building"
-(cd crates/bench_shares && rt run -- hashes 80 1 < /dev/null > "$work/build" 2>&1) || { cat "$work/build"; exit 1; }
+(cd crates/bench && rt run -- bytes 80 1 < /dev/null > "$work/build" 2>&1) || { cat "$work/build"; exit 1; }
 
 python3 - "$count" <<'PY'
 import resource, subprocess, sys
@@ -18,17 +18,19 @@ count = int(sys.argv[1])
 
 def seconds(*words):
     start = resource.getrusage(resource.RUSAGE_CHILDREN).ru_utime
-    subprocess.run(["crates/bench_shares/out/bench_shares", *map(str, words)], stdout=subprocess.DEVNULL, check=True)
+    subprocess.run(["crates/bench/out/bench", *map(str, words)], stdout=subprocess.DEVNULL, check=True)
     return resource.getrusage(resource.RUSAGE_CHILDREN).ru_utime - start
 
 # Each is timed five times, in turns, and the least time counts.
-kinds = [("shares", 0), ("shares", 12), ("hashes", 98), ("hashes", 64), ("hashes", 80)]
+kinds = [("shares", 0), ("shares", 12), ("bytes", 98), ("bytes", 64), ("bytes", 80)]
 took = {kind: min(times) for kind, times in
         zip(kinds, zip(*[[seconds(*kind, count) for kind in kinds] for _ in range(5)]))}
 for name, size in kinds[2:]:
     print(f"double hashes of {size} bytes      {count / took[name, size]:>10,.0f} a second")
 for siblings in (0, 12):
-    bare = took["hashes", 98] + siblings * took["hashes", 64] + took["hashes", 80]
+    bare = took["bytes", 98] + siblings * took["bytes", 64] + took["bytes", 80]
     print(f"shares with a path of {siblings:<2}      {count / took['shares', siblings]:>10,.0f} a second,"
           f" ratio {bare / took['shares', siblings]:.2f}")
+print(f"ratio {bare / took['shares', siblings]:.2f}, shares with a path of {siblings} to the bare double"
+      " hashes that they contain")
 PY

@@ -2,10 +2,9 @@
 
 ghost use Rattle.std.specs.Prelude.{◌≡◌};
 ghost use Rattle.sv2_messages.specs.declared.kinds.TheConstants as kinds;
-ghost use Rattle.sv2_messages.specs.Tables.{declare};
-ghost use Rattle.sv2_messages.specs.Reading.{ReadsMessage};
+ghost use Rattle.sv2_messages.specs.Tables.{declare_table};
 ghost use Rattle.sv2_messages.specs.Writing.{AreFields};
-ghost use Rattle.declare_msgs.specs.Seen.{seen};
+ghost use Rattle.declare_msgs.specs.Seen.{declare_message, ReadsDeclare};
 
 use crate::message::Declare;
 use sv2_messages::{Field, FieldReader, MsgError};
@@ -21,7 +20,8 @@ pub struct ProvideMissingTransactions<'a> {
 impl ProvideMissingTransactions<'_> {
     /// The fields in their order.
     pub(crate) fn fields(&self) -> [Field<'_>; 2]
-        ensures { AreFields declare (seen (Declare.ProvideMissingTransactions self.now)) result }
+        ensures { AreFields declare_table
+            (declare_message (Declare.ProvideMissingTransactions self.now)) result }
     {
         [
             Field::U32(self.request_id),
@@ -34,7 +34,7 @@ impl ProvideMissingTransactions<'_> {
 pub(crate) fn read_provide_missing_transactions<'a>(
     payload: &'a [u8],
 ) -> Result<Declare<'a>, MsgError>
-    ensures { ReadsMessage declare kinds.PROVIDE_MISSING_TRANSACTIONS seen payload.now result }
+    ensures { ReadsDeclare kinds.PROVIDE_MISSING_TRANSACTIONS payload.now result }
 {
     let mut fields = FieldReader::new(payload);
     let message = ProvideMissingTransactions {
@@ -57,7 +57,8 @@ pub struct ProvideMissingTransactionsSuccess<'a> {
 impl ProvideMissingTransactionsSuccess<'_> {
     /// The fields in their order.
     pub(crate) fn fields(&self) -> [Field<'_>; 2]
-        ensures { AreFields declare (seen (Declare.ProvideMissingTransactionsSuccess self.now)) result }
+        ensures { AreFields declare_table
+            (declare_message (Declare.ProvideMissingTransactionsSuccess self.now)) result }
     {
         [
             Field::U32(self.request_id),
@@ -70,7 +71,7 @@ impl ProvideMissingTransactionsSuccess<'_> {
 pub(crate) fn read_provide_missing_transactions_success<'a>(
     payload: &'a [u8],
 ) -> Result<Declare<'a>, MsgError>
-    ensures { ReadsMessage declare kinds.PROVIDE_MISSING_TRANSACTIONS_SUCCESS seen payload.now result }
+    ensures { ReadsDeclare kinds.PROVIDE_MISSING_TRANSACTIONS_SUCCESS payload.now result }
 {
     let mut fields = FieldReader::new(payload);
     let message = ProvideMissingTransactionsSuccess {
@@ -100,7 +101,8 @@ pub struct DeclareMiningJob<'a> {
 impl DeclareMiningJob<'_> {
     /// The fields in their order.
     pub(crate) fn fields(&self) -> [Field<'_>; 7]
-        ensures { AreFields declare (seen (Declare.DeclareMiningJob self.now)) result }
+        ensures { AreFields declare_table
+            (declare_message (Declare.DeclareMiningJob self.now)) result }
     {
         [
             Field::U32(self.request_id),
@@ -116,7 +118,7 @@ impl DeclareMiningJob<'_> {
 
 #[tactic(auto, unfolding(sv2_messages::specs::Reading::values_of))]
 pub(crate) fn read_declare_mining_job<'a>(payload: &'a [u8]) -> Result<Declare<'a>, MsgError>
-    ensures { ReadsMessage declare kinds.DECLARE_MINING_JOB seen payload.now result }
+    ensures { ReadsDeclare kinds.DECLARE_MINING_JOB payload.now result }
 {
     let mut fields = FieldReader::new(payload);
     let message = DeclareMiningJob {
@@ -143,7 +145,8 @@ pub struct DeclareMiningJobSuccess<'a> {
 impl DeclareMiningJobSuccess<'_> {
     /// The fields in their order.
     pub(crate) fn fields(&self) -> [Field<'_>; 2]
-        ensures { AreFields declare (seen (Declare.DeclareMiningJobSuccess self.now)) result }
+        ensures { AreFields declare_table
+            (declare_message (Declare.DeclareMiningJobSuccess self.now)) result }
     {
         [
             Field::U32(self.request_id),
@@ -156,7 +159,7 @@ impl DeclareMiningJobSuccess<'_> {
 pub(crate) fn read_declare_mining_job_success<'a>(
     payload: &'a [u8],
 ) -> Result<Declare<'a>, MsgError>
-    ensures { ReadsMessage declare kinds.DECLARE_MINING_JOB_SUCCESS seen payload.now result }
+    ensures { ReadsDeclare kinds.DECLARE_MINING_JOB_SUCCESS payload.now result }
 {
     let mut fields = FieldReader::new(payload);
     let message = DeclareMiningJobSuccess {
@@ -179,7 +182,8 @@ pub struct DeclareMiningJobError<'a> {
 impl DeclareMiningJobError<'_> {
     /// The fields in their order.
     pub(crate) fn fields(&self) -> [Field<'_>; 3]
-        ensures { AreFields declare (seen (Declare.DeclareMiningJobError self.now)) result }
+        ensures { AreFields declare_table
+            (declare_message (Declare.DeclareMiningJobError self.now)) result }
     {
         [
             Field::U32(self.request_id),
@@ -191,7 +195,7 @@ impl DeclareMiningJobError<'_> {
 
 #[tactic(auto, unfolding(sv2_messages::specs::Reading::values_of))]
 pub(crate) fn read_declare_mining_job_error<'a>(payload: &'a [u8]) -> Result<Declare<'a>, MsgError>
-    ensures { ReadsMessage declare kinds.DECLARE_MINING_JOB_ERROR seen payload.now result }
+    ensures { ReadsDeclare kinds.DECLARE_MINING_JOB_ERROR payload.now result }
 {
     let mut fields = FieldReader::new(payload);
     let message = DeclareMiningJobError {

@@ -1,5 +1,5 @@
-//! The messages of job declaration, from their payloads and as frames. It takes no memory to read, and it knows no order
-//! in which messages come.
+//! The messages of job declaration, from their payloads and as frames. It takes no memory to read,
+//! and it knows no order in which messages come.
 #![tactic(auto)]
 
 mod declarations;

@@ -1,9 +1,9 @@
 //! The messages as one type.
 
 ghost use Rattle.std.specs.Prelude.{◌≡◌, ◌↔◌, ◌++◌, IsTrue, OnOk, OnErr};
-ghost use Rattle.sv2_messages.specs.Messages.{Fits, message_frame};
-ghost use Rattle.sv2_messages.specs.Tables.{declare};
-ghost use Rattle.declare_msgs.specs.Seen.{seen};
+ghost use Rattle.sv2_messages.specs.Messages.{FitsFrame, message_frame};
+ghost use Rattle.sv2_messages.specs.Tables.{declare_table};
+ghost use Rattle.declare_msgs.specs.Seen.{declare_message};
 
 use crate::declarations::{
     DeclareMiningJob, DeclareMiningJobError, DeclareMiningJobSuccess, ProvideMissingTransactions,
@@ -29,7 +29,7 @@ pub enum Declare<'a> {
 impl Declare<'_> {
     /// The message type of its frame.
     pub fn kind(&self) -> u8
-        ensures { result ≡ (seen self.now).kind }
+        ensures { result ≡ (declare_message self.now).kind }
     {
         match self {
             Declare::AllocateMiningJobToken(_) => kinds::ALLOCATE_MINING_JOB_TOKEN,
@@ -46,7 +46,7 @@ impl Declare<'_> {
 
     /// Whether each field has a spelling of its type, and the payload fewer than 2^24 bytes.
     pub fn fits(&self) -> bool
-        ensures { IsTrue result ↔ Fits declare (seen self.now) }
+        ensures { IsTrue result ↔ FitsFrame declare_table (declare_message self.now) }
     {
         match self {
             Declare::AllocateMiningJobToken(message) => fits(&message.fields()),
@@ -62,8 +62,9 @@ impl Declare<'_> {
 
     /// Appends the whole frame, or nothing where memory runs out.
     pub fn frame(&self, out: &mut Vec<u8>) -> Result<(), AllocError>
-        requires { Fits declare (seen self.now) }
-        ensures ok { OnOk result (out.new.items ≡ out.old.items ++ message_frame declare (seen self.now)) }
+        requires { FitsFrame declare_table (declare_message self.now) }
+        ensures ok { OnOk result (out.new.items ≡ out.old.items
+            ++ message_frame declare_table (declare_message self.now)) }
         ensures err { OnErr result (out.new.items ≡ out.old.items) }
     {
         let kind = self.kind();

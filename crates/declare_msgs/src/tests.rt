@@ -34,7 +34,9 @@ const CASES: [Case; 8] = [
     },
     Case {
         name: "DeclareMiningJob",
-        frame: "0000575d00000403020103a1a1a1060302010300b3b3b30300b4b4b40200232323232323232323232323232323232323232323232323232323232323232324242424242424242424242424242424242424242424242424242424242424240300b6b6b6",
+        frame: "0000575d00000403020103a1a1a1060302010300b3b3b30300b4b4b402002323232323232323232323\
+            23232323232323232323232323232323232323232324242424242424242424242424242424242424242424\
+            242424242424242424240300b6b6b6",
     },
     Case {
         name: "DeclareMiningJob.Success",
@@ -46,12 +48,13 @@ const CASES: [Case; 8] = [
     },
     Case {
         name: "PushSolution",
-        frame: "00006033000002a0a0111111111111111111111111111111111111111111111111111111111111117f06030201070302010803020109030201",
+        frame: "00006033000002a0a0111111111111111111111111111111111111111111111111111111111111117f\
+            06030201070302010803020109030201",
     },
 ];
 
-/// Reads the payload whole, writes it back as the same frame, and reads it neither cut at any byte nor with
-/// one byte more.
+/// Reads the payload whole, writes it back as the same frame, and reads it neither cut at any byte
+/// nor with one byte more.
 fn is_read_whole_alone(rt: &impl Abort, alloc: Global, case: &Case) -> Result<(), Fail> {
     let name = case.name;
     let frame = hex::decode(alloc, case.frame)?;

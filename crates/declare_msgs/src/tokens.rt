@@ -2,10 +2,9 @@
 
 ghost use Rattle.std.specs.Prelude.{◌≡◌};
 ghost use Rattle.sv2_messages.specs.declared.kinds.TheConstants as kinds;
-ghost use Rattle.sv2_messages.specs.Tables.{declare};
-ghost use Rattle.sv2_messages.specs.Reading.{ReadsMessage};
+ghost use Rattle.sv2_messages.specs.Tables.{declare_table};
 ghost use Rattle.sv2_messages.specs.Writing.{AreFields};
-ghost use Rattle.declare_msgs.specs.Seen.{seen};
+ghost use Rattle.declare_msgs.specs.Seen.{declare_message, ReadsDeclare};
 
 use crate::message::Declare;
 use sv2_messages::{Field, FieldReader, MsgError};
@@ -21,7 +20,8 @@ pub struct AllocateMiningJobToken<'a> {
 impl AllocateMiningJobToken<'_> {
     /// The fields in their order.
     pub(crate) fn fields(&self) -> [Field<'_>; 2]
-        ensures { AreFields declare (seen (Declare.AllocateMiningJobToken self.now)) result }
+        ensures { AreFields declare_table
+            (declare_message (Declare.AllocateMiningJobToken self.now)) result }
     {
         [
             Field::Str255(self.user_identifier),
@@ -32,7 +32,7 @@ impl AllocateMiningJobToken<'_> {
 
 #[tactic(auto, unfolding(sv2_messages::specs::Reading::values_of))]
 pub(crate) fn read_allocate_mining_job_token<'a>(payload: &'a [u8]) -> Result<Declare<'a>, MsgError>
-    ensures { ReadsMessage declare kinds.ALLOCATE_MINING_JOB_TOKEN seen payload.now result }
+    ensures { ReadsDeclare kinds.ALLOCATE_MINING_JOB_TOKEN payload.now result }
 {
     let mut fields = FieldReader::new(payload);
     let message = AllocateMiningJobToken {
@@ -56,7 +56,8 @@ pub struct AllocateMiningJobTokenSuccess<'a> {
 impl AllocateMiningJobTokenSuccess<'_> {
     /// The fields in their order.
     pub(crate) fn fields(&self) -> [Field<'_>; 3]
-        ensures { AreFields declare (seen (Declare.AllocateMiningJobTokenSuccess self.now)) result }
+        ensures { AreFields declare_table
+            (declare_message (Declare.AllocateMiningJobTokenSuccess self.now)) result }
     {
         [
             Field::U32(self.request_id),
@@ -70,7 +71,7 @@ impl AllocateMiningJobTokenSuccess<'_> {
 pub(crate) fn read_allocate_mining_job_token_success<'a>(
     payload: &'a [u8],
 ) -> Result<Declare<'a>, MsgError>
-    ensures { ReadsMessage declare kinds.ALLOCATE_MINING_JOB_TOKEN_SUCCESS seen payload.now result }
+    ensures { ReadsDeclare kinds.ALLOCATE_MINING_JOB_TOKEN_SUCCESS payload.now result }
 {
     let mut fields = FieldReader::new(payload);
     let message = AllocateMiningJobTokenSuccess {
@@ -100,7 +101,7 @@ pub struct PushSolution<'a> {
 impl PushSolution<'_> {
     /// The fields in their order.
     pub(crate) fn fields(&self) -> [Field<'_>; 6]
-        ensures { AreFields declare (seen (Declare.PushSolution self.now)) result }
+        ensures { AreFields declare_table (declare_message (Declare.PushSolution self.now)) result }
     {
         [
             Field::B32(self.extranonce),
@@ -115,7 +116,7 @@ impl PushSolution<'_> {
 
 #[tactic(auto, unfolding(sv2_messages::specs::Reading::values_of))]
 pub(crate) fn read_push_solution<'a>(payload: &'a [u8]) -> Result<Declare<'a>, MsgError>
-    ensures { ReadsMessage declare kinds.PUSH_SOLUTION seen payload.now result }
+    ensures { ReadsDeclare kinds.PUSH_SOLUTION payload.now result }
 {
     let mut fields = FieldReader::new(payload);
     let message = PushSolution {

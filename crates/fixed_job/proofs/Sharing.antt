@@ -6,7 +6,7 @@ use Rattle.sv2_types.specs.Fields.{FieldType, FieldValue, U32, Number}
 use Rattle.sv2_types.specs.Reading.{said}
 use Rattle.sv2_types.proofs.Items.{IsBytes}
 use Rattle.sv2_messages.specs.Messages.{Message, AreSpelled, MsgOf}
-use Rattle.sv2_messages.specs.Tables.{mining}
+use Rattle.sv2_messages.specs.Tables.{mining_table}
 use Rattle.sv2_messages.proofs.Numbers.{IsBytes-drop}
 use Rattle.sv2_messages.proofs.Readable.{lies}
 use Rattle.sv2_frames.specs.Framing.{header_of, payload_length}
@@ -38,7 +38,7 @@ numbers_spelled (suc count) bytes fits long =
 abbrev pub share_message : List ℕ → Message
 share_message payload = record { kind = 0x1a; fields = numbers 6 payload }
 
-pub is_share : (payload : List ℕ) → IsBytes payload → length payload ≡ 24 → MsgOf mining 0x1a payload (share_message payload)
+pub is_share : (payload : List ℕ) → IsBytes payload → length payload ≡ 24 → MsgOf mining_table 0x1a payload (share_message payload)
 is_share payload fits long = record {
   same_kind = refl;
   types = types 6;

@@ -1,9 +1,9 @@
 //! The answers to shares (Stratum V2, "SubmitShares.Success" and "SubmitShares.Error").
 
 ghost use Rattle.std.specs.Prelude.{◌≡◌, ◌≤◌, ◌++◌, OnOk, OnErr};
-ghost use Rattle.sv2_messages.specs.Messages.{Fits, message_frame};
-ghost use Rattle.sv2_messages.specs.Tables.{mining};
-ghost use Rattle.mining_msgs.specs.Seen.{seen};
+ghost use Rattle.sv2_messages.specs.Messages.{FitsFrame, message_frame};
+ghost use Rattle.sv2_messages.specs.Tables.{mining_table};
+ghost use Rattle.mining_msgs.specs.Seen.{mining_message};
 ghost use Rattle.fixed_job.specs.Answers.{answer_of};
 
 use crate::judge::Refusal;
@@ -29,8 +29,8 @@ pub fn put_answer(
 /// Credits one share of the class's work, or tells why none is credited.
 fn answer_to(class: u8, share: SubmitSharesStandard, refusal: Option<Refusal>) -> Mining<'static>
     requires { class ≤ 60 }
-    ensures fits { Fits mining (seen result) }
-    ensures frame { message_frame mining (seen result) ≡ answer_of class share refusal }
+    ensures fits { FitsFrame mining_table (seen result) }
+    ensures frame { message_frame mining_table (mining_message result) ≡ answer_of class share refusal }
 {
     match refusal {
         None => Mining::SubmitSharesSuccess(SubmitSharesSuccess {

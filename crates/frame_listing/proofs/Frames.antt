@@ -1,7 +1,7 @@
 -- A lister between its frames.
 use Rattle.std.proofs.Common.{◌≡◌, ℕ, ◌+◌, ◌-◌, ◌^◌, ◌≤◌, min, List, [], ◌∷◌, ◌++◌, length, take, refl, sym, ap, subst, ◌∙◌, append_assoc, arith, length-append}
 use Rattle.std.proofs.lemmas.List.{nil_from_length}
-use Rattle.sv2_frames.specs.Framing.{FrameValue, bytes_of}
+use Rattle.sv2_frames.specs.Framing.{FrameValue, frame_bytes}
 use Rattle.sv2_frames.specs.Holding.{Holding, frame_end, HoldsOver, IsCutWithin, IsHeldFrame}
 use Rattle.sv2_frames.proofs.Feeding.{present_after}
 use Rattle.pool_turns.specs.Duties.{IsNothing}
@@ -95,7 +95,7 @@ module _ (bytes given was now : List ℕ) (old new : Lister) (holds : MayHoldFra
         → new.count ≡ min (old.count + 1) (2 ^ 64 - 1) → new.splitter ≡ record old.splitter { held = [] } → HasListedFrames bytes (given ++ now) new
     good_listed few good text count splitter =
         let frames = holds.frames in
-        let lists : ListsFrames bytes frames (bytes_of frame) = subst (λ (h : List ℕ). ListsFrames bytes frames h) held.whole holds.tracks.lists in
+        let lists : ListsFrames bytes frames (frame_bytes frame) = subst (λ (h : List ℕ). ListsFrames bytes frames h) held.whole holds.tracks.lists in
         let below = frames_below bytes frames old.splitter.held holds.tracks.lists in
         record {
           frames = frames ++ frame ∷ [];

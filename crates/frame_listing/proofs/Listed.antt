@@ -1,7 +1,7 @@
 -- Lines of frames, and frames of bytes.
 use Rattle.std.proofs.Common.{◌≡◌, ℕ, ◌+◌, ◌<◌, ◌≤◌, List, [], ◌∷◌, ◌++◌, length, sym, ap, ◌∙◌, append_assoc, append-nil, arith, length-append, inl, inr}
 use Rattle.std.specs.List.{flat_map, AllByRecursion}
-use Rattle.sv2_frames.specs.Framing.{FrameValue, bytes_of, header_of, IsFrame, payload_length}
+use Rattle.sv2_frames.specs.Framing.{FrameValue, frame_bytes, header_of, IsFrame, payload_length}
 use Rattle.sv2_frames.specs.Holding.{Holding, frame_end, IsCutWithin}
 use Rattle.sv2_frames.specs.Stream.{stream_of}
 use Rattle.sv2_frames.proofs.Cutting.{payload_length-header}
@@ -34,7 +34,7 @@ all-push P [] x all p = (p, tt)
 all-push P (y ∷ xs) x all p = (all.0, all-push P xs x all.1 p)
 
 -- what is held is a good frame
-pub ListsFrames-push : (seen : List ℕ) (frames : List FrameValue) (frame : FrameValue) → ListsFrames seen frames (bytes_of frame) → IsFrame frame
+pub ListsFrames-push : (seen : List ℕ) (frames : List FrameValue) (frame : FrameValue) → ListsFrames seen frames (frame_bytes frame) → IsFrame frame
     → length frame.payload ≤ payload_limit → IsGood frame → ListsFrames seen (frames ++ frame ∷ []) []
 ListsFrames-push seen frames frame lists fits within good = record {
   whole = lists.whole ∙ sym (stream_of-push frames frame);
@@ -47,8 +47,8 @@ ListsFrames-push seen frames frame lists fits within good = record {
 count_frames : (frames : List FrameValue) (held : List ℕ) → length frames ≤ length (stream_of frames held)
 count_frames [] held = omega arith
 count_frames (frame ∷ frames) held =
-    let split : stream_of (frame ∷ frames) held ≡ bytes_of frame ++ stream_of frames held = append_assoc (bytes_of frame) (flat_map bytes_of frames) held in
-    omega (arith, count_frames frames held, ap length split, length-append (bytes_of frame) (stream_of frames held), length-append (header_of frame.ext frame.kind (length frame.payload)) frame.payload)
+    let split : stream_of (frame ∷ frames) held ≡ frame_bytes frame ++ stream_of frames held = append_assoc (frame_bytes frame) (flat_map frame_bytes frames) held in
+    omega (arith, count_frames frames held, ap length split, length-append (frame_bytes frame) (stream_of frames held), length-append (header_of frame.ext frame.kind (length frame.payload)) frame.payload)
 
 pub frames_below : (seen : List ℕ) (frames : List FrameValue) (held : List ℕ) → ListsFrames seen frames held → length frames ≤ length seen
 frames_below seen frames held lists = omega (arith, count_frames frames held, ap length lists.whole)

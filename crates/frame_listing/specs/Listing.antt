@@ -2,7 +2,7 @@
 use Rattle.std.specs.Prelude.{◌≡◌, ℕ, ◌≤◌, ◌%◌, Some, List, length}
 use Rattle.std.specs.List.{AllByRecursion}
 use Rattle.sv2_types.specs.Fields.{FieldType}
-use Rattle.sv2_frames.specs.Framing.{FrameValue, bytes_of, IsFrame, payload_length}
+use Rattle.sv2_frames.specs.Framing.{FrameValue, frame_bytes, IsFrame, payload_length}
 use Rattle.sv2_frames.specs.Holding.{IsCut, HoldsOver}
 use Rattle.sv2_frames.specs.Stream.{stream_of, AreWithin}
 use Rattle.sv2_messages.specs.declared.error.MsgError.{MsgError}
@@ -45,7 +45,7 @@ pub record IsBadFrame (held : List ℕ) (error : MsgError) : Type 0 where
   pub fits : IsFrame frame
   pub within : length frame.payload ≤ payload_limit
   pub bad : IsBad frame error
-  pub whole : held ≡ bytes_of frame
+  pub whole : held ≡ frame_bytes frame
 
 -- what is held goes no further, whatever comes
 abbrev pub IsFlawed : Flaw → List ℕ → Type 0

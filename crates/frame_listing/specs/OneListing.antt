@@ -1,7 +1,7 @@
 -- Bytes are good frames in one way, up to where they go no further.
 use Rattle.std.proofs.Common.{◌≡◌, ℕ, ◌≤◌, List, [], ◌∷◌, ◌++◌, length, refl, sym, ap, subst, ◌∙◌, append_assoc, arith, length-append}
 use Rattle.std.specs.List.{flat_map, AllByRecursion}
-use Rattle.sv2_frames.specs.Framing.{FrameValue, bytes_of, header_of, IsFrame, payload_length}
+use Rattle.sv2_frames.specs.Framing.{FrameValue, frame_bytes, header_of, IsFrame, payload_length}
 use Rattle.sv2_frames.specs.Stream.{stream_of, AreWithin}
 use Rattle.sv2_frames.proofs.Cutting.{payload_length-header}
 use Rattle.sv2_frames.proofs.Streams.{heads_agree, cut_has_no_frame}
@@ -17,7 +17,7 @@ ListsFrames-none = record { whole = refl; each = tt; within = tt; good = tt }
 -- bytes more are held
 pub ListsFrames-more : (seen : List ℕ) (frames : List FrameValue) (held more : List ℕ) → ListsFrames seen frames held → ListsFrames (seen ++ more) frames (held ++ more)
 ListsFrames-more seen frames held more lists = record {
-  whole = ap (λ (l : List ℕ). l ++ more) lists.whole ∙ append_assoc (flat_map bytes_of frames) held more;
+  whole = ap (λ (l : List ℕ). l ++ more) lists.whole ∙ append_assoc (flat_map frame_bytes frames) held more;
   each = lists.each;
   within = lists.within;
   good = lists.good;
@@ -29,25 +29,25 @@ partial_none = record { cut = (nothing_is_cut payload_limit).cut; within = λ lo
 
 -- no good frame within the limit begins these bytes
 abbrev pub BeginsNoGoodFrame : List ℕ → Type 0
-BeginsNoGoodFrame rest = (frame : FrameValue) (more : List ℕ) → IsFrame frame → length frame.payload ≤ payload_limit → IsGood frame → rest ≡ bytes_of frame ++ more → ⊥
+BeginsNoGoodFrame rest = (frame : FrameValue) (more : List ℕ) → IsFrame frame → length frame.payload ≤ payload_limit → IsGood frame → rest ≡ frame_bytes frame ++ more → ⊥
 
 reading : (frames others : List FrameValue) (rest left : List ℕ) → stream_of frames rest ≡ stream_of others left
     → AllByRecursion IsFrame frames → AllByRecursion IsFrame others → AreWithin payload_limit frames → AreWithin payload_limit others
     → AllByRecursion IsGood frames → AllByRecursion IsGood others → BeginsNoGoodFrame rest → BeginsNoGoodFrame left → (frames ≡ others) × (rest ≡ left)
 reading [] [] rest left same each others_each within others_within good others_good none none_left = (refl, same)
 reading [] (g ∷ others) rest left same each others_each within others_within good others_good none none_left =
-    absurd (none g (stream_of others left) others_each.0 others_within.0 others_good.0 (same ∙ append_assoc (bytes_of g) (flat_map bytes_of others) left))
+    absurd (none g (stream_of others left) others_each.0 others_within.0 others_good.0 (same ∙ append_assoc (frame_bytes g) (flat_map frame_bytes others) left))
 reading (f ∷ frames) [] rest left same each others_each within others_within good others_good none none_left =
-    absurd (none_left f (stream_of frames rest) each.0 within.0 good.0 (sym same ∙ append_assoc (bytes_of f) (flat_map bytes_of frames) rest))
+    absurd (none_left f (stream_of frames rest) each.0 within.0 good.0 (sym same ∙ append_assoc (frame_bytes f) (flat_map frame_bytes frames) rest))
 reading (f ∷ frames) (g ∷ others) rest left same each others_each within others_within good others_good none none_left =
     let heads = heads_agree f g (stream_of frames rest) (stream_of others left) each.0 others_each.0
-    (sym (append_assoc (bytes_of f) (flat_map bytes_of frames) rest) ∙ same ∙ append_assoc (bytes_of g) (flat_map bytes_of others) left) in
+    (sym (append_assoc (frame_bytes f) (flat_map frame_bytes frames) rest) ∙ same ∙ append_assoc (frame_bytes g) (flat_map frame_bytes others) left) in
     let tails = reading frames others rest left heads.1 each.1 others_each.1 within.1 others_within.1 good.1 others_good.1 none none_left in
     (ap (λ h. h ∷ frames) heads.0 ∙ ap (λ t. g ∷ t) tails.0, tails.1)
 
-pub one_reading : (bytes : List ℕ) (frames others : List FrameValue) (rest left : List ℕ) → ListsFrames bytes frames rest → ListsFrames bytes others left
+pub one_listing : (bytes : List ℕ) (frames others : List FrameValue) (rest left : List ℕ) → ListsFrames bytes frames rest → ListsFrames bytes others left
     → BeginsNoGoodFrame rest → BeginsNoGoodFrame left → (frames ≡ others) × (rest ≡ left)
-one_reading bytes frames others rest left one other none none_left =
+one_listing bytes frames others rest left one other none none_left =
     reading frames others rest left (sym one.whole ∙ other.whole) one.each other.each one.within other.within one.good other.good none none_left
 
 pub none_empty : BeginsNoGoodFrame []
@@ -57,7 +57,7 @@ pub none_partial : (held : List ℕ) → IsPartialFrame held → BeginsNoGoodFra
 none_partial held partial frame more fits within good same = cut_has_no_frame held frame more partial.cut fits same
 
 -- the length that a frame's header says
-frame_says : (frame : FrameValue) (more : List ℕ) → IsFrame frame → payload_length (bytes_of frame ++ more) ≡ length frame.payload
+frame_says : (frame : FrameValue) (more : List ℕ) → IsFrame frame → payload_length (frame_bytes frame ++ more) ≡ length frame.payload
 frame_says frame more fits =
     ap payload_length (append_assoc (header_of frame.ext frame.kind (length frame.payload)) frame.payload more)
     ∙ payload_length-header frame.ext frame.kind (length frame.payload) (frame.payload ++ more) fits.length_fits

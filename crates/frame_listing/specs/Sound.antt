@@ -3,13 +3,13 @@ use Rattle.std.proofs.Common.{◌≡◌, ℕ, List, [], ◌++◌, length, refl, 
 use Rattle.pool_turns.specs.Duties.{IsNothing, IsSoundDuty}
 use Rattle.frame_listing.specs.Listing.{IsPartialFrame, IsFlawed}
 use Rattle.frame_listing.specs.Duty.{ListsGood, ListsFlaw, IsCutFrame, listing_duty}
-use Rattle.frame_listing.specs.OneListing.{BeginsNoGoodFrame, ListsFrames-none, ListsFrames-more, partial_none, one_reading, none_empty, none_partial, none_flawed, flawed_long, partial_not_flawed}
+use Rattle.frame_listing.specs.OneListing.{BeginsNoGoodFrame, ListsFrames-none, ListsFrames-more, partial_none, one_listing, none_empty, none_partial, none_flawed, flawed_long, partial_not_flawed}
 
 -- what is refused is no other listing
 other_rest : (bytes more text other : List ℕ) (IsKind : List ℕ → Type 0) → ((rest : List ℕ) → IsKind rest → BeginsNoGoodFrame rest)
     → (owed : ListsGood IsKind (bytes ++ more) text) (refused : ListsFlaw IsFlawed bytes other) → owed.rest ≡ refused.rest ++ more
 other_rest bytes more text other IsKind none owed refused =
-    (one_reading (bytes ++ more) owed.frames refused.frames owed.rest (refused.rest ++ more) owed.lists
+    (one_listing (bytes ++ more) owed.frames refused.frames owed.rest (refused.rest ++ more) owed.lists
     (ListsFrames-more bytes refused.frames refused.rest more refused.lists) (none owed.rest owed.is_kind) (none_flawed refused.flaw refused.rest more refused.has_flaw)).1
 
 nothing_none : (rest : List ℕ) → IsNothing rest → BeginsNoGoodFrame rest
@@ -26,7 +26,7 @@ so_far_or_refused bytes more text other owed refused =
 
 whole_or_cut : (bytes text other : List ℕ) → ListsGood IsNothing bytes text → ListsFlaw IsCutFrame bytes other → ⊥
 whole_or_cut bytes text other whole cut =
-    let same = one_reading bytes whole.frames cut.frames whole.rest cut.rest whole.lists cut.lists (nothing_none whole.rest whole.is_kind) (none_partial cut.rest cut.has_flaw.partial) in
+    let same = one_listing bytes whole.frames cut.frames whole.rest cut.rest whole.lists cut.lists (nothing_none whole.rest whole.is_kind) (none_partial cut.rest cut.has_flaw.partial) in
     cut.has_flaw.some (sym same.1 ∙ whole.is_kind)
 
 pub listing_duty_is_sound : IsSoundDuty listing_duty

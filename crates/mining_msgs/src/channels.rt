@@ -2,21 +2,22 @@
 
 ghost use Rattle.std.specs.Prelude.{◌≡◌};
 ghost use Rattle.sv2_messages.specs.declared.kinds.TheConstants as kinds;
-ghost use Rattle.sv2_messages.specs.Tables.{mining};
-ghost use Rattle.sv2_messages.specs.Reading.{ReadsMessage};
+ghost use Rattle.sv2_messages.specs.Tables.{mining_table};
 ghost use Rattle.sv2_messages.specs.Writing.{AreFields};
-ghost use Rattle.mining_msgs.specs.Seen.{seen};
+ghost use Rattle.mining_msgs.specs.Seen.{mining_message, ReadsMining};
 
 use crate::message::Mining;
 use sv2_messages::{Field, FieldReader, MsgError};
 use sv2_types::U256;
 
-/// Asks for a channel on which the miner rolls the header alone (Stratum V2, "OpenStandardMiningChannel").
+/// Asks for a channel on which the miner rolls the header alone (Stratum V2,
+/// "OpenStandardMiningChannel").
 #[derive(Clone, Copy, Debug, PartialEq, Eq)]
 pub struct OpenStandardMiningChannel<'a> {
     pub request_id: u32,
     pub user_identity: &'a str,
-    /// Hashes a second: an IEEE 754 single, low byte first, that is carried and never read as a number.
+    /// Hashes a second: an IEEE 754 single, low byte first, that is carried and never read as a
+    /// number.
     pub nominal_hash_rate: [u8; 4],
     /// The greatest target that the miner takes: a number whose low byte comes first.
     pub max_target: U256,
@@ -25,7 +26,8 @@ pub struct OpenStandardMiningChannel<'a> {
 impl OpenStandardMiningChannel<'_> {
     /// The fields in their order.
     pub(crate) fn fields(&self) -> [Field<'_>; 4]
-        ensures { AreFields mining (seen (Mining.OpenStandardMiningChannel self.now)) result }
+        ensures { AreFields mining_table
+            (mining_message (Mining.OpenStandardMiningChannel self.now)) result }
     {
         [
             Field::U32(self.request_id),
@@ -40,7 +42,7 @@ impl OpenStandardMiningChannel<'_> {
 pub(crate) fn read_open_standard_mining_channel<'a>(
     payload: &'a [u8],
 ) -> Result<Mining<'a>, MsgError>
-    ensures { ReadsMessage mining kinds.OPEN_STANDARD_MINING_CHANNEL seen payload.now result }
+    ensures { ReadsMining kinds.OPEN_STANDARD_MINING_CHANNEL payload.now result }
 {
     let mut fields = FieldReader::new(payload);
     let message = OpenStandardMiningChannel {
@@ -53,7 +55,8 @@ pub(crate) fn read_open_standard_mining_channel<'a>(
     Ok(Mining::OpenStandardMiningChannel(message))
 }
 
-/// Opens the standard channel that a miner asked for (Stratum V2, "OpenStandardMiningChannel.Success").
+/// Opens the standard channel that a miner asked for (Stratum V2,
+/// "OpenStandardMiningChannel.Success").
 #[derive(Clone, Copy, Debug, PartialEq, Eq)]
 pub struct OpenStandardMiningChannelSuccess<'a> {
     /// The id that the request has.
@@ -68,7 +71,8 @@ pub struct OpenStandardMiningChannelSuccess<'a> {
 impl OpenStandardMiningChannelSuccess<'_> {
     /// The fields in their order.
     pub(crate) fn fields(&self) -> [Field<'_>; 5]
-        ensures { AreFields mining (seen (Mining.OpenStandardMiningChannelSuccess self.now)) result }
+        ensures { AreFields mining_table
+            (mining_message (Mining.OpenStandardMiningChannelSuccess self.now)) result }
     {
         [
             Field::U32(self.request_id),
@@ -84,7 +88,7 @@ impl OpenStandardMiningChannelSuccess<'_> {
 pub(crate) fn read_open_standard_mining_channel_success<'a>(
     payload: &'a [u8],
 ) -> Result<Mining<'a>, MsgError>
-    ensures { ReadsMessage mining kinds.OPEN_STANDARD_MINING_CHANNEL_SUCCESS seen payload.now result }
+    ensures { ReadsMining kinds.OPEN_STANDARD_MINING_CHANNEL_SUCCESS payload.now result }
 {
     let mut fields = FieldReader::new(payload);
     let message = OpenStandardMiningChannelSuccess {
@@ -109,7 +113,8 @@ pub struct OpenMiningChannelError<'a> {
 impl OpenMiningChannelError<'_> {
     /// The fields in their order.
     pub(crate) fn fields(&self) -> [Field<'_>; 2]
-        ensures { AreFields mining (seen (Mining.OpenMiningChannelError self.now)) result }
+        ensures { AreFields mining_table
+            (mining_message (Mining.OpenMiningChannelError self.now)) result }
     {
         [Field::U32(self.request_id), Field::Str255(self.error_code)]
     }
@@ -117,7 +122,7 @@ impl OpenMiningChannelError<'_> {
 
 #[tactic(auto, unfolding(sv2_messages::specs::Reading::values_of))]
 pub(crate) fn read_open_mining_channel_error<'a>(payload: &'a [u8]) -> Result<Mining<'a>, MsgError>
-    ensures { ReadsMessage mining kinds.OPEN_MINING_CHANNEL_ERROR seen payload.now result }
+    ensures { ReadsMining kinds.OPEN_MINING_CHANNEL_ERROR payload.now result }
 {
     let mut fields = FieldReader::new(payload);
     let message = OpenMiningChannelError {
@@ -128,12 +133,14 @@ pub(crate) fn read_open_mining_channel_error<'a>(payload: &'a [u8]) -> Result<Mi
     Ok(Mining::OpenMiningChannelError(message))
 }
 
-/// Asks for a channel on which the miner rolls the coinbase too (Stratum V2, "OpenExtendedMiningChannel").
+/// Asks for a channel on which the miner rolls the coinbase too (Stratum V2,
+/// "OpenExtendedMiningChannel").
 #[derive(Clone, Copy, Debug, PartialEq, Eq)]
 pub struct OpenExtendedMiningChannel<'a> {
     pub request_id: u32,
     pub user_identity: &'a str,
-    /// Hashes a second: an IEEE 754 single, low byte first, that is carried and never read as a number.
+    /// Hashes a second: an IEEE 754 single, low byte first, that is carried and never read as a
+    /// number.
     pub nominal_hash_rate: [u8; 4],
     /// The greatest target that the miner takes: a number whose low byte comes first.
     pub max_target: U256,
@@ -144,7 +151,8 @@ pub struct OpenExtendedMiningChannel<'a> {
 impl OpenExtendedMiningChannel<'_> {
     /// The fields in their order.
     pub(crate) fn fields(&self) -> [Field<'_>; 5]
-        ensures { AreFields mining (seen (Mining.OpenExtendedMiningChannel self.now)) result }
+        ensures { AreFields mining_table
+            (mining_message (Mining.OpenExtendedMiningChannel self.now)) result }
     {
         [
             Field::U32(self.request_id),
@@ -160,7 +168,7 @@ impl OpenExtendedMiningChannel<'_> {
 pub(crate) fn read_open_extended_mining_channel<'a>(
     payload: &'a [u8],
 ) -> Result<Mining<'a>, MsgError>
-    ensures { ReadsMessage mining kinds.OPEN_EXTENDED_MINING_CHANNEL seen payload.now result }
+    ensures { ReadsMining kinds.OPEN_EXTENDED_MINING_CHANNEL payload.now result }
 {
     let mut fields = FieldReader::new(payload);
     let message = OpenExtendedMiningChannel {
@@ -174,7 +182,8 @@ pub(crate) fn read_open_extended_mining_channel<'a>(
     Ok(Mining::OpenExtendedMiningChannel(message))
 }
 
-/// Opens the extended channel that a miner asked for (Stratum V2, "OpenExtendedMiningChannel.Success").
+/// Opens the extended channel that a miner asked for (Stratum V2,
+/// "OpenExtendedMiningChannel.Success").
 #[derive(Clone, Copy, Debug, PartialEq, Eq)]
 pub struct OpenExtendedMiningChannelSuccess<'a> {
     /// The id that the request has.
@@ -190,7 +199,8 @@ pub struct OpenExtendedMiningChannelSuccess<'a> {
 impl OpenExtendedMiningChannelSuccess<'_> {
     /// The fields in their order.
     pub(crate) fn fields(&self) -> [Field<'_>; 5]
-        ensures { AreFields mining (seen (Mining.OpenExtendedMiningChannelSuccess self.now)) result }
+        ensures { AreFields mining_table
+            (mining_message (Mining.OpenExtendedMiningChannelSuccess self.now)) result }
     {
         [
             Field::U32(self.request_id),
@@ -206,7 +216,7 @@ impl OpenExtendedMiningChannelSuccess<'_> {
 pub(crate) fn read_open_extended_mining_channel_success<'a>(
     payload: &'a [u8],
 ) -> Result<Mining<'a>, MsgError>
-    ensures { ReadsMessage mining kinds.OPEN_EXTENDED_MINING_CHANNEL_SUCCESS seen payload.now result }
+    ensures { ReadsMining kinds.OPEN_EXTENDED_MINING_CHANNEL_SUCCESS payload.now result }
 {
     let mut fields = FieldReader::new(payload);
     let message = OpenExtendedMiningChannelSuccess {
@@ -224,7 +234,8 @@ pub(crate) fn read_open_extended_mining_channel_success<'a>(
 #[derive(Clone, Copy, Debug, PartialEq, Eq)]
 pub struct UpdateChannel {
     pub channel_id: u32,
-    /// Hashes a second: an IEEE 754 single, low byte first, that is carried and never read as a number.
+    /// Hashes a second: an IEEE 754 single, low byte first, that is carried and never read as a
+    /// number.
     pub nominal_hash_rate: [u8; 4],
     /// A number whose low byte comes first.
     pub maximum_target: U256,
@@ -233,7 +244,7 @@ pub struct UpdateChannel {
 impl UpdateChannel {
     /// The fields in their order.
     pub(crate) fn fields(&self) -> [Field<'_>; 3]
-        ensures { AreFields mining (seen (Mining.UpdateChannel self.now)) result }
+        ensures { AreFields mining_table (mining_message (Mining.UpdateChannel self.now)) result }
     {
         [
             Field::U32(self.channel_id),
@@ -245,7 +256,7 @@ impl UpdateChannel {
 
 #[tactic(auto, unfolding(sv2_messages::specs::Reading::values_of))]
 pub(crate) fn read_update_channel<'a>(payload: &'a [u8]) -> Result<Mining<'a>, MsgError>
-    ensures { ReadsMessage mining kinds.UPDATE_CHANNEL seen payload.now result }
+    ensures { ReadsMining kinds.UPDATE_CHANNEL payload.now result }
 {
     let mut fields = FieldReader::new(payload);
     let message = UpdateChannel {
@@ -267,7 +278,8 @@ pub struct UpdateChannelError<'a> {
 impl UpdateChannelError<'_> {
     /// The fields in their order.
     pub(crate) fn fields(&self) -> [Field<'_>; 2]
-        ensures { AreFields mining (seen (Mining.UpdateChannelError self.now)) result }
+        ensures { AreFields mining_table
+            (mining_message (Mining.UpdateChannelError self.now)) result }
     {
         [Field::U32(self.channel_id), Field::Str255(self.error_code)]
     }
@@ -275,7 +287,7 @@ impl UpdateChannelError<'_> {
 
 #[tactic(auto, unfolding(sv2_messages::specs::Reading::values_of))]
 pub(crate) fn read_update_channel_error<'a>(payload: &'a [u8]) -> Result<Mining<'a>, MsgError>
-    ensures { ReadsMessage mining kinds.UPDATE_CHANNEL_ERROR seen payload.now result }
+    ensures { ReadsMining kinds.UPDATE_CHANNEL_ERROR payload.now result }
 {
     let mut fields = FieldReader::new(payload);
     let message = UpdateChannelError {
@@ -296,7 +308,7 @@ pub struct CloseChannel<'a> {
 impl CloseChannel<'_> {
     /// The fields in their order.
     pub(crate) fn fields(&self) -> [Field<'_>; 2]
-        ensures { AreFields mining (seen (Mining.CloseChannel self.now)) result }
+        ensures { AreFields mining_table (mining_message (Mining.CloseChannel self.now)) result }
     {
         [Field::U32(self.channel_id), Field::Str255(self.reason_code)]
     }
@@ -304,7 +316,7 @@ impl CloseChannel<'_> {
 
 #[tactic(auto, unfolding(sv2_messages::specs::Reading::values_of))]
 pub(crate) fn read_close_channel<'a>(payload: &'a [u8]) -> Result<Mining<'a>, MsgError>
-    ensures { ReadsMessage mining kinds.CLOSE_CHANNEL seen payload.now result }
+    ensures { ReadsMining kinds.CLOSE_CHANNEL payload.now result }
 {
     let mut fields = FieldReader::new(payload);
     let message = CloseChannel {
@@ -325,7 +337,8 @@ pub struct SetExtranoncePrefix<'a> {
 impl SetExtranoncePrefix<'_> {
     /// The fields in their order.
     pub(crate) fn fields(&self) -> [Field<'_>; 2]
-        ensures { AreFields mining (seen (Mining.SetExtranoncePrefix self.now)) result }
+        ensures { AreFields mining_table
+            (mining_message (Mining.SetExtranoncePrefix self.now)) result }
     {
         [
             Field::U32(self.channel_id),
@@ -336,7 +349,7 @@ impl SetExtranoncePrefix<'_> {
 
 #[tactic(auto, unfolding(sv2_messages::specs::Reading::values_of))]
 pub(crate) fn read_set_extranonce_prefix<'a>(payload: &'a [u8]) -> Result<Mining<'a>, MsgError>
-    ensures { ReadsMessage mining kinds.SET_EXTRANONCE_PREFIX seen payload.now result }
+    ensures { ReadsMining kinds.SET_EXTRANONCE_PREFIX payload.now result }
 {
     let mut fields = FieldReader::new(payload);
     let message = SetExtranoncePrefix {
@@ -358,7 +371,7 @@ pub struct SetTarget {
 impl SetTarget {
     /// The fields in their order.
     pub(crate) fn fields(&self) -> [Field<'_>; 2]
-        ensures { AreFields mining (seen (Mining.SetTarget self.now)) result }
+        ensures { AreFields mining_table (mining_message (Mining.SetTarget self.now)) result }
     {
         [
             Field::U32(self.channel_id),
@@ -369,7 +382,7 @@ impl SetTarget {
 
 #[tactic(auto, unfolding(sv2_messages::specs::Reading::values_of))]
 pub(crate) fn read_set_target<'a>(payload: &'a [u8]) -> Result<Mining<'a>, MsgError>
-    ensures { ReadsMessage mining kinds.SET_TARGET seen payload.now result }
+    ensures { ReadsMining kinds.SET_TARGET payload.now result }
 {
     let mut fields = FieldReader::new(payload);
     let message = SetTarget {

@@ -2,10 +2,9 @@
 
 ghost use Rattle.std.specs.Prelude.{◌≡◌};
 ghost use Rattle.sv2_messages.specs.declared.kinds.TheConstants as kinds;
-ghost use Rattle.sv2_messages.specs.Tables.{mining};
-ghost use Rattle.sv2_messages.specs.Reading.{ReadsMessage};
+ghost use Rattle.sv2_messages.specs.Tables.{mining_table};
 ghost use Rattle.sv2_messages.specs.Writing.{AreFields};
-ghost use Rattle.mining_msgs.specs.Seen.{seen};
+ghost use Rattle.mining_msgs.specs.Seen.{mining_message, ReadsMining};
 
 use crate::message::Mining;
 use sv2_messages::{Field, FieldReader, MsgError};
@@ -32,14 +31,16 @@ pub struct SetCustomMiningJob<'a> {
     /// The outputs one after the other, without their count, in Bitcoin's raw transaction format.
     pub coinbase_tx_outputs: &'a [u8],
     pub coinbase_tx_locktime: u32,
-    /// The hashes beside the coinbase's on the way to the root, each 32 bytes as they stand in a block header.
+    /// The hashes beside the coinbase's on the way to the root, each 32 bytes as they stand in a
+    /// block header.
     pub merkle_path: Seq32<'a>,
 }
 
 impl SetCustomMiningJob<'_> {
     /// The fields in their order.
     pub(crate) fn fields(&self) -> [Field<'_>; 13]
-        ensures { AreFields mining (seen (Mining.SetCustomMiningJob self.now)) result }
+        ensures { AreFields mining_table
+            (mining_message (Mining.SetCustomMiningJob self.now)) result }
     {
         [
             Field::U32(self.channel_id),
@@ -61,7 +62,7 @@ impl SetCustomMiningJob<'_> {
 
 #[tactic(auto, unfolding(sv2_messages::specs::Reading::values_of))]
 pub(crate) fn read_set_custom_mining_job<'a>(payload: &'a [u8]) -> Result<Mining<'a>, MsgError>
-    ensures { ReadsMessage mining kinds.SET_CUSTOM_MINING_JOB seen payload.now result }
+    ensures { ReadsMining kinds.SET_CUSTOM_MINING_JOB payload.now result }
 {
     let mut fields = FieldReader::new(payload);
     let message = SetCustomMiningJob {
@@ -95,7 +96,8 @@ pub struct SetCustomMiningJobSuccess {
 impl SetCustomMiningJobSuccess {
     /// The fields in their order.
     pub(crate) fn fields(&self) -> [Field<'_>; 3]
-        ensures { AreFields mining (seen (Mining.SetCustomMiningJobSuccess self.now)) result }
+        ensures { AreFields mining_table
+            (mining_message (Mining.SetCustomMiningJobSuccess self.now)) result }
     {
         [
             Field::U32(self.channel_id),
@@ -109,7 +111,7 @@ impl SetCustomMiningJobSuccess {
 pub(crate) fn read_set_custom_mining_job_success<'a>(
     payload: &'a [u8],
 ) -> Result<Mining<'a>, MsgError>
-    ensures { ReadsMessage mining kinds.SET_CUSTOM_MINING_JOB_SUCCESS seen payload.now result }
+    ensures { ReadsMining kinds.SET_CUSTOM_MINING_JOB_SUCCESS payload.now result }
 {
     let mut fields = FieldReader::new(payload);
     let message = SetCustomMiningJobSuccess {
@@ -133,7 +135,8 @@ pub struct SetCustomMiningJobError<'a> {
 impl SetCustomMiningJobError<'_> {
     /// The fields in their order.
     pub(crate) fn fields(&self) -> [Field<'_>; 3]
-        ensures { AreFields mining (seen (Mining.SetCustomMiningJobError self.now)) result }
+        ensures { AreFields mining_table
+            (mining_message (Mining.SetCustomMiningJobError self.now)) result }
     {
         [
             Field::U32(self.channel_id),
@@ -147,7 +150,7 @@ impl SetCustomMiningJobError<'_> {
 pub(crate) fn read_set_custom_mining_job_error<'a>(
     payload: &'a [u8],
 ) -> Result<Mining<'a>, MsgError>
-    ensures { ReadsMessage mining kinds.SET_CUSTOM_MINING_JOB_ERROR seen payload.now result }
+    ensures { ReadsMining kinds.SET_CUSTOM_MINING_JOB_ERROR payload.now result }
 {
     let mut fields = FieldReader::new(payload);
     let message = SetCustomMiningJobError {

@@ -2,10 +2,9 @@
 
 ghost use Rattle.std.specs.Prelude.{◌≡◌};
 ghost use Rattle.sv2_messages.specs.declared.kinds.TheConstants as kinds;
-ghost use Rattle.sv2_messages.specs.Tables.{mining};
-ghost use Rattle.sv2_messages.specs.Reading.{ReadsMessage};
+ghost use Rattle.sv2_messages.specs.Tables.{mining_table};
 ghost use Rattle.sv2_messages.specs.Writing.{AreFields};
-ghost use Rattle.mining_msgs.specs.Seen.{seen};
+ghost use Rattle.mining_msgs.specs.Seen.{mining_message, ReadsMining};
 
 use crate::message::Mining;
 use sv2_messages::{Field, FieldReader, MsgError};
@@ -27,7 +26,7 @@ pub struct NewMiningJob {
 impl NewMiningJob {
     /// The fields in their order.
     pub(crate) fn fields(&self) -> [Field<'_>; 5]
-        ensures { AreFields mining (seen (Mining.NewMiningJob self.now)) result }
+        ensures { AreFields mining_table (mining_message (Mining.NewMiningJob self.now)) result }
     {
         [
             Field::U32(self.channel_id),
@@ -41,7 +40,7 @@ impl NewMiningJob {
 
 #[tactic(auto, unfolding(sv2_messages::specs::Reading::values_of))]
 pub(crate) fn read_new_mining_job<'a>(payload: &'a [u8]) -> Result<Mining<'a>, MsgError>
-    ensures { ReadsMessage mining kinds.NEW_MINING_JOB seen payload.now result }
+    ensures { ReadsMining kinds.NEW_MINING_JOB payload.now result }
 {
     let mut fields = FieldReader::new(payload);
     let message = NewMiningJob {
@@ -65,7 +64,8 @@ pub struct NewExtendedMiningJob<'a> {
     /// The block header's version.
     pub version: u32,
     pub version_rolling_allowed: bool,
-    /// The hashes beside the coinbase's on the way to the root, each 32 bytes as they stand in a block header.
+    /// The hashes beside the coinbase's on the way to the root, each 32 bytes as they stand in a
+    /// block header.
     pub merkle_path: Seq32<'a>,
     /// The coinbase's bytes before the extranonce, in Bitcoin's raw transaction format.
     pub coinbase_tx_prefix: &'a [u8],
@@ -76,7 +76,8 @@ pub struct NewExtendedMiningJob<'a> {
 impl NewExtendedMiningJob<'_> {
     /// The fields in their order.
     pub(crate) fn fields(&self) -> [Field<'_>; 8]
-        ensures { AreFields mining (seen (Mining.NewExtendedMiningJob self.now)) result }
+        ensures { AreFields mining_table
+            (mining_message (Mining.NewExtendedMiningJob self.now)) result }
     {
         [
             Field::U32(self.channel_id),
@@ -93,7 +94,7 @@ impl NewExtendedMiningJob<'_> {
 
 #[tactic(auto, unfolding(sv2_messages::specs::Reading::values_of))]
 pub(crate) fn read_new_extended_mining_job<'a>(payload: &'a [u8]) -> Result<Mining<'a>, MsgError>
-    ensures { ReadsMessage mining kinds.NEW_EXTENDED_MINING_JOB seen payload.now result }
+    ensures { ReadsMining kinds.NEW_EXTENDED_MINING_JOB payload.now result }
 {
     let mut fields = FieldReader::new(payload);
     let message = NewExtendedMiningJob {
@@ -126,7 +127,7 @@ pub struct SetNewPrevHash {
 impl SetNewPrevHash {
     /// The fields in their order.
     pub(crate) fn fields(&self) -> [Field<'_>; 5]
-        ensures { AreFields mining (seen (Mining.SetNewPrevHash self.now)) result }
+        ensures { AreFields mining_table (mining_message (Mining.SetNewPrevHash self.now)) result }
     {
         [
             Field::U32(self.channel_id),
@@ -140,7 +141,7 @@ impl SetNewPrevHash {
 
 #[tactic(auto, unfolding(sv2_messages::specs::Reading::values_of))]
 pub(crate) fn read_set_new_prev_hash<'a>(payload: &'a [u8]) -> Result<Mining<'a>, MsgError>
-    ensures { ReadsMessage mining kinds.MINING_SET_NEW_PREV_HASH seen payload.now result }
+    ensures { ReadsMining kinds.MINING_SET_NEW_PREV_HASH payload.now result }
 {
     let mut fields = FieldReader::new(payload);
     let message = SetNewPrevHash {

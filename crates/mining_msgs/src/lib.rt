@@ -1,5 +1,5 @@
-//! The common messages and those of the mining protocol, from their payloads and as frames. It takes no memory to read,
-//! and it knows no order in which messages come.
+//! The common messages and those of the mining protocol, from their payloads and as frames. It
+//! takes no memory to read, and it knows no order in which messages come.
 #![tactic(auto)]
 
 mod channels;

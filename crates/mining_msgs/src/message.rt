@@ -1,9 +1,9 @@
 //! The messages as one type.
 
 ghost use Rattle.std.specs.Prelude.{◌≡◌, ◌↔◌, ◌++◌, IsTrue, OnOk, OnErr};
-ghost use Rattle.sv2_messages.specs.Messages.{Fits, message_frame};
-ghost use Rattle.sv2_messages.specs.Tables.{mining};
-ghost use Rattle.mining_msgs.specs.Seen.{seen};
+ghost use Rattle.sv2_messages.specs.Messages.{FitsFrame, message_frame};
+ghost use Rattle.sv2_messages.specs.Tables.{mining_table};
+ghost use Rattle.mining_msgs.specs.Seen.{mining_message};
 
 use crate::channels::{
     CloseChannel, OpenExtendedMiningChannel, OpenExtendedMiningChannelSuccess,
@@ -50,7 +50,7 @@ pub enum Mining<'a> {
 impl Mining<'_> {
     /// The message type of its frame.
     pub fn kind(&self) -> u8
-        ensures { result ≡ (seen self.now).kind }
+        ensures { result ≡ (mining_message self.now).kind }
     {
         match self {
             Mining::SetupConnection(_) => kinds::SETUP_CONNECTION,
@@ -83,7 +83,7 @@ impl Mining<'_> {
 
     /// Whether each field has a spelling of its type, and the payload fewer than 2^24 bytes.
     pub fn fits(&self) -> bool
-        ensures { IsTrue result ↔ Fits mining (seen self.now) }
+        ensures { IsTrue result ↔ FitsFrame mining_table (mining_message self.now) }
     {
         match self {
             Mining::SetupConnection(message) => fits(&message.fields()),
@@ -114,8 +114,9 @@ impl Mining<'_> {
 
     /// Appends the whole frame, or nothing where memory runs out.
     pub fn frame(&self, out: &mut Vec<u8>) -> Result<(), AllocError>
-        requires { Fits mining (seen self.now) }
-        ensures ok { OnOk result (out.new.items ≡ out.old.items ++ message_frame mining (seen self.now)) }
+        requires { FitsFrame mining_table (mining_message self.now) }
+        ensures ok { OnOk result (out.new.items ≡ out.old.items
+            ++ message_frame mining_table (mining_message self.now)) }
         ensures err { OnErr result (out.new.items ≡ out.old.items) }
     {
         let kind = self.kind();

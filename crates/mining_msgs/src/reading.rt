@@ -3,9 +3,9 @@
 ghost use Rattle.std.specs.Prelude.{◌≡◌, ◌↔◌, IfOk, IsOkAnd, IsErrOf};
 ghost use Rattle.sv2_messages.specs.declared.error.MsgError.{MsgError};
 ghost use Rattle.sv2_messages.specs.Messages.{Message, MsgOf};
-ghost use Rattle.sv2_messages.specs.Reading.{ReadsMessage, IsFirstDefect};
-ghost use Rattle.sv2_messages.specs.Tables.{mining};
-ghost use Rattle.mining_msgs.specs.Seen.{seen};
+ghost use Rattle.sv2_messages.specs.Reading.{IsFirstDefect};
+ghost use Rattle.sv2_messages.specs.Tables.{mining_table};
+ghost use Rattle.mining_msgs.specs.Seen.{mining_message, ReadsMining};
 
 use crate::channels::{
     read_close_channel, read_open_extended_mining_channel,
@@ -31,17 +31,19 @@ use sv2_messages::{MsgError, kinds};
 /// Reads a message. What it gives borrows the payload; it takes no memory.
 pub fn read<'a>(kind: u8, payload: &'a [u8]) -> Result<Mining<'a>, MsgError>
     // What is read is the payload's message.
-    ensures found { IfOk result (λ m. MsgOf mining kind payload.now (seen m)) }
+    ensures found { IfOk result (λ m. MsgOf mining_table kind payload.now (mining_message m)) }
     // A payload that is a message's is read as it.
-    ensures only { (m : Message) → MsgOf mining kind payload.now m → IsOkAnd result (λ read. seen read ≡ m) }
+    ensures only { (m : Message) → MsgOf mining_table kind payload.now m
+        → IsOkAnd result (λ read. mining_message read ≡ m) }
     // Else it is the first defect.
-    ensures refused { (e : MsgError) → IsErrOf result e ↔ IsFirstDefect mining kind payload.now e }
+    ensures refused { (e : MsgError) → IsErrOf result e
+        ↔ IsFirstDefect mining_table kind payload.now e }
 {
     read_by_kind(kind, payload)
 }
 
 fn read_by_kind<'a>(kind: u8, payload: &'a [u8]) -> Result<Mining<'a>, MsgError>
-    ensures { ReadsMessage mining kind seen payload.now result }
+    ensures { ReadsMining kind payload.now result }
 {
     match kind {
         kinds::SETUP_CONNECTION => read_setup_connection(payload),

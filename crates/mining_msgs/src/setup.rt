@@ -2,10 +2,9 @@
 
 ghost use Rattle.std.specs.Prelude.{◌≡◌};
 ghost use Rattle.sv2_messages.specs.declared.kinds.TheConstants as kinds;
-ghost use Rattle.sv2_messages.specs.Tables.{mining};
-ghost use Rattle.sv2_messages.specs.Reading.{ReadsMessage};
+ghost use Rattle.sv2_messages.specs.Tables.{mining_table};
 ghost use Rattle.sv2_messages.specs.Writing.{AreFields};
-ghost use Rattle.mining_msgs.specs.Seen.{seen};
+ghost use Rattle.mining_msgs.specs.Seen.{mining_message, ReadsMining};
 
 use crate::message::Mining;
 use sv2_messages::{Field, FieldReader, MsgError};
@@ -30,7 +29,7 @@ pub struct SetupConnection<'a> {
 impl SetupConnection<'_> {
     /// The fields in their order.
     pub(crate) fn fields(&self) -> [Field<'_>; 10]
-        ensures { AreFields mining (seen (Mining.SetupConnection self.now)) result }
+        ensures { AreFields mining_table (mining_message (Mining.SetupConnection self.now)) result }
     {
         [
             Field::U8(self.protocol),
@@ -49,7 +48,7 @@ impl SetupConnection<'_> {
 
 #[tactic(auto, unfolding(sv2_messages::specs::Reading::values_of))]
 pub(crate) fn read_setup_connection<'a>(payload: &'a [u8]) -> Result<Mining<'a>, MsgError>
-    ensures { ReadsMessage mining kinds.SETUP_CONNECTION seen payload.now result }
+    ensures { ReadsMining kinds.SETUP_CONNECTION payload.now result }
 {
     let mut fields = FieldReader::new(payload);
     let message = SetupConnection {
@@ -79,7 +78,8 @@ pub struct SetupConnectionSuccess {
 impl SetupConnectionSuccess {
     /// The fields in their order.
     pub(crate) fn fields(&self) -> [Field<'_>; 2]
-        ensures { AreFields mining (seen (Mining.SetupConnectionSuccess self.now)) result }
+        ensures { AreFields mining_table
+            (mining_message (Mining.SetupConnectionSuccess self.now)) result }
     {
         [Field::U16(self.used_version), Field::U32(self.flags)]
     }
@@ -87,7 +87,7 @@ impl SetupConnectionSuccess {
 
 #[tactic(auto, unfolding(sv2_messages::specs::Reading::values_of))]
 pub(crate) fn read_setup_connection_success<'a>(payload: &'a [u8]) -> Result<Mining<'a>, MsgError>
-    ensures { ReadsMessage mining kinds.SETUP_CONNECTION_SUCCESS seen payload.now result }
+    ensures { ReadsMining kinds.SETUP_CONNECTION_SUCCESS payload.now result }
 {
     let mut fields = FieldReader::new(payload);
     let message = SetupConnectionSuccess {
@@ -98,7 +98,8 @@ pub(crate) fn read_setup_connection_success<'a>(payload: &'a [u8]) -> Result<Min
     Ok(Mining::SetupConnectionSuccess(message))
 }
 
-/// Refuses the connection; the flags are those that are not taken (Stratum V2, "SetupConnection.Error").
+/// Refuses the connection; the flags are those that are not taken (Stratum V2,
+/// "SetupConnection.Error").
 #[derive(Clone, Copy, Debug, PartialEq, Eq)]
 pub struct SetupConnectionError<'a> {
     /// One bit for each feature.
@@ -109,7 +110,8 @@ pub struct SetupConnectionError<'a> {
 impl SetupConnectionError<'_> {
     /// The fields in their order.
     pub(crate) fn fields(&self) -> [Field<'_>; 2]
-        ensures { AreFields mining (seen (Mining.SetupConnectionError self.now)) result }
+        ensures { AreFields mining_table
+            (mining_message (Mining.SetupConnectionError self.now)) result }
     {
         [Field::U32(self.flags), Field::Str255(self.error_code)]
     }
@@ -117,7 +119,7 @@ impl SetupConnectionError<'_> {
 
 #[tactic(auto, unfolding(sv2_messages::specs::Reading::values_of))]
 pub(crate) fn read_setup_connection_error<'a>(payload: &'a [u8]) -> Result<Mining<'a>, MsgError>
-    ensures { ReadsMessage mining kinds.SETUP_CONNECTION_ERROR seen payload.now result }
+    ensures { ReadsMining kinds.SETUP_CONNECTION_ERROR payload.now result }
 {
     let mut fields = FieldReader::new(payload);
     let message = SetupConnectionError {

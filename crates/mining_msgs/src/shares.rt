@@ -2,10 +2,9 @@
 
 ghost use Rattle.std.specs.Prelude.{◌≡◌};
 ghost use Rattle.sv2_messages.specs.declared.kinds.TheConstants as kinds;
-ghost use Rattle.sv2_messages.specs.Tables.{mining};
-ghost use Rattle.sv2_messages.specs.Reading.{ReadsMessage};
+ghost use Rattle.sv2_messages.specs.Tables.{mining_table};
 ghost use Rattle.sv2_messages.specs.Writing.{AreFields};
-ghost use Rattle.mining_msgs.specs.Seen.{seen};
+ghost use Rattle.mining_msgs.specs.Seen.{mining_message, ReadsMining};
 
 use crate::message::Mining;
 use sv2_messages::{Field, FieldReader, MsgError};
@@ -26,7 +25,8 @@ pub struct SubmitSharesStandard {
 impl SubmitSharesStandard {
     /// The fields in their order.
     pub(crate) fn fields(&self) -> [Field<'_>; 6]
-        ensures { AreFields mining (seen (Mining.SubmitSharesStandard self.now)) result }
+        ensures { AreFields mining_table
+            (mining_message (Mining.SubmitSharesStandard self.now)) result }
     {
         [
             Field::U32(self.channel_id),
@@ -41,7 +41,7 @@ impl SubmitSharesStandard {
 
 #[tactic(auto, unfolding(sv2_messages::specs::Reading::values_of))]
 pub(crate) fn read_submit_shares_standard<'a>(payload: &'a [u8]) -> Result<Mining<'a>, MsgError>
-    ensures { ReadsMessage mining kinds.SUBMIT_SHARES_STANDARD seen payload.now result }
+    ensures { ReadsMining kinds.SUBMIT_SHARES_STANDARD payload.now result }
 {
     let mut fields = FieldReader::new(payload);
     let message = SubmitSharesStandard {
@@ -73,7 +73,8 @@ pub struct SubmitSharesExtended<'a> {
 impl SubmitSharesExtended<'_> {
     /// The fields in their order.
     pub(crate) fn fields(&self) -> [Field<'_>; 7]
-        ensures { AreFields mining (seen (Mining.SubmitSharesExtended self.now)) result }
+        ensures { AreFields mining_table
+            (mining_message (Mining.SubmitSharesExtended self.now)) result }
     {
         [
             Field::U32(self.channel_id),
@@ -89,7 +90,7 @@ impl SubmitSharesExtended<'_> {
 
 #[tactic(auto, unfolding(sv2_messages::specs::Reading::values_of))]
 pub(crate) fn read_submit_shares_extended<'a>(payload: &'a [u8]) -> Result<Mining<'a>, MsgError>
-    ensures { ReadsMessage mining kinds.SUBMIT_SHARES_EXTENDED seen payload.now result }
+    ensures { ReadsMining kinds.SUBMIT_SHARES_EXTENDED payload.now result }
 {
     let mut fields = FieldReader::new(payload);
     let message = SubmitSharesExtended {
@@ -118,7 +119,8 @@ pub struct SubmitSharesSuccess {
 impl SubmitSharesSuccess {
     /// The fields in their order.
     pub(crate) fn fields(&self) -> [Field<'_>; 4]
-        ensures { AreFields mining (seen (Mining.SubmitSharesSuccess self.now)) result }
+        ensures { AreFields mining_table
+            (mining_message (Mining.SubmitSharesSuccess self.now)) result }
     {
         [
             Field::U32(self.channel_id),
@@ -131,7 +133,7 @@ impl SubmitSharesSuccess {
 
 #[tactic(auto, unfolding(sv2_messages::specs::Reading::values_of))]
 pub(crate) fn read_submit_shares_success<'a>(payload: &'a [u8]) -> Result<Mining<'a>, MsgError>
-    ensures { ReadsMessage mining kinds.SUBMIT_SHARES_SUCCESS seen payload.now result }
+    ensures { ReadsMining kinds.SUBMIT_SHARES_SUCCESS payload.now result }
 {
     let mut fields = FieldReader::new(payload);
     let message = SubmitSharesSuccess {
@@ -155,7 +157,8 @@ pub struct SubmitSharesError<'a> {
 impl SubmitSharesError<'_> {
     /// The fields in their order.
     pub(crate) fn fields(&self) -> [Field<'_>; 3]
-        ensures { AreFields mining (seen (Mining.SubmitSharesError self.now)) result }
+        ensures { AreFields mining_table
+            (mining_message (Mining.SubmitSharesError self.now)) result }
     {
         [
             Field::U32(self.channel_id),
@@ -167,7 +170,7 @@ impl SubmitSharesError<'_> {
 
 #[tactic(auto, unfolding(sv2_messages::specs::Reading::values_of))]
 pub(crate) fn read_submit_shares_error<'a>(payload: &'a [u8]) -> Result<Mining<'a>, MsgError>
-    ensures { ReadsMessage mining kinds.SUBMIT_SHARES_ERROR seen payload.now result }
+    ensures { ReadsMining kinds.SUBMIT_SHARES_ERROR payload.now result }
 {
     let mut fields = FieldReader::new(payload);
     let message = SubmitSharesError {

@@ -1,4 +1,4 @@
--- Words on lists that the standard library lacks.
+-- Words on lists that the standard library lacks (this project's own).
 use Rattle.std.specs.Prelude.{◌≡◌, List, ◌++◌}
 
 -- the first list begins the second

@@ -25,7 +25,7 @@ impl<R: Read + Drop> ReadSource<R> {
 
 impl<R: Read + Drop> Source for ReadSource<R> {
     ghost use Rattle.std.specs.Prelude.{None, ◌<◌, ◌≤◌, length};
-    ghost use Rattle.pool_io.specs.Outside.{IsWithin, Takes, CountsFailure, is_failed_take};
+    ghost use Rattle.pool_io.specs.Outside.{IsWithinRoom, Takes, CountsFailure, is_failed_take};
     ghost use Rattle.pool_cli.specs.Edges.{ReadsOn};
 
     ghost faults = { λ s. s.faults };
@@ -34,7 +34,7 @@ impl<R: Read + Drop> Source for ReadSource<R> {
 
     fn take(&mut self, buffer: &mut [u8]) -> Took
         requires { 0 < length buffer.old }
-        ensures bound { IsWithin result (length buffer.new) }
+        ensures bound { IsWithinRoom result (length buffer.new) }
         ensures turns { Takes None None result buffer.new }
         ensures counts { CountsFailure (is_failed_take result) self.old.faults self.new.faults }
 

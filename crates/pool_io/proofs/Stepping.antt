@@ -4,10 +4,10 @@ use Rattle.std.proofs.lemmas.List.{take-append-drop, map-append, length-map}
 use Rattle.pool_io.specs.declared.turn.Turn.{Turn}
 use Rattle.pool_io.specs.declared.turn.Turn.TheVariants as turn
 use Rattle.pool_io.specs.declared.source.Took.TheVariants.{Bytes, Idle, End}
-use Rattle.pool_io.specs.Outside.{Takes, TakesBytes, rest_of, IsEnded}
-use Rattle.pool_io.specs.Steps.{Step, steps_of, bytes_in, idles_after, Bounds, IsAtLimit, IsFree, IsFreeBefore, Brought}
+use Rattle.pool_io.specs.Outside.{Takes, TakesBytes, turns_behind, IsEnded}
+use Rattle.pool_io.specs.Steps.{ReadStep, steps_of, bytes_in, idles_after, Bounds, IsAtLimit, IsFree, IsFreeBefore, Brought}
 
-pub bytes_in-append : (a b : List Step) → bytes_in (a ++ b) ≡ bytes_in a ++ bytes_in b
+pub bytes_in-append : (a b : List ReadStep) → bytes_in (a ++ b) ≡ bytes_in a ++ bytes_in b
 bytes_in-append [] b = refl
 bytes_in-append (Some byte ∷ a) b = ap (λ l. byte ∷ l) (bytes_in-append a b)
 bytes_in-append (None ∷ a) b = bytes_in-append a b
@@ -16,13 +16,13 @@ pub bytes_in-map : (bytes : List ℕ) → bytes_in (map Some bytes) ≡ bytes
 bytes_in-map [] = refl
 bytes_in-map (b ∷ bytes) = ap (λ l. b ∷ l) (bytes_in-map bytes)
 
-pub bytes_in-more : (steps : List Step) (bytes : List ℕ) → bytes_in (steps ++ map Some bytes) ≡ bytes_in steps ++ bytes
+pub bytes_in-more : (steps : List ReadStep) (bytes : List ℕ) → bytes_in (steps ++ map Some bytes) ≡ bytes_in steps ++ bytes
 bytes_in-more steps bytes = bytes_in-append steps (map Some bytes) ∙ ap (λ l. bytes_in steps ++ l) (bytes_in-map bytes)
 
-pub bytes_in-idle : (steps : List Step) → bytes_in (steps ++ None ∷ []) ≡ bytes_in steps
+pub bytes_in-idle : (steps : List ReadStep) → bytes_in (steps ++ None ∷ []) ≡ bytes_in steps
 bytes_in-idle steps = bytes_in-append steps (None ∷ []) ∙ append-nil (bytes_in steps)
 
-pub idles_after-append : (n : ℕ) (a b : List Step) → idles_after n (a ++ b) ≡ idles_after (idles_after n a) b
+pub idles_after-append : (n : ℕ) (a b : List ReadStep) → idles_after n (a ++ b) ≡ idles_after (idles_after n a) b
 idles_after-append n [] b = refl
 idles_after-append n (Some byte ∷ a) b = idles_after-append 0 a b
 idles_after-append n (None ∷ a) b = idles_after-append (n + 1) a b
@@ -36,10 +36,10 @@ idles_after-map n [] some = absurd (omega arith)
 idles_after-map n (b ∷ bytes) some = idles_after-from_zero bytes
 
 -- bytes end a row of Idle answers
-pub idles_after-more : (steps : List Step) (bytes : List ℕ) → 0 < length bytes → idles_after 0 (steps ++ map Some bytes) ≡ 0
+pub idles_after-more : (steps : List ReadStep) (bytes : List ℕ) → 0 < length bytes → idles_after 0 (steps ++ map Some bytes) ≡ 0
 idles_after-more steps bytes some = idles_after-append 0 steps (map Some bytes) ∙ idles_after-map (idles_after 0 steps) bytes some
 
-pub idles_after-idle : (steps : List Step) → idles_after 0 (steps ++ None ∷ []) ≡ idles_after 0 steps + 1
+pub idles_after-idle : (steps : List ReadStep) → idles_after 0 (steps ++ None ∷ []) ≡ idles_after 0 steps + 1
 idles_after-idle steps = idles_after-append 0 steps (None ∷ [])
 
 -- where a front of a list that is put together ends: in its first part, or later
@@ -59,7 +59,7 @@ front_of (y ∷ a) b (z ∷ front) x rest split =
     ]
 
 -- a front of bytes is bytes
-front_of_map : (bytes : List ℕ) (part : List Step) (x : Step) (rest : List Step) → map Some bytes ≡ part ++ x ∷ rest
+front_of_map : (bytes : List ℕ) (part : List ReadStep) (x : ReadStep) (rest : List ReadStep) → map Some bytes ≡ part ++ x ∷ rest
     → (some : List ℕ) × (part ≡ map Some some) × (length some < length bytes)
 front_of_map [] [] x rest split = cc
 front_of_map [] (y ∷ part) x rest split = cc
@@ -70,7 +70,7 @@ front_of_map (b ∷ bytes) (y ∷ part) x rest split =
     let rest_is = front_of_map bytes part x rest tail in
     (b ∷ rest_is.0, ap (λ l. y ∷ l) rest_is.1 ∙ ap (λ z. z ∷ map Some rest_is.0) (sym head), omega (arith, rest_is.2))
 
-module _ (bounds : Bounds) (steps : List Step) (free : IsFree bounds steps) where
+module _ (bounds : Bounds) (steps : List ReadStep) (free : IsFree bounds steps) where
   -- an Idle answer more
   pub free_idle : IsFreeBefore bounds (steps ++ None ∷ [])
   free_idle front x rest split at =
@@ -98,13 +98,13 @@ module _ (bounds : Bounds) (steps : List Step) (free : IsFree bounds steps) wher
       ]
 
 -- no limit is reached by the bytes that were taken
-pub within_limits : (bounds : Bounds) (steps : List Step) → idles_after 0 steps < bounds.idle_turns → length (bytes_in steps) < bounds.bytes → IsAtLimit bounds steps → ⊥
+pub within_limits : (bounds : Bounds) (steps : List ReadStep) → idles_after 0 steps < bounds.idle_turns → length (bytes_in steps) < bounds.bytes → IsAtLimit bounds steps → ⊥
 within_limits bounds steps idles bytes (inl idle) = omega (arith, idle)
 within_limits bounds steps idles bytes (inr out) = omega (arith, out)
 
-steps_of-rest_of : (bytes : List ℕ) (later : List Turn) → steps_of (rest_of bytes later) ≡ map Some bytes ++ steps_of later
-steps_of-rest_of [] later = refl
-steps_of-rest_of (b ∷ bytes) later = refl
+steps_of-turns_behind : (bytes : List ℕ) (later : List Turn) → steps_of (turns_behind bytes later) ≡ map Some bytes ++ steps_of later
+steps_of-turns_behind [] later = refl
+steps_of-turns_behind (b ∷ bytes) later = refl
 
 pub steps_of-ended : (turns : List Turn) → IsEnded turns → steps_of turns ≡ []
 steps_of-ended [] ended = refl
@@ -119,7 +119,7 @@ steps_of-taken old new n buffer takes =
     ap steps_of takes.next
     ∙ sym (
     ap (λ t. map Some (take n buffer) ++ steps_of t) takes.rest
-    ∙ ap (λ l. map Some (take n buffer) ++ l) (steps_of-rest_of (drop n takes.piece) takes.later)
+    ∙ ap (λ l. map Some (take n buffer) ++ l) (steps_of-turns_behind (drop n takes.piece) takes.later)
     ∙ ap (λ l. map Some l ++ (map Some (drop n takes.piece) ++ steps_of takes.later)) takes.taken
     ∙ sym (append_assoc (map Some (take n takes.piece)) (map Some (drop n takes.piece)) (steps_of takes.later))
     ∙ ap (λ l. l ++ steps_of takes.later) joined)
@@ -130,7 +130,7 @@ brought_none None = tt
 brought_none (Some turns) = (turns, refl, refl)
 
 -- bytes were taken
-pub brought_bytes : (turns old new : Option (List Turn)) (steps : List Step) (n : ℕ) (buffer : List ℕ)
+pub brought_bytes : (turns old new : Option (List Turn)) (steps : List ReadStep) (n : ℕ) (buffer : List ℕ)
     → Brought turns old steps → Takes old new (Bytes n) buffer → Brought turns new (steps ++ map Some (take n buffer))
 brought_bytes None old new steps n buffer brought takes = tt
 brought_bytes (Some told) old new steps n buffer brought takes =
@@ -142,7 +142,7 @@ brought_bytes (Some told) old new steps n buffer brought takes =
     )
 
 -- an Idle answer came
-pub brought_idle : (turns old new : Option (List Turn)) (steps : List Step) (buffer : List ℕ)
+pub brought_idle : (turns old new : Option (List Turn)) (steps : List ReadStep) (buffer : List ℕ)
     → Brought turns old steps → Takes old new Idle buffer → Brought turns new (steps ++ None ∷ [])
 brought_idle None old new steps buffer brought takes = tt
 brought_idle (Some told) old new steps buffer brought takes =
@@ -153,7 +153,7 @@ brought_idle (Some told) old new steps buffer brought takes =
     )
 
 -- End came: these are all steps
-pub brought_all : (told : List Turn) (old new : Option (List Turn)) (steps : List Step) (buffer : List ℕ)
+pub brought_all : (told : List Turn) (old new : Option (List Turn)) (steps : List ReadStep) (buffer : List ℕ)
     → Brought (Some told) old steps → Takes old new End buffer → steps_of told ≡ steps
 brought_all told old new steps buffer brought takes =
     let took = rw brought.1 at takes in

@@ -4,7 +4,7 @@ use Rattle.std.proofs.lemmas.List.{drop-drop, take_at, length-take-le}
 use Rattle.std.proofs.Math.Seq.{take-length}
 use Rattle.pool_io.specs.declared.turn.Turn.{Turn}
 use Rattle.pool_io.specs.declared.turn.Turn.TheVariants.{Piece}
-use Rattle.pool_io.specs.Outside.{rest_of, TakesBytes}
+use Rattle.pool_io.specs.Outside.{turns_behind, TakesBytes}
 use Rattle.pool_io.specs.Taking.{turns_from}
 
 -- what is left of a piece is the first turn
@@ -12,11 +12,11 @@ turns_from-piece : (taken : ℕ) (piece : List ℕ) (later : List Turn) → turn
 turns_from-piece zero piece later = refl
 turns_from-piece (suc n) piece later = refl
 
-rest_of-some : (bytes : List ℕ) (later : List Turn) → 0 < length bytes → rest_of bytes later ≡ Piece bytes ∷ later
+rest_of-some : (bytes : List ℕ) (later : List Turn) → 0 < length bytes → turns_behind bytes later ≡ Piece bytes ∷ later
 rest_of-some [] later some = absurd (omega arith)
 rest_of-some (b ∷ bytes) later some = refl
 
-rest_of-none : (bytes : List ℕ) (later : List Turn) → length bytes ≡ 0 → rest_of bytes later ≡ later
+rest_of-none : (bytes : List ℕ) (later : List Turn) → length bytes ≡ 0 → turns_behind bytes later ≡ later
 rest_of-none [] later none = refl
 rest_of-none (b ∷ bytes) later none = absurd (omega arith)
 

@@ -10,14 +10,14 @@ use Rattle.pool_io.specs.declared.host.HostError.{HostError}
 use Rattle.pool_io.specs.declared.host.HostError.TheVariants as host
 
 -- a count of bytes that was taken is from 1 to the room
-abbrev pub IsWithin : Took → ℕ → Type 0
-IsWithin (Bytes n) room = (0 < n) × (n ≤ room)
-IsWithin _ room = Unit {0}
+abbrev pub IsWithinRoom : Took → ℕ → Type 0
+IsWithinRoom (Bytes n) room = (0 < n) × (n ≤ room)
+IsWithinRoom _ room = Unit {0}
 
 -- the rest of a piece, if there is any, and then the later turns
-abbrev pub rest_of : List ℕ → List Turn → List Turn
-rest_of [] turns = turns
-rest_of (byte ∷ bytes) turns = turn.Piece (byte ∷ bytes) ∷ turns
+abbrev pub turns_behind : List ℕ → List Turn → List Turn
+turns_behind [] turns = turns
+turns_behind (byte ∷ bytes) turns = turn.Piece (byte ∷ bytes) ∷ turns
 
 -- nothing comes any more
 abbrev pub IsEnded : List Turn → Type 0
@@ -33,7 +33,7 @@ pub record TakesBytes (old new : List Turn) (n : ℕ) (buffer : List ℕ) : Type
   pub next : old ≡ turn.Piece piece ∷ later
   pub enough : n ≤ length piece
   pub taken : take n buffer ≡ take n piece
-  pub rest : new ≡ rest_of (drop n piece) later
+  pub rest : new ≡ turns_behind (drop n piece) later
 
 -- one answer of a source takes the old turns to the new ones; after End comes End, and a failure takes nothing
 abbrev pub TakesFrom : List Turn → List Turn → Took → List ℕ → Type 0

@@ -4,7 +4,7 @@ use Rattle.pool_base.specs.Lists.{Begins}
 use Rattle.pool_io.specs.declared.turn.Turn.{Turn}
 use Rattle.pool_io.specs.declared.source.Took.TheVariants as took
 use Rattle.pool_io.specs.Outside.{Adds, Takes}
-use Rattle.pool_io.specs.Steps.{Step, bytes_in, steps_of, idles_after, IsIdleOut, IsBytesOut, Brought}
+use Rattle.pool_io.specs.Steps.{ReadStep, bytes_in, steps_of, idles_after, IsIdleOut, IsBytesOut, Brought}
 use Rattle.pool_io.proofs.Stepping.{bytes_in-more, bytes_in-idle, idles_after-more, idles_after-idle, free_bytes, free_idle, within_limits, brought_none, brought_all}
 use Rattle.pool_turns.specs.declared.end.End.{End}
 use Rattle.pool_turns.specs.declared.end.End.TheVariants as end
@@ -34,9 +34,9 @@ memory_first duty sound turns before = record {
 }
 
 module _ (duty : Duty) (HasRead : List ℕ → List ℕ → Type 0) (so_far : (bytes text : List ℕ) → HasRead bytes text → duty.SoFar bytes text)
-    (tally : Tally) (before now : Option (List ℕ)) (steps : List Step) (answered : HasAnswered HasRead tally before now steps) where
+    (tally : Tally) (before now : Option (List ℕ)) (steps : List ReadStep) (answered : HasAnswered HasRead tally before now steps) where
   -- what was put is owed for a front of the steps
-  pub memory_ends : (more : List Step) → EndsAfter duty before now (steps ++ more) end.Memory
+  pub memory_ends : (more : List ReadStep) → EndsAfter duty before now (steps ++ more) end.Memory
   memory_ends more = record {
     given = answered.given;
     put = answered.put;
@@ -116,7 +116,7 @@ module _ (duty : Duty) (HasRead : List ℕ → List ℕ → Type 0) (so_far : (b
     cut_some cut = inr (inl (inr (record { owed = cut; free = answered.free })))
 
     -- a put of a text that failed: the sink has a front of it
-    front_owed : (all : List Step) (front : List ℕ) → OwesSome duty all (answered.given ++ text) → Begins front text → OwesFront duty all (answered.given ++ front)
+    front_owed : (all : List ReadStep) (front : List ℕ) → OwesSome duty all (answered.given ++ text) → Begins front text → OwesFront duty all (answered.given ++ front)
     front_owed all front owed begins =
         (answered.given ++ text, owed, (begins.0, append_assoc answered.given front begins.0 ∙ ap (λ l. answered.given ++ l) begins.1))
 
@@ -130,7 +130,7 @@ module _ (duty : Duty) (HasRead : List ℕ → List ℕ → Type 0) (so_far : (b
       pub put_memory_ends_at : OwesSome duty steps (answered.given ++ text) → EndsAt duty before after steps end.Memory
       put_memory_ends_at owed = record { given = answered.given ++ put.0; put = added; ends = front_owed steps put.0 owed put.1 }
 
-      module _ (more : List Step) (owed : (rest : List Step) → OwesSome duty ((steps ++ more) ++ rest) (answered.given ++ text)) where
+      module _ (more : List ReadStep) (owed : (rest : List ReadStep) → OwesSome duty ((steps ++ more) ++ rest) (answered.given ++ text)) where
         pub put_fault_ends : EndsAfter duty before after (steps ++ more) end.WriteFault
         put_fault_ends = record { given = answered.given ++ put.0; put = added; ends = λ rest. front_owed ((steps ++ more) ++ rest) put.0 (owed rest) put.1 }
 
@@ -145,7 +145,7 @@ module _ (duty : Duty) (HasRead : List ℕ → List ℕ → Type 0) (so_far : (b
     pub short : length (bytes_in steps ++ piece) ≤ 2 ^ 40
     short = omega (arith, room_left, length-append (bytes_in steps) piece)
 
-    refusal : RefusesWithin HasRead duty.Refused piece [] text → (rest : List Step) → OwesRefusal duty ((steps ++ map Some piece) ++ rest) (answered.given ++ text)
+    refusal : RefusesWithin HasRead duty.Refused piece [] text → (rest : List ReadStep) → OwesRefusal duty ((steps ++ map Some piece) ++ rest) (answered.given ++ text)
     refusal refused rest =
         let shorter : length (bytes_in steps) + length refused.front ≤ 2 ^ 40 = omega (arith, room_left, ap length refused.split, length-append refused.front refused.rest) in
         let read : HasRead (bytes_in steps) (answered.given ++ []) = rw (append-nil answered.given) answered.read in
@@ -157,7 +157,7 @@ module _ (duty : Duty) (HasRead : List ℕ → List ℕ → Type 0) (so_far : (b
           free = free_bytes bounds steps answered.free refused.front (omega arith) shorter;
         }
 
-    pub refused_some : RefusesWithin HasRead duty.Refused piece [] text → (rest : List Step) → OwesSome duty ((steps ++ map Some piece) ++ rest) (answered.given ++ text)
+    pub refused_some : RefusesWithin HasRead duty.Refused piece [] text → (rest : List ReadStep) → OwesSome duty ((steps ++ map Some piece) ++ rest) (answered.given ++ text)
     refused_some refused rest = inr (inl (inl (refusal refused rest)))
 
     pub refused_ends : (after : Option (List ℕ)) → RefusesWithin HasRead duty.Refused piece [] text → Adds now after text
@@ -174,7 +174,7 @@ module _ (duty : Duty) (HasRead : List ℕ → List ℕ → Type 0) (so_far : (b
       owed : duty.SoFar (bytes_in (steps ++ map Some piece)) (answered.given ++ text)
       owed = rw (bytes_in-more steps piece) (so_far_more (bytes_in steps ++ piece) (answered.given ++ text) read)
 
-      pub read_some : (rest : List Step) → OwesSome duty ((steps ++ map Some piece) ++ rest) (answered.given ++ text)
+      pub read_some : (rest : List ReadStep) → OwesSome duty ((steps ++ map Some piece) ++ rest) (answered.given ++ text)
       read_some rest = inl (steps ++ map Some piece, rest, refl, owed)
 
       module _ (after : Option (List ℕ)) (put : Adds now after text) where
@@ -210,7 +210,7 @@ module _ (duty : Duty) (HasRead : List ℕ → List ℕ → Type 0) (so_far : (b
             }
 
 -- what happened after the steps happened in the run
-pub turns_on : (duty : Duty) (HasRead : List ℕ → List ℕ → Type 0) (tally : Tally) (turns left : Option (List Turn)) (before now : Option (List ℕ)) (steps : List Step) (result : Option End)
+pub turns_on : (duty : Duty) (HasRead : List ℕ → List ℕ → Type 0) (tally : Tally) (turns left : Option (List Turn)) (before now : Option (List ℕ)) (steps : List ReadStep) (result : Option End)
     → Brought turns left steps → GoesOnOrEnds duty HasRead tally before now steps result → TurnsOnOrEnds duty HasRead tally turns left before now result
 turns_on duty HasRead tally turns left before now steps None brought answered = record { steps = steps; brought = brought; answered = answered }
 turns_on duty HasRead tally None left before now steps (Some end) brought ends =
@@ -226,7 +226,7 @@ turns_on duty HasRead tally (Some turns) left before now steps (Some end) brough
 }
 
 -- the end of the input
-pub turns_to_end : (duty : Duty) (turns old left : Option (List Turn)) (before now : Option (List ℕ)) (steps : List Step) (buffer : List ℕ) (end : End)
+pub turns_to_end : (duty : Duty) (turns old left : Option (List Turn)) (before now : Option (List ℕ)) (steps : List ReadStep) (buffer : List ℕ) (end : End)
     → Brought turns old steps → Takes old left took.End buffer → EndsAt duty before now steps end → EndsRun duty turns left before now end
 turns_to_end duty None old left before now steps buffer end brought takes ends =
     record { taken = steps; brought = tt; given = ends.given; put = ends.put; ends = λ told is. cc }
@@ -242,7 +242,7 @@ turns_to_end duty (Some turns) old left before now steps buffer end brought take
 
 -- a failed read leaves the turns
 pub turns_to_fault : (duty : Duty) (HasRead : List ℕ → List ℕ → Type 0) → ((bytes text : List ℕ) → HasRead bytes text → duty.SoFar bytes text)
-    → (tally : Tally) (turns old left : Option (List Turn)) (before now : Option (List ℕ)) (steps : List Step) (buffer : List ℕ)
+    → (tally : Tally) (turns old left : Option (List Turn)) (before now : Option (List ℕ)) (steps : List ReadStep) (buffer : List ℕ)
     → Brought turns old steps → Takes old left took.Failed buffer → HasAnswered HasRead tally before now steps → EndsRun duty turns left before now end.ReadFault
 turns_to_fault duty HasRead so_far tally turns old left before now steps buffer brought takes answered = record {
   taken = steps;

@@ -1,7 +1,7 @@
 -- Fronts of the steps of a reading, and which of them reach a limit.
 use Rattle.std.proofs.Common.{◌≡◌, ℕ, ◌+◌, ◌<◌, List, [], ◌∷◌, ◌++◌, map, Some, None, refl, sym, ap, ◌∙◌, append_assoc, append-nil, arith, inl, inr}
 use Rattle.std.proofs.lemmas.List.{map-append}
-use Rattle.pool_io.specs.Steps.{Step, bytes_in, idles_after, IsAtLimit, IsFree, IsFreeBefore, IsIdleOut, IsBytesOut}
+use Rattle.pool_io.specs.Steps.{ReadStep, bytes_in, idles_after, IsAtLimit, IsFree, IsFreeBefore, IsIdleOut, IsBytesOut}
 use Rattle.pool_io.proofs.Stepping.{bytes_in-idle}
 use Rattle.pool_turns.specs.Limits.{bounds}
 
@@ -12,7 +12,7 @@ free_none = (
   λ at. none_at at,
 )
   where
-    none_before : (front : List Step) (x : Step) (rest : List Step) → [] ≡ front ++ x ∷ rest → ⊥
+    none_before : (front : List ReadStep) (x : ReadStep) (rest : List ReadStep) → [] ≡ front ++ x ∷ rest → ⊥
     none_before [] x rest split = cc
     none_before (y ∷ front) x rest split = cc
 
@@ -21,11 +21,11 @@ free_none = (
     none_at (inr out) = omega (arith, out)
 
 -- an empty list at the end
-pub no_more : (steps rest : List Step) → (steps ++ []) ++ rest ≡ steps ++ rest
+pub no_more : (steps rest : List ReadStep) → (steps ++ []) ++ rest ≡ steps ++ rest
 no_more steps rest = ap (λ l. l ++ rest) (append-nil steps)
 
 -- a piece and what follows it, cut within the piece
-pub cut_at : (steps : List Step) (piece part left : List ℕ) (rest : List Step) → piece ≡ part ++ left
+pub cut_at : (steps : List ReadStep) (piece part left : List ℕ) (rest : List ReadStep) → piece ≡ part ++ left
     → (steps ++ map Some piece) ++ rest ≡ (steps ++ map Some part) ++ (map Some left ++ rest)
 cut_at steps piece part left rest split =
     ap (λ p. (steps ++ map Some p) ++ rest) split
@@ -50,12 +50,12 @@ fronts_of (p ∷ a) (q ∷ b) x y same =
     ]
 
 -- a limit that a front reaches isn't free
-pub free_of : (steps front rest : List Step) → IsFree bounds steps → steps ≡ front ++ rest → IsAtLimit bounds front → ⊥
+pub free_of : (steps front rest : List ReadStep) → IsFree bounds steps → steps ≡ front ++ rest → IsAtLimit bounds front → ⊥
 free_of steps front [] free split at = free.1 (rw (split, append-nil front) at)
 free_of steps front (x ∷ rest) free split at = free.0 front x rest split at
 
 -- a row of Idle answers ends with one
-last_idle : (n : ℕ) (x : Step) (steps : List Step) → 0 < idles_after n (x ∷ steps) → (front : List Step) × (x ∷ steps ≡ front ++ None ∷ [])
+last_idle : (n : ℕ) (x : ReadStep) (steps : List ReadStep) → 0 < idles_after n (x ∷ steps) → (front : List ReadStep) × (x ∷ steps ≡ front ++ None ∷ [])
 last_idle n (Some byte) [] some = absurd (omega arith)
 last_idle n None [] some = ([], refl)
 last_idle n (Some byte) (y ∷ steps) some =
@@ -64,7 +64,7 @@ last_idle n None (y ∷ steps) some =
     let more = last_idle (n + 1) y steps some in (None ∷ more.0, ap (λ l. None ∷ l) more.1)
 
 -- the same steps don't reach both limits first
-not_both : (front : List Step) → IsFreeBefore bounds front → IsIdleOut bounds front → IsBytesOut bounds front → ⊥
+not_both : (front : List ReadStep) → IsFreeBefore bounds front → IsIdleOut bounds front → IsBytesOut bounds front → ⊥
 not_both [] free idle out = omega (arith, idle)
 not_both (x ∷ steps) free idle out =
     let last = last_idle 0 x steps (omega (arith, idle)) in
@@ -72,7 +72,7 @@ not_both (x ∷ steps) free idle out =
     free last.0 None [] last.1 (inr (rw same at out))
 
 -- one list of steps doesn't reach both limits first
-pub idle_or_bytes : (idle out rest more : List Step) → idle ++ rest ≡ out ++ more → IsFreeBefore bounds idle → IsFreeBefore bounds out
+pub idle_or_bytes : (idle out rest more : List ReadStep) → idle ++ rest ≡ out ++ more → IsFreeBefore bounds idle → IsFreeBefore bounds out
     → IsIdleOut bounds idle → IsBytesOut bounds out → ⊥
 idle_or_bytes idle out rest more same idle_free out_free idle_reached out_reached =
     elim (fronts_of idle out rest more same) [

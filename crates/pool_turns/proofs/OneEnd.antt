@@ -1,6 +1,6 @@
 -- The steps that a source brings decide the end, but for faults and want of memory.
 use Rattle.std.proofs.Common.{◌≡◌, ℕ, List, ◌++◌, refl, sym, ap, subst, ◌∙◌, inl, inr}
-use Rattle.pool_io.specs.Steps.{Step, bytes_in, IsAtLimit, IsIdleOut, IsBytesOut}
+use Rattle.pool_io.specs.Steps.{ReadStep, bytes_in, IsAtLimit, IsIdleOut, IsBytesOut}
 use Rattle.pool_io.proofs.Stepping.{bytes_in-append}
 use Rattle.pool_turns.specs.declared.end.End.{End}
 use Rattle.pool_turns.specs.declared.end.End.TheVariants as end
@@ -10,14 +10,14 @@ use Rattle.pool_turns.specs.Owing.{OwesWhole, OwesRefused, OwesAtLimit, EndsWith
 use Rattle.pool_turns.specs.Ending.{EndsAs, DecideEnd}
 use Rattle.pool_turns.proofs.Fronts.{longer, shorter, fronts_of, free_of, idle_or_bytes}
 
-module _ (duty : Duty) (sound : IsSoundDuty duty) (steps : List Step) where
+module _ (duty : Duty) (sound : IsSoundDuty duty) (steps : List ReadStep) where
   whole_refused : (text other : List ℕ) → OwesWhole duty steps text → OwesRefused duty steps other → ⊥
   whole_refused text other whole (inl refusal) =
       let bytes : bytes_in steps ≡ bytes_in refusal.front ++ bytes_in refusal.rest = ap bytes_in refusal.split ∙ bytes_in-append refusal.front refusal.rest in
       sound.whole_or_refused (bytes_in refusal.front) (bytes_in refusal.rest) text other (subst (λ (b : List ℕ). duty.Whole b text) bytes whole.owed) refusal.owed
   whole_refused text other whole (inr cut) = sound.whole_or_cut (bytes_in steps) text other whole.owed cut.owed
 
-  module _ (IsOut : List Step → Type 0) (at : (front : List Step) → IsOut front → IsAtLimit bounds front) where
+  module _ (IsOut : List ReadStep → Type 0) (at : (front : List ReadStep) → IsOut front → IsAtLimit bounds front) where
     whole_limit : (text other : List ℕ) → OwesWhole duty steps text → OwesAtLimit duty IsOut steps other → ⊥
     whole_limit text other whole limit = free_of steps limit.front limit.rest whole.free limit.split (at limit.front limit.reached.0)
 
@@ -31,17 +31,17 @@ module _ (duty : Duty) (sound : IsSoundDuty duty) (steps : List Step) where
         ]
     refused_limit text other (inr cut) limit = free_of steps limit.front limit.rest cut.free limit.split (at limit.front limit.reached.0)
 
-  at_idle : (front : List Step) → IsIdleOut bounds front → IsAtLimit bounds front
+  at_idle : (front : List ReadStep) → IsIdleOut bounds front → IsAtLimit bounds front
   at_idle front out = inl out
 
-  at_bytes : (front : List Step) → IsBytesOut bounds front → IsAtLimit bounds front
+  at_bytes : (front : List ReadStep) → IsBytesOut bounds front → IsAtLimit bounds front
   at_bytes front out = inr out
 
   idle_bytes : (text other : List ℕ) → OwesAtLimit duty (IsIdleOut bounds) steps text → OwesAtLimit duty (IsBytesOut bounds) steps other → ⊥
   idle_bytes text other idle out =
       idle_or_bytes idle.front out.front idle.rest out.rest (sym idle.split ∙ out.split) idle.reached.1 out.reached.1 idle.reached.0 out.reached.0
 
-  module _ (taken : List Step) (given text : List ℕ) where
+  module _ (taken : List ReadStep) (given text : List ℕ) where
     whole_ends : (e : End) → EndsWith duty taken steps given e → OwesWhole duty steps text → EndsAs end.Done e
     whole_ends end.Done ends whole = inl refl
     whole_ends end.Refused ends whole = absurd (whole_refused text given whole ends)
@@ -78,7 +78,7 @@ module _ (duty : Duty) (sound : IsSoundDuty duty) (steps : List Step) where
     bytes_ends end.WriteFault ends limit = inr tt
     bytes_ends end.Memory ends limit = inr tt
 
-  pub one_end : (taken : List Step) (given : List ℕ) (e : End) → EndsWith duty taken steps given e → DecideEnd duty steps e
+  pub one_end : (taken : List ReadStep) (given : List ℕ) (e : End) → EndsWith duty taken steps given e → DecideEnd duty steps e
   one_end taken given e ends = record {
     whole = λ text. whole_ends taken given text e ends;
     refused = λ text. refused_ends taken given text e ends;

@@ -2,7 +2,7 @@
 use Rattle.std.specs.Prelude.{ℕ, ◌≡◌, ◌⊎◌, Bool, true, false, List, Option, Some, None}
 use Rattle.pool_io.specs.declared.turn.Turn.{Turn}
 use Rattle.pool_io.specs.Outside.{Adds}
-use Rattle.pool_io.specs.Steps.{Step, steps_of, Brought, IsIdleOut, IsBytesOut}
+use Rattle.pool_io.specs.Steps.{ReadStep, steps_of, Brought, IsIdleOut, IsBytesOut}
 use Rattle.pool_turns.specs.Duties.{Duty}
 use Rattle.pool_turns.specs.Limits.{bounds}
 use Rattle.pool_turns.specs.Owing.{OwesWhole, OwesRefused, OwesAtLimit, EndsWith}
@@ -11,7 +11,7 @@ use Rattle.pool_turns.specs.declared.end.End.TheVariants.{Done, Refused, IdleOut
 
 -- between these turns to come and these held bytes, before and after: the steps taken, the text put, and what the end says of them
 pub record EndsRun (duty : Duty) (turns left : Option (List Turn)) (before after : Option (List ℕ)) (end : End) : Type 0 where
-  pub taken : List Step
+  pub taken : List ReadStep
   pub brought : Brought turns left taken
   pub given : List ℕ
   pub put : Adds before after given
@@ -32,7 +32,7 @@ abbrev pub EndsAs : End → End → Type 0
 EndsAs wanted end = (end ≡ wanted) ⊎ IsOutsideEnd end
 
 -- the steps that the source tells decide the end, but for a fault or want of memory
-pub record DecideEnd (duty : Duty) (steps : List Step) (end : End) : Type 0 where
+pub record DecideEnd (duty : Duty) (steps : List ReadStep) (end : End) : Type 0 where
   pub whole : (text : List ℕ) → OwesWhole duty steps text → EndsAs Done end
   pub refused : (text : List ℕ) → OwesRefused duty steps text → EndsAs Refused end
   pub idle_out : (text : List ℕ) → OwesAtLimit duty (IsIdleOut bounds) steps text → EndsAs IdleOut end

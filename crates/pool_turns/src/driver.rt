@@ -3,7 +3,7 @@
 ghost use Rattle.std.specs.Prelude.{◌≡◌, ◌≤◌, ◌<◌, ◌+◌, ◌^◌, ℕ, List, [], ◌∷◌, ◌++◌, Option, Some, None, length, map, IfNone, IfOk, Bool, false};
 ghost use Rattle.pool_io.specs.declared.turn.Turn.{Turn};
 ghost use Rattle.pool_io.specs.Outside.{CountsFailure};
-ghost use Rattle.pool_io.specs.Steps.{Step, steps_of};
+ghost use Rattle.pool_io.specs.Steps.{ReadStep, steps_of};
 ghost use Rattle.pool_turns.specs.Between.{IsBelowLimits, HasAnswered, EndsAt, GoesOnOrEnds, IsInRun, TurnsOnOrEnds, turns_left};
 ghost use Rattle.pool_turns.specs.Ending.{EndsRun, DecideEnd, is_read_fault, is_write_fault};
 
@@ -46,7 +46,7 @@ impl<C: StreamCommand> Reading<C> {
         ensures ready { IfNone result (C.is_ready self.new.command) }
         ensures below { IfNone result (IsBelowLimits self.new.tally) }
         ensures nearer { IfNone result (turns_left self.new.tally < turns_left self.old.tally) }
-        ensures goes { (before : Option (List ℕ)) (steps : List Step) → HasAnswered (C.has_read self.old.command) self.old.tally before (T.held sink.old) steps
+        ensures goes { (before : Option (List ℕ)) (steps : List ReadStep) → HasAnswered (C.has_read self.old.command) self.old.tally before (T.held sink.old) steps
             → GoesOnOrEnds (C.duty (C.asked self.old.command)) (C.has_read self.new.command) self.new.tally before (T.held sink.new) (steps ++ map Some piece.now) result }
         ensures reads { is_read_fault result ≡ false }
         ensures writes { CountsFailure (is_write_fault result) (T.faults sink.old) (T.faults sink.new) }
@@ -80,7 +80,7 @@ impl<C: StreamCommand> Reading<C> {
         ensures same { self.new.command ≡ self.old.command }
         ensures below { IfNone result (IsBelowLimits self.new.tally) }
         ensures nearer { IfNone result (turns_left self.new.tally < turns_left self.old.tally) }
-        ensures goes { (before now : Option (List ℕ)) (steps : List Step) → HasAnswered (C.has_read self.old.command) self.old.tally before now steps
+        ensures goes { (before now : Option (List ℕ)) (steps : List ReadStep) → HasAnswered (C.has_read self.old.command) self.old.tally before now steps
             → GoesOnOrEnds (C.duty (C.asked self.old.command)) (C.has_read self.old.command) self.new.tally before now (steps ++ None ∷ []) result }
         ensures no_fault { (is_read_fault result ≡ false) × (is_write_fault result ≡ false) }
     {
@@ -96,7 +96,7 @@ impl<C: StreamCommand> Reading<C> {
     fn finish<T: Sink>(&mut self, sink: &mut T) -> End
         requires { C.is_ready self.old.command }
         ensures asked { C.asked self.new.command ≡ C.asked self.old.command }
-        ensures ends { (before : Option (List ℕ)) (steps : List Step) → HasAnswered (C.has_read self.old.command) self.old.tally before (T.held sink.old) steps
+        ensures ends { (before : Option (List ℕ)) (steps : List ReadStep) → HasAnswered (C.has_read self.old.command) self.old.tally before (T.held sink.old) steps
             → EndsAt (C.duty (C.asked self.old.command)) before (T.held sink.new) steps result }
         ensures reads { is_read_fault (Some result) ≡ false }
         ensures writes { CountsFailure (is_write_fault (Some result)) (T.faults sink.old) (T.faults sink.new) }

@@ -7,10 +7,10 @@ use Rattle.std.proofs.lemmas.List.{append_assoc, append-nil, take_more, take_res
 use Rattle.std.proofs.lemmas.List.Concat.{flat_map-append}
 use Rattle.sv2_frames.specs.declared.running.RunEnd.{RunEnd}
 use Rattle.sv2_frames.specs.declared.running.RunEnd.TheVariants.{Done, Stopped, TooLong}
-use Rattle.sv2_frames.specs.Framing.{FrameValue, bytes_of, IsFrame}
+use Rattle.sv2_frames.specs.Framing.{FrameValue, frame_bytes, IsFrame}
 use Rattle.sv2_frames.specs.Holding.{Holding, HoldsOver, IsCutWithin}
-use Rattle.sv2_frames.specs.Stream.{stream_of, AreWithin, Took}
-use Rattle.sv2_frames.specs.Running.{Runs, Ends}
+use Rattle.sv2_frames.specs.Stream.{stream_of, AreWithin, TakesEach}
+use Rattle.sv2_frames.specs.Running.{RunsOver, EndsRun}
 use Rattle.sv2_frames.proofs.Standing.{nothing_is_cut}
 
 all_push : {A : Type 0} (P : A → Type 0) (xs : List A) (x : A) → AllByRecursion P xs → P x → AllByRecursion P (xs ++ x ∷ [])
@@ -19,29 +19,29 @@ all_push P (y ∷ xs) x all one = (all.0, all_push P xs x all.1 one)
 
 -- one more frame was taken
 module _ {S : Type 0} (takes : S → FrameValue → Bool → S → Type 0) where
-  one_taken : (old new : S) (frame : FrameValue) (wants : Bool) → takes old frame wants new → Took takes old (frame ∷ []) wants new
+  one_taken : (old new : S) (frame : FrameValue) (wants : Bool) → takes old frame wants new → TakesEach takes old (frame ∷ []) wants new
   one_taken old new frame true step = (new, true, step, (refl, refl))
   one_taken old new frame false step = (new, false, step, (refl, refl, refl))
 
   pub Took-append : (old middle new : S) (frames others : List FrameValue) (more : Bool)
-      → Took takes old frames true middle → Took takes middle others more new → Took takes old (frames ++ others) more new
-  Took-append old middle new [] others more first then_others = subst (λ (s : S). Took takes s others more new) first.1 then_others
+      → TakesEach takes old frames true middle → TakesEach takes middle others more new → TakesEach takes old (frames ++ others) more new
+  Took-append old middle new [] others more first then_others = subst (λ (s : S). TakesEach takes s others more new) first.1 then_others
   Took-append old middle new (frame ∷ frames) others more first then_others =
-      elim first.1 as (λ w. takes old frame w first.0 → MatchBool w (Took takes first.0 frames true middle) ((frames ≡ []) × (true ≡ false) × (middle ≡ first.0))
-      → Took takes old (frame ∷ (frames ++ others)) more new) [
+      elim first.1 as (λ w. takes old frame w first.0 → MatchBool w (TakesEach takes first.0 frames true middle) ((frames ≡ []) × (true ≡ false) × (middle ≡ first.0))
+      → TakesEach takes old (frame ∷ (frames ++ others)) more new) [
         | true ↦ λ one rest. (first.0, true, one, Took-append first.0 middle new frames others more rest then_others)
         | false ↦ λ one rest. let wrong : true ≡ false = rest.1 in cc
       ] first.2 first.3
 
   pub Took-push : (old middle new : S) (frames : List FrameValue) (frame : FrameValue) (wants : Bool)
-      → Took takes old frames true middle → takes middle frame wants new → Took takes old (frames ++ frame ∷ []) wants new
+      → TakesEach takes old frames true middle → takes middle frame wants new → TakesEach takes old (frames ++ frame ∷ []) wants new
   Took-push old middle new frames frame wants took step =
       Took-append old middle new frames (frame ∷ []) wants took (one_taken middle new frame wants step)
 
 -- the loop at a place in the piece
 pub record IsRunning {S : Type 0} (takes : S → FrameValue → Bool → S → Type 0) (before : Holding) (piece : List ℕ) (old : S) (at : ℕ) (holding : Holding) (now : S) : Type 0 where
   pub frames : List FrameValue
-  pub took : Took takes old frames true now
+  pub took : TakesEach takes old frames true now
   pub each : AllByRecursion IsFrame frames
   pub within : AreWithin before.limit frames
   pub stream : before.held ++ take at piece ≡ stream_of frames holding.held
@@ -55,7 +55,7 @@ pub fed_stream : {S : Type 0} (takes : S → FrameValue → Bool → S → Type 
     → before.held ++ take (at + taken) piece ≡ stream_of run.frames after.held
 fed_stream takes before piece old at taken holding after now run bytes =
     let part : List ℕ = take taken (drop at piece) in
-    let frames : List ℕ = flat_map bytes_of run.frames in
+    let frames : List ℕ = flat_map frame_bytes run.frames in
     ap (λ xs. before.held ++ xs) (take-add at taken piece) ∙ sym (append_assoc before.held (take at piece) part)
     ∙ ap (λ xs. xs ++ part) run.stream ∙ append_assoc frames holding.held part
     ∙ ap (λ xs. frames ++ xs) (ap (λ xs. holding.held ++ take taken xs) (sym (take_rest piece at)) ∙ sym bytes)
@@ -65,13 +65,13 @@ pub whole_stream : (before : Holding) (piece : List ℕ) (frames : List FrameVal
     → before.held ++ take at piece ≡ stream_of frames after.held → before.held ++ piece ≡ stream_of frames (after.held ++ drop at piece)
 whole_stream before piece frames at after fed =
     ap (λ xs. before.held ++ xs) (sym (take-append-drop at piece)) ∙ sym (append_assoc before.held (take at piece) (drop at piece))
-    ∙ ap (λ xs. xs ++ drop at piece) fed ∙ append_assoc (flat_map bytes_of frames) after.held (drop at piece)
+    ∙ ap (λ xs. xs ++ drop at piece) fed ∙ append_assoc (flat_map frame_bytes frames) after.held (drop at piece)
 
 -- a frame that is held is one more
-pub stream_of-push : (frames : List FrameValue) (frame : FrameValue) → stream_of (frames ++ frame ∷ []) [] ≡ stream_of frames (bytes_of frame)
+pub stream_of-push : (frames : List FrameValue) (frame : FrameValue) → stream_of (frames ++ frame ∷ []) [] ≡ stream_of frames (frame_bytes frame)
 stream_of-push frames frame =
-    append-nil (flat_map bytes_of (frames ++ frame ∷ [])) ∙ flat_map-append bytes_of frames (frame ∷ [])
-    ∙ ap (λ xs. flat_map bytes_of frames ++ xs) (append-nil (bytes_of frame))
+    append-nil (flat_map frame_bytes (frames ++ frame ∷ [])) ∙ flat_map-append frame_bytes frames (frame ∷ [])
+    ∙ ap (λ xs. flat_map frame_bytes frames ++ xs) (append-nil (frame_bytes frame))
 
 -- the four ways on from a place in the piece
 module _ {S : Type 0} (takes : S → FrameValue → Bool → S → Type 0) (before : Holding) (piece : List ℕ) (old : S) where
@@ -82,7 +82,7 @@ module _ {S : Type 0} (takes : S → FrameValue → Bool → S → Type 0) (befo
     pub within : taken ≤ length (take (length piece - at) (drop at piece))
 
   pub run_over : (at taken len : ℕ) (holding after : Holding) (now : S) → IsRunning takes before piece old at holding now
-      → Fed at taken holding after → HoldsOver len after → Runs takes before piece old (TooLong len) after now
+      → Fed at taken holding after → HoldsOver len after → RunsOver takes before piece old (TooLong len) after now
   run_over at taken len holding after now run fed over =
       record {
         frames = run.frames;
@@ -98,7 +98,7 @@ module _ {S : Type 0} (takes : S → FrameValue → Bool → S → Type 0) (befo
 
   pub run_done : (at taken : ℕ) (holding after : Holding) (now : S) → IsRunning takes before piece old at holding now
       → Fed at taken holding after → taken ≡ length (take (length piece - at) (drop at piece)) → IsCutWithin after
-      → Runs takes before piece old Done after now
+      → RunsOver takes before piece old Done after now
   run_done at taken holding after now run fed whole cut =
       let len : taken ≡ length piece - at = whole ∙ ap length (take_rest piece at) ∙ length-drop at piece in
       let none : drop (at + taken) piece ≡ [] = drop_all (at + taken) piece (omega (arith, len, run.inside)) in
@@ -121,7 +121,7 @@ module _ {S : Type 0} (takes : S → FrameValue → Bool → S → Type 0) (befo
     pub fed : Fed at taken holding after
     pub fits : IsFrame frame
     pub within : length frame.payload ≤ after.limit
-    pub whole : after.held ≡ bytes_of frame
+    pub whole : after.held ≡ frame_bytes frame
 
   next_stream : (at taken : ℕ) (holding after : Holding) (now : S) (frame : FrameValue) (run : IsRunning takes before piece old at holding now)
       → Next at taken holding after frame → before.held ++ take (at + taken) piece ≡ stream_of (run.frames ++ frame ∷ []) []
@@ -130,7 +130,7 @@ module _ {S : Type 0} (takes : S → FrameValue → Bool → S → Type 0) (befo
 
   pub run_stopped : (at taken : ℕ) (holding after : Holding) (now new : S) (frame : FrameValue) → IsRunning takes before piece old at holding now
       → Next at taken holding after frame → takes now frame false new
-      → Runs takes before piece old Stopped (record { held = []; limit = after.limit }) new
+      → RunsOver takes before piece old Stopped (record { held = []; limit = after.limit }) new
   run_stopped at taken holding after now new frame run next step =
       record {
         frames = run.frames ++ frame ∷ [];
@@ -169,12 +169,12 @@ module _ {S : Type 0} (takes : S → FrameValue → Bool → S → Type 0) where
   joined : (held b1 b2 middle rest : List ℕ) (frames others : List FrameValue) → held ++ b1 ≡ stream_of frames middle
       → middle ++ b2 ≡ stream_of others rest → held ++ (b1 ++ b2) ≡ stream_of (frames ++ others) rest
   joined held b1 b2 middle rest frames others one other =
-      sym (append_assoc held b1 b2) ∙ ap (λ xs. xs ++ b2) one ∙ append_assoc (flat_map bytes_of frames) middle b2
-      ∙ ap (λ xs. flat_map bytes_of frames ++ xs) other ∙ sym (append_assoc (flat_map bytes_of frames) (flat_map bytes_of others) rest)
-      ∙ ap (λ xs. xs ++ rest) (sym (flat_map-append bytes_of frames others))
+      sym (append_assoc held b1 b2) ∙ ap (λ xs. xs ++ b2) one ∙ append_assoc (flat_map frame_bytes frames) middle b2
+      ∙ ap (λ xs. flat_map frame_bytes frames ++ xs) other ∙ sym (append_assoc (flat_map frame_bytes frames) (flat_map frame_bytes others) rest)
+      ∙ ap (λ xs. xs ++ rest) (sym (flat_map-append frame_bytes frames others))
 
   -- nothing is taken of no bytes
-  pub runs_nothing : (before : Holding) (old : S) → IsCutWithin before → Runs takes before [] old Done before old
+  pub runs_nothing : (before : Holding) (old : S) → IsCutWithin before → RunsOver takes before [] old Done before old
   runs_nothing before old cut =
       record {
         frames = [];
@@ -190,8 +190,8 @@ module _ {S : Type 0} (takes : S → FrameValue → Bool → S → Type 0) where
 
   -- the first run was done, so the second goes on
   module _ (before middle after : Holding) (b1 b2 : List ℕ) (old between new : S) where
-    ends_then : (end : RunEnd) (one : Runs takes before b1 old Done middle between) (other : Runs takes middle b2 between end after new)
-        → Ends end (before.held ++ (b1 ++ b2)) (one.frames ++ other.frames) other.more after
+    ends_then : (end : RunEnd) (one : RunsOver takes before b1 old Done middle between) (other : RunsOver takes middle b2 between end after new)
+        → EndsRun end (before.held ++ (b1 ++ b2)) (one.frames ++ other.frames) other.more after
     ends_then Done one other =
         let first = one.ends.1 in
         let second = other.ends.1 in (
@@ -206,15 +206,15 @@ module _ {S : Type 0} (takes : S → FrameValue → Bool → S → Type 0) where
     ends_then Stopped one other = other.ends
     ends_then (TooLong len) one other = other.ends
 
-    pub runs_then : (end : RunEnd) → Runs takes before b1 old Done middle between → Runs takes middle b2 between end after new
-        → Runs takes before (b1 ++ b2) old end after new
+    pub runs_then : (end : RunEnd) → RunsOver takes before b1 old Done middle between → RunsOver takes middle b2 between end after new
+        → RunsOver takes before (b1 ++ b2) old end after new
     runs_then end one other =
         let fits = λ (limit : ℕ). AreWithin limit other.frames in
         record {
           frames = one.frames ++ other.frames;
           more = other.more;
           unread = other.unread;
-          took = Took-append takes old between new one.frames other.frames other.more (subst (λ (b : Bool). Took takes old one.frames b between) one.ends.0 one.took) other.took;
+          took = Took-append takes old between new one.frames other.frames other.more (subst (λ (b : Bool). TakesEach takes old one.frames b between) one.ends.0 one.took) other.took;
           each = all_append IsFrame one.frames other.frames one.each other.each;
           within = all_append (λ f. length f.payload ≤ before.limit) one.frames other.frames one.within (subst fits one.limit other.within);
           stream = joined before.held b1 b2 middle.held (after.held ++ other.unread) one.frames other.frames one.ends.1.whole other.stream;
@@ -225,12 +225,12 @@ module _ {S : Type 0} (takes : S → FrameValue → Bool → S → Type 0) where
   left : (before after : Holding) (bytes rest : List ℕ) (frames : List FrameValue) (unread : List ℕ)
       → before.held ++ bytes ≡ stream_of frames (after.held ++ unread) → before.held ++ (bytes ++ rest) ≡ stream_of frames (after.held ++ (unread ++ rest))
   left before after bytes rest frames unread stream =
-      sym (append_assoc before.held bytes rest) ∙ ap (λ xs. xs ++ rest) stream ∙ append_assoc (flat_map bytes_of frames) (after.held ++ unread) rest
-      ∙ ap (λ xs. flat_map bytes_of frames ++ xs) (append_assoc after.held unread rest)
+      sym (append_assoc before.held bytes rest) ∙ ap (λ xs. xs ++ rest) stream ∙ append_assoc (flat_map frame_bytes frames) (after.held ++ unread) rest
+      ∙ ap (λ xs. flat_map frame_bytes frames ++ xs) (append_assoc after.held unread rest)
 
   -- a run that ended early leaves what comes after
   pub runs_before : (before after : Holding) (bytes rest : List ℕ) (old new : S) (end : RunEnd) → (end ≡ Done → ⊥)
-      → Runs takes before bytes old end after new → Runs takes before (bytes ++ rest) old end after new
+      → RunsOver takes before bytes old end after new → RunsOver takes before (bytes ++ rest) old end after new
   runs_before before after bytes rest old new Done early run = absurd (early refl)
   runs_before before after bytes rest old new Stopped early run =
       record {

@@ -18,8 +18,8 @@ pub record FrameValue : Type 0 where
   pub payload : List ℕ
 
 -- its bytes
-abbrev pub bytes_of : FrameValue → List ℕ
-bytes_of frame = frame_of frame.ext frame.kind frame.payload
+abbrev pub frame_bytes : FrameValue → List ℕ
+frame_bytes frame = frame_of frame.ext frame.kind frame.payload
 
 -- a frame can have these fields
 pub record FrameFits (ext kind : ℕ) (payload : List ℕ) : Type 0 where

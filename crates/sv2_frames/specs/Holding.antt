@@ -1,16 +1,18 @@
 -- What a splitter holds (this project's own).
 use Rattle.std.specs.Prelude.{◌≡◌, ◌≢◌, ◌⊎◌, ℕ, ◌+◌, ◌<◌, ◌≤◌, ◌^◌, if◌then◌else◌, nat_lt, List, [], ◌++◌, length, take}
-use Rattle.sv2_frames.specs.Framing.{header_of, frame_of, FrameValue, FrameFits, bytes_of, IsFrame, payload_length}
+use Rattle.sv2_frames.specs.Framing.{header_of, frame_of, FrameValue, FrameFits, frame_bytes, IsFrame, payload_length}
 
 -- what contracts see of a splitter: the bytes that are held, and the limit on a payload
 pub record Holding : Type 0 where
   pub held : List ℕ
   pub limit : ℕ
 
--- where the first frame of these bytes ends, or its header where that says more than the limit or is not all there
+-- where the first frame of these bytes ends, or its header where that says more than the limit or
+-- is not all there
 abbrev pub frame_end : ℕ → List ℕ → ℕ
 frame_end limit bytes =
-    if nat_lt (length bytes) 6 then 6 else (if nat_lt limit (payload_length bytes) then 6 else 6 + payload_length bytes)
+    if nat_lt (length bytes) 6 then 6
+    else (if nat_lt limit (payload_length bytes) then 6 else 6 + payload_length bytes)
 
 -- the bytes are a proper prefix of a frame
 pub record IsCut (bytes : List ℕ) : Type 0 where
@@ -18,14 +20,14 @@ pub record IsCut (bytes : List ℕ) : Type 0 where
   pub fits : IsFrame frame
   pub missing : List ℕ
   pub some : missing ≢ []
-  pub whole : bytes ++ missing ≡ bytes_of frame
+  pub whole : bytes ++ missing ≡ frame_bytes frame
 
 -- a whole frame is held, within the limit
 pub record HoldsFrame (holding : Holding) : Type 0 where
   pub frame : FrameValue
   pub fits : IsFrame frame
   pub within : length frame.payload ≤ holding.limit
-  pub whole : holding.held ≡ bytes_of frame
+  pub whole : holding.held ≡ frame_bytes frame
 
 -- a header is held that says this length, over the limit
 pub record HoldsOver (len : ℕ) (holding : Holding) : Type 0 where

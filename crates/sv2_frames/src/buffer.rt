@@ -30,7 +30,8 @@ pub struct FrameHeader {
 /// The header at the front, where all of it is there.
 pub(crate) fn header_at(bytes: &[u8]) -> Option<FrameHeader>
     ensures none { IfNone result (length bytes.now < 6) }
-    ensures header { IfSome result (λ h. bytes.now ≡ header_of h.ext h.kind h.len ++ drop 6 bytes.now) }
+    ensures header { IfSome result (λ h. bytes.now ≡ header_of h.ext h.kind h.len
+        ++ drop 6 bytes.now) }
     ensures says { IfSome result (λ h. h.len ≡ payload_length bytes.now) }
     ensures fits { IfSome result (λ h. h.len < 2 ^ 24) }
 {
@@ -41,8 +42,8 @@ pub(crate) fn header_at(bytes: &[u8]) -> Option<FrameHeader>
     Some(FrameHeader { ext, kind, len })
 }
 
-/// Where the first frame of these bytes ends, or its header where that says more than the limit or is
-/// not all there.
+/// Where the first frame of these bytes ends, or its header where that says more than the limit or
+/// is not all there.
 pub(crate) fn frame_end(bytes: &[u8], limit: u32) -> usize
     ensures { result ≡ frame_end limit bytes.now }
 {
@@ -57,7 +58,8 @@ fn fill(buffer: &mut [u8], held: usize, end: usize, piece: &[u8]) -> usize
     requires from { held ≤ length buffer.old }
     requires to { end ≤ length buffer.old }
     ensures count { result ≡ min (end - held) (length piece.now) }
-    ensures bytes { take (held + result) buffer.new ≡ take held buffer.old ++ take result piece.now }
+    ensures bytes { take (held + result) buffer.new
+        ≡ take held buffer.old ++ take result piece.now }
 {
     let count = end.saturating_sub(held).min(piece.len());
     let part = &piece[..count];
@@ -70,10 +72,14 @@ fn fill(buffer: &mut [u8], held: usize, end: usize, piece: &[u8]) -> usize
 pub(crate) fn take_in(buffer: &mut [u8], held: usize, limit: u32, piece: &[u8]) -> usize
     requires { IsBuffer buffer.old held limit }
     ensures within { result ≤ length piece.now }
-    ensures bytes { take (held + result) buffer.new ≡ take held buffer.old ++ take result piece.now }
-    ensures end { let all = take held buffer.old ++ piece.now in take (held + result) buffer.new ≡ take (frame_end limit all) all }
-    ensures none { (result ≡ 0) ↔ ((piece.now ≡ []) ⊎ IsFull (record { held = take held buffer.old; limit = limit })) }
-    ensures all { IsCutWithin (record { held = take (held + result) buffer.new; limit = limit }) → result ≡ length piece.now }
+    ensures bytes { take (held + result) buffer.new
+        ≡ take held buffer.old ++ take result piece.now }
+    ensures end { let all = take held buffer.old ++ piece.now in
+        take (held + result) buffer.new ≡ take (frame_end limit all) all }
+    ensures none { (result ≡ 0) ↔ ((piece.now ≡ [])
+        ⊎ IsFull (record { held = take held buffer.old; limit = limit })) }
+    ensures all { IsCutWithin (record { held = take (held + result) buffer.new; limit = limit })
+        → result ≡ length piece.now }
     ensures kept { IsBuffer buffer.new (held + result) limit }
 {
     let first = fill(buffer, held, HEADER_LEN, piece);
@@ -86,12 +92,18 @@ pub(crate) fn take_in(buffer: &mut [u8], held: usize, limit: u32, piece: &[u8]) 
 /// What the held bytes are: a whole frame, a header over the limit, or neither yet.
 pub(crate) fn frame_in(held: &[u8], limit: u32) -> Result<Option<Frame<'_>>, TooLong>
     requires { length held.now ≤ frame_end limit held.now }
-    ensures frame { IfOk result (λ found. IfSome found (λ f. IsHeldFrame f.ext f.kind f.payload.now (record { held = held.now; limit = limit }))) }
-    ensures held { IfOk result (λ found. IfSome found (λ _. HoldsFrame (record { held = held.now; limit = limit }))) }
-    ensures whole { HoldsFrame (record { held = held.now; limit = limit }) → IsOkAnd result (λ found. IsSome found) }
-    ensures none { IsOkAnd result (λ found. IsNone found) ↔ IsCutWithin (record { held = held.now; limit = limit }) }
-    ensures too_long { IfErr result (λ e. HoldsOver e.0 (record { held = held.now; limit = limit })) }
-    ensures over { (len : ℕ) → HoldsOver len (record { held = held.now; limit = limit }) → IsErrAnd result (λ e. e.0 ≡ len) }
+    ensures frame { IfOk result (λ found. IfSome found
+        (λ f. IsHeldFrame f.ext f.kind f.payload.now (record { held = held.now; limit = limit }))) }
+    ensures held { IfOk result
+        (λ found. IfSome found (λ _. HoldsFrame (record { held = held.now; limit = limit }))) }
+    ensures whole { HoldsFrame (record { held = held.now; limit = limit })
+        → IsOkAnd result (λ found. IsSome found) }
+    ensures none { IsOkAnd result (λ found. IsNone found)
+        ↔ IsCutWithin (record { held = held.now; limit = limit }) }
+    ensures too_long { IfErr result (λ e. HoldsOver e.0
+        (record { held = held.now; limit = limit })) }
+    ensures over { (len : ℕ) → HoldsOver len (record { held = held.now; limit = limit })
+        → IsErrAnd result (λ e. e.0 ≡ len) }
 {
     let Some(header) = header_at(held) else {
         return Ok(None);

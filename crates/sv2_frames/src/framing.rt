@@ -6,7 +6,8 @@ ghost use Rattle.sv2_frames.specs.Stream.{FramesExist, FramesAreUnique};
 
 use std::alloc::AllocError;
 
-/// One frame of a stream. Bit 15 of the extension type is the channel bit, which is not tested here.
+/// One frame of a stream. Bit 15 of the extension type is the channel bit, which is not tested
+/// here.
 #[derive(Clone, Copy, Debug, PartialEq, Eq)]
 pub struct Frame<'a> {
     /// The extension type.

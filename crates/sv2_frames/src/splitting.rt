@@ -7,8 +7,8 @@ use crate::framing::Frame;
 use std::alloc::{AllocError, Global};
 use std::marker::Model;
 
-/// Holds what has come of the present frame. All its memory is taken by `new`: a buffer of the limit
-/// and six bytes more, whose length never changes.
+/// Holds what has come of the present frame. All its memory is taken by `new`: a buffer of the
+/// limit and six bytes more, whose length never changes.
 #[derive(Debug, Drop)]
 pub struct Splitter {
     buffer: Vec<u8>,
@@ -44,12 +44,13 @@ impl Splitter {
         })
     }
 
-    /// Takes from the piece up to the end of the present frame, or of a header over the limit, and says
-    /// how many bytes.
+    /// Takes from the piece up to the end of the present frame, or of a header over the limit, and
+    /// says how many bytes.
     pub fn feed(&mut self, piece: &[u8]) -> usize
         ensures within { result ≤ length piece.now }
         ensures bytes { self.new.held ≡ self.old.held ++ take result piece.now }
-        ensures end { let all = self.old.held ++ piece.now in self.new.held ≡ take (frame_end self.old.limit all) all }
+        ensures end { let all = self.old.held ++ piece.now in
+            self.new.held ≡ take (frame_end self.old.limit all) all }
         ensures none { (result ≡ 0) ↔ ((piece.now ≡ []) ⊎ IsFull self.old) }
         ensures all { IsCutWithin self.new → result ≡ length piece.now }
         ensures room { length self.new.held ≤ self.new.limit + 6 }
@@ -60,9 +61,11 @@ impl Splitter {
         taken
     }
 
-    /// The frame that is held, once it is whole. A header over the limit is refused, again and again.
+    /// The frame that is held, once it is whole. A header over the limit is refused, again and
+    /// again.
     pub fn next(&self) -> Result<Option<Frame<'_>>, TooLong>
-        ensures frame { IfOk result (λ found. IfSome found (λ f. IsHeldFrame f.ext f.kind f.payload.now self.now)) }
+        ensures frame { IfOk result
+            (λ found. IfSome found (λ f. IsHeldFrame f.ext f.kind f.payload.now self.now)) }
         ensures held { IfOk result (λ found. IfSome found (λ _. HoldsFrame self.now)) }
         ensures whole { HoldsFrame self.now → IsOkAnd result (λ found. IsSome found) }
         ensures none { IsOkAnd result (λ found. IsNone found) ↔ IsCutWithin self.now }
@@ -81,10 +84,12 @@ impl Splitter {
         self.held = 0;
     }
 
-    /// The header of the present frame, once all six bytes of it are held. It is not tested against the limit.
+    /// The header of the present frame, once all six bytes of it are held. It is not tested against
+    /// the limit.
     pub fn header(&self) -> Option<FrameHeader>
         ensures none { IfNone result (length self.now.held < 6) }
-        ensures header { IfSome result (λ h. self.now.held ≡ header_of h.ext h.kind h.len ++ drop 6 self.now.held) }
+        ensures header { IfSome result (λ h. self.now.held
+            ≡ header_of h.ext h.kind h.len ++ drop 6 self.now.held) }
         ensures fits { IfSome result (λ h. h.len < 2 ^ 24) }
     {
         header_at(&self.buffer[..self.held])

@@ -50,7 +50,9 @@ fn a_written_frame_has_the_standard_bytes(rt: HostRuntime) -> Result<(), Fail> {
     let stream = three_frames(rt.alloc())?;
     assert_eq!(rt;
         stream.as_slice(),
-        b"\x00\x80\x15\x00\x00\x00\x00\x00\x01\x03\x00\x00abc\x02\x01\x71\x0d\x00\x00defghijklmnop".as_slice()
+        b"\x00\x80\x15\x00\x00\x00\x00\x00\x01\x03\x00\x00abc\
+            \x02\x01\x71\x0d\x00\x00defghijklmnop"
+            .as_slice()
     );
     Ok(())
 }

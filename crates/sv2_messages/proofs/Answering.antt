@@ -6,8 +6,8 @@ use Rattle.sv2_types.proofs.Laws.{written_spells}
 use Rattle.sv2_types.proofs.Items.{IsBytes}
 use Rattle.sv2_messages.specs.declared.error.MsgError.{MsgError}
 use Rattle.sv2_messages.specs.declared.error.MsgError.TheVariants.{UnknownKind, BadField, Trailing}
-use Rattle.sv2_messages.specs.Messages.{Message, Row, types_of, AreSpelled, MsgOf, AreAdmitted, written, Fits, ext_of, IsReadBack}
-use Rattle.sv2_messages.specs.Reading.{IsDefect, IsDefectBy, IsFirstDefect, values_by, values_of, Gives}
+use Rattle.sv2_messages.specs.Messages.{Message, Row, types_of, AreSpelled, MsgOf, AreAdmitted, spellings, FitsFrame, ext_of, IsReadBack}
+use Rattle.sv2_messages.specs.Reading.{IsDefect, IsDefectBy, IsFirstDefect, values_by, values_of, GivesMessage}
 use Rattle.sv2_messages.proofs.Defects.{fields_at-spelled, spelled-fields_at, DefectFrom, defect-fields_at, bad_refused, trailing_refused}
 
 -- what is given is the payload's message
@@ -18,7 +18,7 @@ by_row table kind payload message (Some types) fits row same is =
     record { same_kind = same; types = types; row = row; spelled = spelled-fields_at types message.fields payload 0 fits is }
 
 pub found : {X : Type 0} (seen : X → Message) (result : Result X MsgError) (table : List Row) (kind : ℕ) (payload : List ℕ) → IsBytes payload
-    → Gives seen result kind (values_of table kind payload) → IfOk result (λ x. MsgOf table kind payload (seen x))
+    → GivesMessage seen result kind (values_of table kind payload) → IfOk result (λ x. MsgOf table kind payload (seen x))
 unfolding values_of
 found seen (Ok x) table kind payload fits gives = by_row table kind payload (seen x) (types_of table kind) fits refl gives.0 gives.1
 found seen (Err e) table kind payload fits gives = tt
@@ -33,7 +33,7 @@ unfolding values_of
 values_of-message table kind payload message of = rw of.row (fields_at-spelled of.types message.fields payload 0 of.spelled)
 
 pub only : {X : Type 0} (seen : X → Message) (result : Result X MsgError) (table : List Row) (kind : ℕ) (payload : List ℕ)
-    → Gives seen result kind (values_of table kind payload) → (message : Message) → MsgOf table kind payload message → IsOkAnd result (λ x. seen x ≡ message)
+    → GivesMessage seen result kind (values_of table kind payload) → (message : Message) → MsgOf table kind payload message → IsOkAnd result (λ x. seen x ≡ message)
 only seen (Ok x) table kind payload gives message of =
     let read = values_of-message table kind payload message of in
     let fields : (seen x).fields ≡ message.fields = (let both : Ok (seen x).fields ≡ Ok message.fields = sym gives.1 ∙ read in cc) in
@@ -73,14 +73,14 @@ unfolding values_of
 values_of-defect table kind payload e defect = values_by-defect (types_of table kind) kind payload e defect
 
 is_defect : {X : Type 0} (seen : X → Message) (result : Result X MsgError) (table : List Row) (kind : ℕ) (payload : List ℕ) (e : MsgError) → IsBytes payload
-    → Gives seen result kind (values_of table kind payload) → IsErrOf result e → IsFirstDefect table kind payload e
+    → GivesMessage seen result kind (values_of table kind payload) → IsErrOf result e → IsFirstDefect table kind payload e
 is_defect seen (Ok x) table kind payload e fits gives is = absurd cc
 is_defect seen (Err d) table kind payload e fits gives is =
     let same : d ≡ e = cc in
     defect_of table kind payload e fits (gives ∙ ap (λ (x : MsgError). Err x) same)
 
 is_refused : {X : Type 0} (seen : X → Message) (result : Result X MsgError) (table : List Row) (kind : ℕ) (payload : List ℕ) (e : MsgError)
-    → Gives seen result kind (values_of table kind payload) → IsFirstDefect table kind payload e → IsErrOf result e
+    → GivesMessage seen result kind (values_of table kind payload) → IsFirstDefect table kind payload e → IsErrOf result e
 is_refused seen (Ok x) table kind payload e gives defect =
     let read = values_of-defect table kind payload e defect in absurd (let both : Ok (seen x).fields ≡ Err e = sym gives.1 ∙ read in cc)
 is_refused seen (Err d) table kind payload e gives defect =
@@ -90,23 +90,23 @@ is_refused seen (Err d) table kind payload e gives defect =
     ap (λ (x : MsgError). Err x) same
 
 pub refused : {X : Type 0} (seen : X → Message) (result : Result X MsgError) (table : List Row) (kind : ℕ) (payload : List ℕ) → IsBytes payload
-    → Gives seen result kind (values_of table kind payload) → (e : MsgError) → IsErrOf result e ↔ IsFirstDefect table kind payload e
+    → GivesMessage seen result kind (values_of table kind payload) → (e : MsgError) → IsErrOf result e ↔ IsFirstDefect table kind payload e
 refused seen result table kind payload fits gives e =
     (λ is. is_defect seen result table kind payload e fits gives is, λ defect. is_refused seen result table kind payload e gives defect)
 
 -- what is written is read back
-written_is_spelled : (types : List FieldType) (values : List FieldValue) → AreAdmitted types values → AreSpelled types values (written types values)
+written_is_spelled : (types : List FieldType) (values : List FieldValue) → AreAdmitted types values → AreSpelled types values (spellings types values)
 written_is_spelled [] [] admitted = refl
 written_is_spelled [] (value ∷ values) admitted = absurd admitted
 written_is_spelled (type ∷ types) [] admitted = absurd admitted
 written_is_spelled (type ∷ types) (value ∷ values) admitted =
-    (_, written types values, written_spells type value admitted.0, refl, written_is_spelled types values admitted.1)
+    (_, spellings types values, written_spells type value admitted.0, refl, written_is_spelled types values admitted.1)
 
 ext_fits : (kind : ℕ) → ext_of kind < 2 ^ 16
 ext_fits kind =
     elim (nat_lt 0x14 kind && nat_lt kind 0x22) as (λ b. (if b then 0x8000 else 0) < 2 ^ 16) [ true ↦ omega arith | false ↦ omega arith ]
 
-pub read_back : (table : List Row) (message : Message) → message.kind < 2 ^ 8 → Fits table message → IsReadBack table message
+pub read_back : (table : List Row) (message : Message) → message.kind < 2 ^ 8 → FitsFrame table message → IsReadBack table message
 read_back table message kind_fits fits = record {
   frame = record { ext_fits = ext_fits message.kind; kind_fits = kind_fits; length_fits = rw fits.row fits.fields.within };
   payload = record {

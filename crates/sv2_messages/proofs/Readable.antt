@@ -10,7 +10,7 @@ use Rattle.std.specs.Str.{IsUtf8, is_utf8}
 use Rattle.sv2_types.specs.declared.error.ReadError.TheVariants.{Short, LengthTooGreat, NotUtf8, CountTooGreat}
 use Rattle.sv2_types.specs.Spelling.{spelled_u8, spelled_u16, spelled_u24, spelled_u32}
 use Rattle.sv2_types.specs.Fields.{FieldType, U8, U16, U24, U32, U64, UINT256, BOOL, F32, STR0_255, B0_255, B0_32, B0_64K, B0_16M, OPTION_U32, SEQ0_255_U256, SEQ0_64K_U256, SEQ0_64K_U16, SEQ0_64K_B0_16M, Truth, Spells}
-use Rattle.sv2_types.specs.Reading.{said, size, value_at, defect, missing, text_defect, numbers_at, parts_size}
+use Rattle.sv2_types.specs.Reading.{said, size, value_at, defect, short_defect, text_defect, numbers_at, parts_size}
 use Rattle.sv2_types.proofs.Items.{IsBytes, length-numbers_at, numbers_at-fits, length-parts_at, parts_at-fits, parts_lie}
 use Rattle.sv2_messages.proofs.Numbers.{IsBytes-drop, spelled_u8-said, said_u8-below, spelled_u16-said, said_u16-below, spelled_u24-said, said_u24-below, spelled_u32-said, said_u32-below, spelled_u64-said, said_u64-below}
 
@@ -20,10 +20,10 @@ pub record Lies (type : FieldType) (rest : List ℕ) : Type 0 where
   pub spells : Spells type (value_at type rest) (take (size type rest) rest)
 
 -- what isn't missing is there
-there : (needed : ℕ) (rest : List ℕ) → missing needed rest ≡ None → needed ≤ length rest
+there : (needed : ℕ) (rest : List ℕ) → short_defect needed rest ≡ None → needed ≤ length rest
 there needed rest none =
     elim (cases_lt (length rest) needed) [
-      | inl lt ↦ (let some : missing needed rest ≡ Some Short = rw (lt-ltb (length rest) needed lt) refl in absurd cc)
+      | inl lt ↦ (let some : short_defect needed rest ≡ Some Short = rw (lt-ltb (length rest) needed lt) refl in absurd cc)
       | inr le ↦ le
     ]
 

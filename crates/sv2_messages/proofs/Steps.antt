@@ -2,7 +2,7 @@
 use Rattle.std.proofs.Common.{◌≡◌, ℕ, ◌+◌, ◌<◌, ◌≤◌, None, Some, Option, Ok, Err, List, [], ◌∷◌, ◌++◌, length, drop, refl, sym, ap, subst, ◌∙◌, arith}
 use Rattle.std.proofs.lemmas.List.{drop_at, nil_from_length}
 use Rattle.sv2_types.specs.declared.error.ReadError.{ReadError}
-use Rattle.sv2_types.specs.Cursor.{Cursor, Moves, rest_of}
+use Rattle.sv2_types.specs.Cursor.{Cursor, MovesOver, unread_bytes}
 use Rattle.sv2_types.specs.Fields.{FieldType, FieldValue, Spells}
 use Rattle.sv2_types.specs.Reading.{size, value_at, defect}
 use Rattle.sv2_types.proofs.Laws.{value_at-spelled, size-spelled, defect-spelled}
@@ -24,7 +24,7 @@ field_at-spelled type value spelled more place spells =
 
 -- what a reader of primitive values moved over is the field at the front
 pub field_read : (type : FieldType) (value : FieldValue) (spelled : List ℕ) (left : Left) (cursor : Cursor) (after : Left) → Spells type value spelled
-    → Moves spelled (record { bytes = left.rest; at = 0 }) cursor
+    → MovesOver spelled (record { bytes = left.rest; at = 0 }) cursor
     → after ≡ record { place = left.place + 1; rest = drop cursor.at left.rest }
     → field_at type left ≡ Ok (value, after)
 field_read type value spelled left cursor after spells moves is =
@@ -41,20 +41,20 @@ field_refused type left reason refused = rw (← refused) refl
 -- the same, at the names of a reader of fields
 pub passed : (type : FieldType) (value : FieldValue) (spelled : List ℕ) (place : ℕ) (rest : List ℕ) (left : Left) (start cursor : Cursor) (count : ℕ) (after : Left)
     → Spells type value spelled → record { place = place; rest = rest } ≡ left → start ≡ record { bytes = rest; at = 0 }
-    → Moves spelled start cursor → count ≡ cursor.at → after ≡ record { place = left.place + 1; rest = drop count left.rest }
+    → MovesOver spelled start cursor → count ≡ cursor.at → after ≡ record { place = left.place + 1; rest = drop count left.rest }
     → field_at type left ≡ Ok (value, after)
 passed type value spelled place rest left start cursor count after spells view fresh moves counted is =
-    let at_start : Moves spelled (record { bytes = rest; at = 0 }) cursor = subst (λ (s : Cursor). Moves spelled s cursor) fresh moves in
+    let at_start : MovesOver spelled (record { bytes = rest; at = 0 }) cursor = subst (λ (s : Cursor). MovesOver spelled s cursor) fresh moves in
     ap (field_at type) (sym view)
     ∙ field_read type value spelled (record { place = place; rest = rest }) cursor after spells at_start
     (is ∙ ap (λ (n : ℕ). record { place = left.place + 1; rest = drop n left.rest }) counted ∙ ap (λ (l : Left). record { place = l.place + 1; rest = drop cursor.at l.rest }) (sym view))
 
 pub refused : (type : FieldType) (place : ℕ) (rest : List ℕ) (left : Left) (start : Cursor) (reason : ReadError)
     → record { place = place; rest = rest } ≡ left → start ≡ record { bytes = rest; at = 0 }
-    → Some reason ≡ defect type (rest_of start) → field_at type left ≡ Err (BadField place reason)
+    → Some reason ≡ defect type (unread_bytes start) → field_at type left ≡ Err (BadField place reason)
 refused type place rest left start reason view fresh defective =
     ap (field_at type) (sym view)
-    ∙ field_refused type (record { place = place; rest = rest }) reason (defective ∙ ap (λ (s : Cursor). defect type (rest_of s)) fresh)
+    ∙ field_refused type (record { place = place; rest = rest }) reason (defective ∙ ap (λ (s : Cursor). defect type (unread_bytes s)) fresh)
 
 -- the end
 pub ended : (place : ℕ) (rest : List ℕ) (left : Left) → record { place = place; rest = rest } ≡ left → length rest < 1 → end_at left ≡ Ok []

@@ -1,14 +1,14 @@
 -- The messages: each kind, its name, and its fields in their order (Stratum V2, "Message Types",
--- "Mining Protocol" and "Template Distribution Protocol"; the messages of job declaration and of custom
--- jobs are this project's own).
+-- "Mining Protocol" and "Template Distribution Protocol"; the messages of job declaration and of
+-- custom jobs are this project's own).
 use Rattle.std.specs.Prelude.{ℕ, Option, List, [], ◌∷◌, ◌++◌, codes}
 use Rattle.sv2_types.specs.Fields.{U8, U16, U32, U64, UINT256, BOOL, F32, STR0_255, B0_255, B0_32, B0_64K, OPTION_U32, SEQ0_255_U256, SEQ0_64K_U256, SEQ0_64K_U16, SEQ0_64K_B0_16M}
 use Rattle.sv2_messages.specs.declared.kinds.TheConstants as kinds
-use Rattle.sv2_messages.specs.Messages.{Row, field, name_in}
+use Rattle.sv2_messages.specs.Messages.{Row, field, message_name}
 
 -- common and mining messages
-abbrev pub mining : List Row
-mining =
+abbrev pub mining_table : List Row
+mining_table =
     record {
       kind = kinds.SETUP_CONNECTION;
       name = codes "SetupConnection";
@@ -171,8 +171,8 @@ mining =
     []
 
 -- template distribution
-abbrev pub template : List Row
-template =
+abbrev pub template_table : List Row
+template_table =
     record {
       kind = kinds.COINBASE_OUTPUT_CONSTRAINTS;
       name = codes "CoinbaseOutputConstraints";
@@ -225,8 +225,8 @@ template =
     []
 
 -- job declaration
-abbrev pub declare : List Row
-declare =
+abbrev pub declare_table : List Row
+declare_table =
     record {
       kind = kinds.ALLOCATE_MINING_JOB_TOKEN;
       name = codes "AllocateMiningJobToken";
@@ -283,8 +283,8 @@ declare =
 
 -- all messages, each kind once
 abbrev pub all_messages : List Row
-all_messages = mining ++ (template ++ declare)
+all_messages = mining_table ++ (template_table ++ declare_table)
 
 -- the name of a kind's message, where there is one
 unfoldable pub name_of : ℕ → Option (List ℕ)
-name_of kind = name_in all_messages kind
+name_of kind = message_name all_messages kind

@@ -4,7 +4,7 @@ use Rattle.sv2_types.specs.Fields.{FieldType, FieldValue, U8, U16, U32, U64, UIN
 use Rattle.sv2_types.specs.Reading.{numbers_of, parts_at}
 use Rattle.sv2_messages.specs.declared.field.Field.{Field}
 use Rattle.sv2_messages.specs.declared.field.Field.TheVariants as fields
-use Rattle.sv2_messages.specs.Messages.{Message, Row, types_of, HaveSpelling, written}
+use Rattle.sv2_messages.specs.Messages.{Message, Row, types_of, HaveSpelling, spellings}
 
 -- the type of a field
 abbrev pub field_type : Field → FieldType
@@ -44,20 +44,21 @@ field_value (fields.Seq64kU256 v) = Parts v.items.now
 field_value (fields.SeqU16 v) = Numbers (numbers_of v.spelled.now)
 field_value (fields.SeqBytes v) = Parts (parts_at v.count v.spelled.now)
 
--- those of all fields
+-- the types of all fields
 abbrev pub types_in : List Field → List FieldType
 types_in list = map field_type list
 
+-- the values of all fields
 abbrev pub values_in : List Field → List FieldValue
 values_in list = map field_value list
 
 -- the fields have spellings that a payload has room for
-abbrev pub Fit : List Field → Type 0
-Fit list = HaveSpelling (types_in list) (values_in list)
+abbrev pub FitPayload : List Field → Type 0
+FitPayload list = HaveSpelling (types_in list) (values_in list)
 
 -- their spellings, one after the other
-abbrev pub spelled : List Field → List ℕ
-spelled list = written (types_in list) (values_in list)
+abbrev pub spellings_of : List Field → List ℕ
+spellings_of list = spellings (types_in list) (values_in list)
 
 -- they are the fields of the message, by the table
 pub record AreFields (table : List Row) (message : Message) (list : List Field) : Type 0 where

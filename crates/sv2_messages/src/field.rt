@@ -90,7 +90,8 @@ impl Field<'_> {
     /// Appends its spelling.
     pub(crate) fn put(&self, out: &mut Vec<u8>) -> Result<(), AllocError>
         requires { Admits (field_type self.now) (field_value self.now) }
-        ensures ok { OnOk result (out.new.items ≡ out.old.items ++ spelling (field_type self.now) (field_value self.now)) }
+        ensures ok { OnOk result (out.new.items ≡ out.old.items
+            ++ spelling (field_type self.now) (field_value self.now)) }
         ensures err { OnErr result (out.new.items ≡ out.old.items) }
     {
         match *self {

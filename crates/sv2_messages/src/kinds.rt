@@ -1,5 +1,6 @@
-//! The kinds of the messages (Stratum V2, "Message Types"; those of job declaration and of custom jobs are
-//! this project's own). The tables of `specs/` say what a message of each kind is called, and its fields.
+//! The kinds of the messages (Stratum V2, "Message Types"; those of job declaration and of custom
+//! jobs are this project's own). The tables of `specs/` say what a message of each kind is called,
+//! and its fields.
 
 /// `SetupConnection`.
 pub const SETUP_CONNECTION: u8 = 0x00;

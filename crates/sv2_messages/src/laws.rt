@@ -2,7 +2,8 @@
 
 ghost use Rattle.sv2_messages.specs.Messages.{WrittenIsReadBack};
 
-/// A law of the format: a message that fits is written as a frame of a payload that is read as the same message.
+/// A law of the format: a message that fits is written as a frame of a payload that is read as the
+/// same message.
 pub fn written_is_read_back()
     ensures { WrittenIsReadBack }
 {}

@@ -1,5 +1,5 @@
-//! What all messages have in common: the table of their kinds, names and fields, by which fields are read and
-//! written in their order. It has no type for any message.
+//! What all messages have in common: the table of their kinds, names and fields, by which fields
+//! are read and written in their order. It has no type for any message.
 #![tactic(auto)]
 
 mod error;

@@ -3,7 +3,7 @@
 ghost use Rattle.std.specs.Prelude.{◌≡◌, ◌+◌, ◌<◌, ◌≤◌, length, drop, OnErr};
 ghost use Rattle.sv2_types.specs.Fields.{U8, U16, U32, U64, UINT256, BOOL, F32, STR0_255, B0_255, B0_32, B0_64K, OPTION_U32, SEQ0_255_U256, SEQ0_64K_U256, SEQ0_64K_U16, SEQ0_64K_B0_16M, Number, Truth, Bytes, Perhaps, Numbers, Parts};
 ghost use Rattle.sv2_types.specs.Reading.{numbers_of, parts_at};
-ghost use Rattle.sv2_messages.specs.Reading.{Reads, Ends};
+ghost use Rattle.sv2_messages.specs.Reading.{ReadsField, MeetsEnd};
 
 use crate::error::MsgError;
 use std::marker::Model;
@@ -42,7 +42,8 @@ impl<'a> FieldReader<'a> {
     fn pass(&mut self, count: usize)
         requires some { 0 < count }
         requires within { count ≤ length self.old.rest }
-        ensures { self.new ≡ record { place = self.old.place + 1; rest = drop count self.old.rest } }
+        ensures { self.new
+            ≡ record { place = self.old.place + 1; rest = drop count self.old.rest } }
     {
         self.rest = &self.rest[count..];
         self.place += 1;
@@ -50,7 +51,7 @@ impl<'a> FieldReader<'a> {
 
     /// A U8.
     pub fn u8(&mut self) -> Result<u8, MsgError>
-        ensures value { Reads U8 (λ v. Number v) self.old result self.new }
+        ensures value { ReadsField U8 (λ v. Number v) self.old result self.new }
         ensures err { OnErr result (self.new ≡ self.old) }
     {
         let mut reader = Reader::new(self.rest);
@@ -65,7 +66,7 @@ impl<'a> FieldReader<'a> {
 
     /// A U16.
     pub fn u16(&mut self) -> Result<u16, MsgError>
-        ensures value { Reads U16 (λ v. Number v) self.old result self.new }
+        ensures value { ReadsField U16 (λ v. Number v) self.old result self.new }
         ensures err { OnErr result (self.new ≡ self.old) }
     {
         let mut reader = Reader::new(self.rest);
@@ -80,7 +81,7 @@ impl<'a> FieldReader<'a> {
 
     /// A U32.
     pub fn u32(&mut self) -> Result<u32, MsgError>
-        ensures value { Reads U32 (λ v. Number v) self.old result self.new }
+        ensures value { ReadsField U32 (λ v. Number v) self.old result self.new }
         ensures err { OnErr result (self.new ≡ self.old) }
     {
         let mut reader = Reader::new(self.rest);
@@ -95,7 +96,7 @@ impl<'a> FieldReader<'a> {
 
     /// A U64.
     pub fn u64(&mut self) -> Result<u64, MsgError>
-        ensures value { Reads U64 (λ v. Number v) self.old result self.new }
+        ensures value { ReadsField U64 (λ v. Number v) self.old result self.new }
         ensures err { OnErr result (self.new ≡ self.old) }
     {
         let mut reader = Reader::new(self.rest);
@@ -110,7 +111,7 @@ impl<'a> FieldReader<'a> {
 
     /// A U256.
     pub fn u256(&mut self) -> Result<U256, MsgError>
-        ensures value { Reads UINT256 (λ v. Bytes v) self.old result self.new }
+        ensures value { ReadsField UINT256 (λ v. Bytes v) self.old result self.new }
         ensures err { OnErr result (self.new ≡ self.old) }
     {
         let mut reader = Reader::new(self.rest);
@@ -125,7 +126,7 @@ impl<'a> FieldReader<'a> {
 
     /// A BOOL.
     pub fn boolean(&mut self) -> Result<bool, MsgError>
-        ensures value { Reads BOOL (λ v. Truth v) self.old result self.new }
+        ensures value { ReadsField BOOL (λ v. Truth v) self.old result self.new }
         ensures err { OnErr result (self.new ≡ self.old) }
     {
         let mut reader = Reader::new(self.rest);
@@ -140,7 +141,7 @@ impl<'a> FieldReader<'a> {
 
     /// An F32, carried as bytes.
     pub fn f32_bytes(&mut self) -> Result<[u8; 4], MsgError>
-        ensures value { Reads F32 (λ v. Bytes v) self.old result self.new }
+        ensures value { ReadsField F32 (λ v. Bytes v) self.old result self.new }
         ensures err { OnErr result (self.new ≡ self.old) }
     {
         let mut reader = Reader::new(self.rest);
@@ -155,7 +156,7 @@ impl<'a> FieldReader<'a> {
 
     /// A STR0_255.
     pub fn str255(&mut self) -> Result<&'a str, MsgError>
-        ensures value { Reads STR0_255 (λ v. Bytes v.now) self.old result self.new }
+        ensures value { ReadsField STR0_255 (λ v. Bytes v.now) self.old result self.new }
         ensures err { OnErr result (self.new ≡ self.old) }
     {
         let mut reader = Reader::new(self.rest);
@@ -170,7 +171,7 @@ impl<'a> FieldReader<'a> {
 
     /// A B0_255.
     pub fn b255(&mut self) -> Result<&'a [u8], MsgError>
-        ensures value { Reads B0_255 (λ v. Bytes v.now) self.old result self.new }
+        ensures value { ReadsField B0_255 (λ v. Bytes v.now) self.old result self.new }
         ensures err { OnErr result (self.new ≡ self.old) }
     {
         let mut reader = Reader::new(self.rest);
@@ -185,7 +186,7 @@ impl<'a> FieldReader<'a> {
 
     /// A B0_32.
     pub fn b32(&mut self) -> Result<&'a [u8], MsgError>
-        ensures value { Reads B0_32 (λ v. Bytes v.now) self.old result self.new }
+        ensures value { ReadsField B0_32 (λ v. Bytes v.now) self.old result self.new }
         ensures err { OnErr result (self.new ≡ self.old) }
     {
         let mut reader = Reader::new(self.rest);
@@ -200,7 +201,7 @@ impl<'a> FieldReader<'a> {
 
     /// A B0_64K.
     pub fn b64k(&mut self) -> Result<&'a [u8], MsgError>
-        ensures value { Reads B0_64K (λ v. Bytes v.now) self.old result self.new }
+        ensures value { ReadsField B0_64K (λ v. Bytes v.now) self.old result self.new }
         ensures err { OnErr result (self.new ≡ self.old) }
     {
         let mut reader = Reader::new(self.rest);
@@ -215,7 +216,7 @@ impl<'a> FieldReader<'a> {
 
     /// An OPTION[U32].
     pub fn option_u32(&mut self) -> Result<Option<u32>, MsgError>
-        ensures value { Reads OPTION_U32 (λ v. Perhaps v) self.old result self.new }
+        ensures value { ReadsField OPTION_U32 (λ v. Perhaps v) self.old result self.new }
         ensures err { OnErr result (self.new ≡ self.old) }
     {
         let mut reader = Reader::new(self.rest);
@@ -230,7 +231,7 @@ impl<'a> FieldReader<'a> {
 
     /// A SEQ0_255[U256].
     pub fn seq_u256(&mut self) -> Result<Seq32<'a>, MsgError>
-        ensures value { Reads SEQ0_255_U256 (λ v. Parts v.items.now) self.old result self.new }
+        ensures value { ReadsField SEQ0_255_U256 (λ v. Parts v.items.now) self.old result self.new }
         ensures err { OnErr result (self.new ≡ self.old) }
     {
         let mut reader = Reader::new(self.rest);
@@ -245,7 +246,7 @@ impl<'a> FieldReader<'a> {
 
     /// A SEQ0_64K[U256].
     pub fn seq64k_u256(&mut self) -> Result<Seq32<'a>, MsgError>
-        ensures value { Reads SEQ0_64K_U256 (λ v. Parts v.items.now) self.old result self.new }
+        ensures value { ReadsField SEQ0_64K_U256 (λ v. Parts v.items.now) self.old result self.new }
         ensures err { OnErr result (self.new ≡ self.old) }
     {
         let mut reader = Reader::new(self.rest);
@@ -260,7 +261,8 @@ impl<'a> FieldReader<'a> {
 
     /// A SEQ0_64K[U16].
     pub fn seq_u16(&mut self) -> Result<SeqU16<'a>, MsgError>
-        ensures value { Reads SEQ0_64K_U16 (λ v. Numbers (numbers_of v.spelled.now)) self.old result self.new }
+        ensures value { ReadsField SEQ0_64K_U16
+            (λ v. Numbers (numbers_of v.spelled.now)) self.old result self.new }
         ensures err { OnErr result (self.new ≡ self.old) }
     {
         let mut reader = Reader::new(self.rest);
@@ -275,7 +277,8 @@ impl<'a> FieldReader<'a> {
 
     /// A SEQ0_64K[B0_16M].
     pub fn seq_bytes(&mut self) -> Result<SeqBytes<'a>, MsgError>
-        ensures value { Reads SEQ0_64K_B0_16M (λ v. Parts (parts_at v.count v.spelled.now)) self.old result self.new }
+        ensures value { ReadsField SEQ0_64K_B0_16M
+            (λ v. Parts (parts_at v.count v.spelled.now)) self.old result self.new }
         ensures err { OnErr result (self.new ≡ self.old) }
     {
         let mut reader = Reader::new(self.rest);
@@ -290,7 +293,7 @@ impl<'a> FieldReader<'a> {
 
     /// No bytes follow.
     pub fn end(&self) -> Result<(), MsgError>
-        ensures { Ends self.now result }
+        ensures { MeetsEnd self.now result }
     {
         match self.rest {
             [] => Ok(()),

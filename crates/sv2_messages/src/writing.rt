@@ -2,8 +2,8 @@
 
 ghost use Rattle.std.specs.Prelude.{◌≡◌, ◌↔◌, ◌+◌, ◌≤◌, ◌<◌, ◌^◌, ◌++◌, length, List, IsTrue, OnOk, OnErr, IfSome, IfNone};
 ghost use Rattle.pool_base.specs.Lists.{Begins};
-ghost use Rattle.sv2_messages.specs.Messages.{Message, Row, Fits, message_frame, ext_of, frame_with};
-ghost use Rattle.sv2_messages.specs.Writing.{AreFields, Fit, types_in, values_in, spelled};
+ghost use Rattle.sv2_messages.specs.Messages.{Message, Row, FitsFrame, message_frame, ext_of, frame_with};
+ghost use Rattle.sv2_messages.specs.Writing.{AreFields, FitPayload, types_in, values_in, spellings_of};
 
 use crate::field::Field;
 use crate::kinds::{NEW_MINING_JOB, SET_TARGET};
@@ -18,16 +18,20 @@ const PAYLOAD_LIMIT: usize = 1 << 24;
 
 /// Whether the fields of a message have spellings that a payload has room for.
 pub fn fits(fields: &[Field<'_>]) -> bool
-    ensures fits { IsTrue result → (table : List Row) (message : Message) → AreFields table message fields.now → Fits table message }
-    ensures only { (table : List Row) (message : Message) → AreFields table message fields.now → Fits table message → IsTrue result }
+    ensures fits { IsTrue result → (table : List Row) (message : Message)
+        → AreFields table message fields.now → FitsFrame table message }
+    ensures only { (table : List Row) (message : Message) → AreFields table message fields.now
+        → FitsFrame table message → IsTrue result }
 {
     payload_len(fields).is_some()
 }
 
 /// Appends the frame of a message of this kind with these fields, or nothing where memory runs out.
 pub fn put_frame(out: &mut Vec<u8>, kind: u8, fields: &[Field<'_>]) -> Result<(), AllocError>
-    requires { (table : List Row) × (message : Message) × AreFields table message fields.now × Fits table message × (message.kind ≡ kind) }
-    ensures ok { (table : List Row) (message : Message) → message.kind ≡ kind → AreFields table message fields.now
+    requires { (table : List Row) × (message : Message) × AreFields table message fields.now
+        × FitsFrame table message × (message.kind ≡ kind) }
+    ensures ok { (table : List Row) (message : Message) → message.kind ≡ kind
+        → AreFields table message fields.now
         → OnOk result (out.new.items ≡ out.old.items ++ message_frame table message) }
     ensures err { OnErr result (out.new.items ≡ out.old.items) }
 {
@@ -41,8 +45,9 @@ pub fn put_frame(out: &mut Vec<u8>, kind: u8, fields: &[Field<'_>]) -> Result<()
 
 /// How many bytes the fields' spellings have, where they have any that a payload has room for.
 fn payload_len(fields: &[Field<'_>]) -> Option<usize>
-    ensures some { IfSome result (λ len. Fit fields.now × (len ≡ length (spelled fields.now))) }
-    ensures none { IfNone result (¬ (Fit fields.now)) }
+    ensures some { IfSome result (λ len. FitPayload fields.now
+        × (len ≡ length (spellings_of fields.now))) }
+    ensures none { IfNone result (¬ (FitPayload fields.now)) }
 {
     let mut len = 0;
     for field in fields {
@@ -54,7 +59,8 @@ fn payload_len(fields: &[Field<'_>]) -> Option<usize>
     Some(len)
 }
 
-/// The extension type of a message's frame. The kinds from 15 to 21, in hex digits, have the channel bit.
+/// The extension type of a message's frame. The kinds from 15 to 21, in hex digits, have the
+/// channel bit.
 fn extension_type(kind: u8) -> u16
     ensures { result ≡ ext_of kind }
 {
@@ -64,10 +70,12 @@ fn extension_type(kind: u8) -> u16
     }
 }
 
-/// Appends the header and the spellings. Want of memory can leave some of them behind the old bytes.
+/// Appends the header and the spellings. Want of memory can leave some of them behind the old
+/// bytes.
 fn put_parts(kind: u8, fields: &[Field<'_>], out: &mut Vec<u8>) -> Result<(), AllocError>
-    requires { Fit fields.now }
-    ensures ok { OnOk result (out.new.items ≡ out.old.items ++ frame_with kind (types_in fields.now) (values_in fields.now)) }
+    requires { FitPayload fields.now }
+    ensures ok { OnOk result (out.new.items ≡ out.old.items
+        ++ frame_with kind (types_in fields.now) (values_in fields.now)) }
     ensures err { OnErr result (Begins out.old.items out.new.items) }
 {
     let len = payload_len(fields).unwrap();
@@ -80,8 +88,8 @@ fn put_parts(kind: u8, fields: &[Field<'_>], out: &mut Vec<u8>) -> Result<(), Al
 
 /// Appends the spellings.
 fn put_fields(fields: &[Field<'_>], out: &mut Vec<u8>) -> Result<(), AllocError>
-    requires { Fit fields.now }
-    ensures ok { OnOk result (out.new.items ≡ out.old.items ++ spelled fields.now) }
+    requires { FitPayload fields.now }
+    ensures ok { OnOk result (out.new.items ≡ out.old.items ++ spellings_of fields.now) }
     ensures err { OnErr result (Begins out.old.items out.new.items) }
 {
     for field in fields {

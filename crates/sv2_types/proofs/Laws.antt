@@ -6,7 +6,7 @@ use Rattle.std.proofs.lemmas.Str.{is_utf8-from_IsUtf8}
 use Rattle.std.specs.Str.{IsUtf8}
 use Rattle.sv2_types.specs.Spelling.{spelled_u32, spelled_boolean, spelled_str255, spelled_b255, spelled_option_u32}
 use Rattle.sv2_types.specs.Fields.{FieldType, FieldValue, U8, U16, U24, U32, U64, UINT256, BOOL, F32, STR0_255, B0_255, B0_32, B0_64K, B0_16M, OPTION_U32, SEQ0_255_U256, SEQ0_64K_U256, SEQ0_64K_U16, SEQ0_64K_B0_16M, Number, Truth, Bytes, Perhaps, Numbers, Parts, Admits, spelling, SpellsTruth, Spells}
-use Rattle.sv2_types.specs.Reading.{said, size, value_at, defect, missing, text_defect}
+use Rattle.sv2_types.specs.Reading.{said, size, value_at, defect, short_defect, text_defect}
 use Rattle.sv2_types.proofs.Numbers.{said-u8, said-u16, said-u24, said-u32, said-u64}
 use Rattle.sv2_types.proofs.Items.{first_chunks-items, length-items, numbers_at-numbers, length-numbers, parts_at-parts, parts_size-parts}
 
@@ -87,7 +87,7 @@ size-spelled BOOL value spelled rest spells = rw spells.form.alone refl
 size-spelled type value spelled rest spells = rw spells.form (size-spelling type value rest spells.admits)
 
 -- what is there is not missing
-missing_none : (needed : ℕ) (rest : List ℕ) → needed ≤ length rest → missing needed rest ≡ None
+missing_none : (needed : ℕ) (rest : List ℕ) → needed ≤ length rest → short_defect needed rest ≡ None
 missing_none needed rest there = rw (le-ltb (length rest) needed there) refl
 
 -- nor is what is wanted of a text, a short B0_32 or an optional number

@@ -7,11 +7,11 @@ pub record Cursor : Type 0 where
   pub at : ℕ
 
 -- the bytes that are still to be read
-abbrev pub rest_of : Cursor → List ℕ
-rest_of cursor = drop cursor.at cursor.bytes
+abbrev pub unread_bytes : Cursor → List ℕ
+unread_bytes cursor = drop cursor.at cursor.bytes
 
 -- the reader moved over this spelling, which lies at the old place
-pub record Moves (spelling : List ℕ) (old new : Cursor) : Type 0 where
+pub record MovesOver (spelling : List ℕ) (old new : Cursor) : Type 0 where
   pub same : new.bytes ≡ old.bytes
   pub spelled : drop old.at old.bytes ≡ spelling ++ drop new.at old.bytes
   pub moved : new.at ≡ old.at + length spelling

@@ -1,10 +1,12 @@
--- The types of a message's fields, and what a spelling of a value is (Stratum V2, "Data Types Mapping").
+-- The types of a message's fields, and what a spelling of a value is (Stratum V2, "Data Types
+-- Mapping").
 use Rattle.std.specs.Prelude.{◌≡◌, ◌==◌, ℕ, ◌<◌, ◌≤◌, ◌^◌, ◌%◌, Bool, Option, None, Some, List, [], ◌∷◌, length, ⊤}
 use Rattle.std.specs.List.{AllByRecursion}
 use Rattle.std.specs.Str.{IsUtf8}
 use Rattle.sv2_types.specs.Spelling.{spelled_u8, spelled_u16, spelled_u24, spelled_u32, spelled_u64, spelled_boolean, spelled_str255, spelled_b255, spelled_b64k, spelled_b16m, spelled_option_u32, spelled_seq_u256, spelled_seq64k_u256, spelled_seq_u16, spelled_seq_bytes}
 
--- the types that the messages are made of, by the standard's names (UINT256 is U256, which is the name of a type of the code)
+-- the types that the messages are made of, by the standard's names (UINT256 is U256, which is the
+-- name of a type of the code)
 pub data FieldType : Type 0 where
   U8 : FieldType
   U16 : FieldType
@@ -25,7 +27,8 @@ pub data FieldType : Type 0 where
   SEQ0_64K_U16 : FieldType
   SEQ0_64K_B0_16M : FieldType
 
--- what a field's value is to contracts: a number, a truth, bytes or a text, a number or none, numbers, or several byte strings
+-- what a field's value is to contracts: a number, a truth, bytes or a text, a number or none,
+-- numbers, or several byte strings
 pub data FieldValue : Type 0 where
   Number : ℕ → FieldValue
   Truth : Bool → FieldValue
@@ -55,10 +58,14 @@ Admits B0_32 (Bytes content) = length content ≤ 32
 Admits B0_64K (Bytes content) = length content < 2 ^ 16
 Admits B0_16M (Bytes content) = length content < 2 ^ 24
 Admits OPTION_U32 (Perhaps value) = FitsPerhaps value
-Admits SEQ0_255_U256 (Parts items) = (length items < 2 ^ 8) × AllByRecursion (λ item. length item ≡ 32) items
-Admits SEQ0_64K_U256 (Parts items) = (length items < 2 ^ 16) × AllByRecursion (λ item. length item ≡ 32) items
-Admits SEQ0_64K_U16 (Numbers numbers) = (length numbers < 2 ^ 16) × AllByRecursion (λ n. n < 2 ^ 16) numbers
-Admits SEQ0_64K_B0_16M (Parts parts) = (length parts < 2 ^ 16) × AllByRecursion (λ part. length part < 2 ^ 24) parts
+Admits SEQ0_255_U256 (Parts items) =
+    (length items < 2 ^ 8) × AllByRecursion (λ item. length item ≡ 32) items
+Admits SEQ0_64K_U256 (Parts items) =
+    (length items < 2 ^ 16) × AllByRecursion (λ item. length item ≡ 32) items
+Admits SEQ0_64K_U16 (Numbers numbers) =
+    (length numbers < 2 ^ 16) × AllByRecursion (λ n. n < 2 ^ 16) numbers
+Admits SEQ0_64K_B0_16M (Parts parts) =
+    (length parts < 2 ^ 16) × AllByRecursion (λ part. length part < 2 ^ 24) parts
 Admits _ _ = ⊥
 
 -- the spelling that is written

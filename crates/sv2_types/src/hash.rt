@@ -4,8 +4,8 @@ ghost use Rattle.std.specs.Prelude.{◌≡◌, length};
 
 use std::marker::Model;
 
-/// 32 bytes in the order in which they stand in a header or a message; as a number the first byte is
-/// the lowest (Stratum V2, U256).
+/// 32 bytes in the order in which they stand in a header or a message; as a number the first byte
+/// is the lowest (Stratum V2, U256).
 #[derive(Clone, Copy, Debug, PartialEq, Eq)]
 pub struct U256 {
     bytes: [u8; 32],

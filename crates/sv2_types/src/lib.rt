@@ -1,4 +1,5 @@
-//! The primitive values of Stratum V2, read from bytes and written to them. It never looks at messages.
+//! The primitive values of Stratum V2, read from bytes and written to them. It never looks at
+//! messages.
 #![tactic(auto)]
 
 mod error;

@@ -130,7 +130,8 @@ impl<'a> SeqBytes<'a> {
 
     /// The byte string at a place, `None` past the end. The lengths before it are gone through.
     pub fn get(&self, at: usize) -> Option<&'a [u8]>
-        ensures { option_copied result ≡ slice_get (parts_at self.now.count self.now.spelled.now) at }
+        ensures { option_copied result
+            ≡ slice_get (parts_at self.now.count self.now.spelled.now) at }
     {
         let count = self.count as usize;
         if at >= count {
@@ -146,7 +147,8 @@ impl<'a> SeqBytes<'a> {
 fn behind_parts<'a>(spelled: &'a [u8], count: usize, passed: usize) -> &'a [u8]
     requires whole { parts_size count spelled.now ≡ length spelled.now }
     requires there { passed ≤ count }
-    ensures parts { parts_at (count - passed) result.now ≡ drop passed (parts_at count spelled.now) }
+    ensures parts { parts_at (count - passed) result.now
+        ≡ drop passed (parts_at count spelled.now) }
     ensures whole { parts_size (count - passed) result.now ≡ length result.now }
 {
     let mut rest = spelled;
@@ -158,9 +160,11 @@ fn behind_parts<'a>(spelled: &'a [u8], count: usize, passed: usize) -> &'a [u8]
 
 /// How many bytes so many byte strings take, each behind its length.
 pub(crate) fn size_of_parts(bytes: &[u8], count: usize) -> Result<usize, ReadError>
-    ensures ok { IfOk result (λ size. (size ≡ parts_size count bytes.now) × (size ≤ length bytes.now)) }
+    ensures ok { IfOk result (λ size. (size ≡ parts_size count bytes.now)
+        × (size ≤ length bytes.now)) }
     ensures spelled { IfOk result (λ size. SpellsParts count (take size bytes.now)) }
-    ensures err { IfErr result (λ e. (e ≡ ReadError.Short) × (length bytes.now < parts_size count bytes.now)) }
+    ensures err { IfErr result (λ e. (e ≡ ReadError.Short)
+        × (length bytes.now < parts_size count bytes.now)) }
 {
     let mut size = 0;
     for _ in 0..count {

@@ -191,8 +191,8 @@ fn each_type_reads_its_least_and_greatest_spelling(rt: HostRuntime) -> Result<()
     Ok(())
 }
 
-/// As many byte strings as can be, each empty. Reading them goes through their lengths, so cutting the
-/// spelling at each byte is shared among three tests.
+/// As many byte strings as can be, each empty. Reading them goes through their lengths, so cutting
+/// the spelling at each byte is shared among three tests.
 fn most_strings(alloc: Global) -> Result<Vec<u8>, Fail> {
     behind(alloc, b"\xff\xff", 0, 65_535 * 3)
 }
@@ -310,7 +310,10 @@ fn writers_append_the_standard_spelling(rt: HostRuntime) -> Result<(), Fail> {
     put_seq_u16(&mut out, SeqU16::of(b"\x07\x00"))?;
     assert_eq!(rt;
         out.as_slice(),
-        b"\xfe\x02\x01\x03\x02\x01\x04\x03\x02\x01\x08\x07\x06\x05\x04\x03\x02\x01\x01\x00\x01\x02\x03\x04\x02\xc3\xa9\x01a\x02bc\x01\x00d\x02\x00\x00ef\x00\x01\x05\x00\x00\x00\x01\x00\x07\x00".as_slice()
+        b"\xfe\x02\x01\x03\x02\x01\x04\x03\x02\x01\x08\x07\x06\x05\x04\x03\x02\x01\x01\x00\x01\x02\
+            \x03\x04\x02\xc3\xa9\x01a\x02bc\x01\x00d\x02\x00\x00ef\x00\x01\x05\x00\x00\x00\x01\x00\
+            \x07\x00"
+            .as_slice()
     );
 
     let mut out = Vec::new(rt.alloc());
@@ -351,4 +354,19 @@ fn owned_copies_are_made_with_ample_memory(rt: HostRuntime) -> Result<(), Fail> 
     let hashes = Hashes::from_vec(hashes.into_vec());
     assert!(rt; hashes.items() == items.as_slice());
     Ok(())
+}
+
+/// Each defect's number, by which a program can tell it.
+const NUMBERS: [(ReadError, u8); 4] = [
+    (ReadError::Short, 1),
+    (ReadError::LengthTooGreat, 2),
+    (ReadError::NotUtf8, 3),
+    (ReadError::CountTooGreat, 4),
+];
+
+#[test]
+fn errors_have_their_numbers(rt: HostRuntime) {
+    for (error, number) in NUMBERS {
+        assert_eq!(rt; error as u8, number);
+    }
 }

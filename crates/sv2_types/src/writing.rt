@@ -135,7 +135,8 @@ pub fn put_option_u32(out: &mut Vec<u8>, value: Option<u32>) -> Result<(), Alloc
 /// One byte of count, then the items.
 pub fn put_seq_u256(out: &mut Vec<u8>, value: Seq32<'_>) -> Result<(), AllocError>
     requires { length value.items.now < 2 ^ 8 }
-    ensures ok { OnOk result (out.new.items ≡ out.old.items ++ spelled_seq_u256 value.entry.items.now) }
+    ensures ok { OnOk result (out.new.items ≡ out.old.items
+        ++ spelled_seq_u256 value.entry.items.now) }
     ensures err { OnErr result (out.new.items ≡ out.old.items) }
 {
     let items = value.items;
@@ -144,7 +145,8 @@ pub fn put_seq_u256(out: &mut Vec<u8>, value: Seq32<'_>) -> Result<(), AllocErro
 
 /// Two bytes of count, low byte first, then the items.
 pub fn put_seq64k_u256(out: &mut Vec<u8>, value: Seq32<'_>) -> Result<(), AllocError>
-    ensures ok { OnOk result (out.new.items ≡ out.old.items ++ spelled_seq64k_u256 value.entry.items.now) }
+    ensures ok { OnOk result (out.new.items ≡ out.old.items
+        ++ spelled_seq64k_u256 value.entry.items.now) }
     ensures err { OnErr result (out.new.items ≡ out.old.items) }
 {
     let items = value.items;
@@ -157,7 +159,8 @@ pub fn put_seq64k_u256(out: &mut Vec<u8>, value: Seq32<'_>) -> Result<(), AllocE
 
 /// Two bytes of count, low byte first, then the numbers.
 pub fn put_seq_u16(out: &mut Vec<u8>, value: SeqU16<'_>) -> Result<(), AllocError>
-    ensures ok { OnOk result (out.new.items ≡ out.old.items ++ spelled_seq_u16 (numbers_of value.entry.spelled.now)) }
+    ensures ok { OnOk result (out.new.items ≡ out.old.items
+        ++ spelled_seq_u16 (numbers_of value.entry.spelled.now)) }
     ensures err { OnErr result (out.new.items ≡ out.old.items) }
 {
     let count = value.len() as u16;
@@ -166,7 +169,8 @@ pub fn put_seq_u16(out: &mut Vec<u8>, value: SeqU16<'_>) -> Result<(), AllocErro
 
 /// Two bytes of count, low byte first, then the byte strings.
 pub fn put_seq_bytes(out: &mut Vec<u8>, value: SeqBytes<'_>) -> Result<(), AllocError>
-    ensures ok { OnOk result (out.new.items ≡ out.old.items ++ spelled_seq_bytes (parts_at value.entry.count value.entry.spelled.now)) }
+    ensures ok { OnOk result (out.new.items ≡ out.old.items
+        ++ spelled_seq_bytes (parts_at value.entry.count value.entry.spelled.now)) }
     ensures err { OnErr result (out.new.items ≡ out.old.items) }
 {
     let count = value.len() as u16;

@@ -1,5 +1,5 @@
-//! The messages of the template distribution protocol, from their payloads and as frames. It takes no memory to read,
-//! and it knows no order in which messages come.
+//! The messages of the template distribution protocol, from their payloads and as frames. It takes
+//! no memory to read, and it knows no order in which messages come.
 #![tactic(auto)]
 
 mod message;

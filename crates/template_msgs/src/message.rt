@@ -1,9 +1,9 @@
 //! The messages as one type.
 
 ghost use Rattle.std.specs.Prelude.{◌≡◌, ◌↔◌, ◌++◌, IsTrue, OnOk, OnErr};
-ghost use Rattle.sv2_messages.specs.Messages.{Fits, message_frame};
-ghost use Rattle.sv2_messages.specs.Tables.{template};
-ghost use Rattle.template_msgs.specs.Seen.{seen};
+ghost use Rattle.sv2_messages.specs.Messages.{FitsFrame, message_frame};
+ghost use Rattle.sv2_messages.specs.Tables.{template_table};
+ghost use Rattle.template_msgs.specs.Seen.{template_message};
 
 use crate::templates::{CoinbaseOutputConstraints, NewTemplate, SetNewPrevHash, SubmitSolution};
 use crate::transactions::{
@@ -27,7 +27,7 @@ pub enum Template<'a> {
 impl Template<'_> {
     /// The message type of its frame.
     pub fn kind(&self) -> u8
-        ensures { result ≡ (seen self.now).kind }
+        ensures { result ≡ (template_message self.now).kind }
     {
         match self {
             Template::CoinbaseOutputConstraints(_) => kinds::COINBASE_OUTPUT_CONSTRAINTS,
@@ -42,7 +42,7 @@ impl Template<'_> {
 
     /// Whether each field has a spelling of its type, and the payload fewer than 2^24 bytes.
     pub fn fits(&self) -> bool
-        ensures { IsTrue result ↔ Fits template (seen self.now) }
+        ensures { IsTrue result ↔ FitsFrame template_table (template_message self.now) }
     {
         match self {
             Template::CoinbaseOutputConstraints(message) => fits(&message.fields()),
@@ -57,8 +57,9 @@ impl Template<'_> {
 
     /// Appends the whole frame, or nothing where memory runs out.
     pub fn frame(&self, out: &mut Vec<u8>) -> Result<(), AllocError>
-        requires { Fits template (seen self.now) }
-        ensures ok { OnOk result (out.new.items ≡ out.old.items ++ message_frame template (seen self.now)) }
+        requires { FitsFrame template_table (template_message self.now) }
+        ensures ok { OnOk result (out.new.items ≡ out.old.items
+            ++ message_frame template_table (template_message self.now)) }
         ensures err { OnErr result (out.new.items ≡ out.old.items) }
     {
         let kind = self.kind();

@@ -3,9 +3,9 @@
 ghost use Rattle.std.specs.Prelude.{◌≡◌, ◌↔◌, IfOk, IsOkAnd, IsErrOf};
 ghost use Rattle.sv2_messages.specs.declared.error.MsgError.{MsgError};
 ghost use Rattle.sv2_messages.specs.Messages.{Message, MsgOf};
-ghost use Rattle.sv2_messages.specs.Reading.{ReadsMessage, IsFirstDefect};
-ghost use Rattle.sv2_messages.specs.Tables.{template};
-ghost use Rattle.template_msgs.specs.Seen.{seen};
+ghost use Rattle.sv2_messages.specs.Reading.{IsFirstDefect};
+ghost use Rattle.sv2_messages.specs.Tables.{template_table};
+ghost use Rattle.template_msgs.specs.Seen.{template_message, ReadsTemplate};
 
 use crate::message::Template;
 use crate::templates::{
@@ -21,17 +21,19 @@ use sv2_messages::{MsgError, kinds};
 /// Reads a message. What it gives borrows the payload; it takes no memory.
 pub fn read<'a>(kind: u8, payload: &'a [u8]) -> Result<Template<'a>, MsgError>
     // What is read is the payload's message.
-    ensures found { IfOk result (λ m. MsgOf template kind payload.now (seen m)) }
+    ensures found { IfOk result (λ m. MsgOf template_table kind payload.now (template_message m)) }
     // A payload that is a message's is read as it.
-    ensures only { (m : Message) → MsgOf template kind payload.now m → IsOkAnd result (λ read. seen read ≡ m) }
+    ensures only { (m : Message) → MsgOf template_table kind payload.now m
+        → IsOkAnd result (λ read. template_message read ≡ m) }
     // Else it is the first defect.
-    ensures refused { (e : MsgError) → IsErrOf result e ↔ IsFirstDefect template kind payload.now e }
+    ensures refused { (e : MsgError) → IsErrOf result e
+        ↔ IsFirstDefect template_table kind payload.now e }
 {
     read_by_kind(kind, payload)
 }
 
 fn read_by_kind<'a>(kind: u8, payload: &'a [u8]) -> Result<Template<'a>, MsgError>
-    ensures { ReadsMessage template kind seen payload.now result }
+    ensures { ReadsTemplate kind payload.now result }
 {
     match kind {
         kinds::COINBASE_OUTPUT_CONSTRAINTS => read_coinbase_output_constraints(payload),

@@ -2,16 +2,16 @@
 
 ghost use Rattle.std.specs.Prelude.{◌≡◌};
 ghost use Rattle.sv2_messages.specs.declared.kinds.TheConstants as kinds;
-ghost use Rattle.sv2_messages.specs.Tables.{template};
-ghost use Rattle.sv2_messages.specs.Reading.{ReadsMessage};
+ghost use Rattle.sv2_messages.specs.Tables.{template_table};
 ghost use Rattle.sv2_messages.specs.Writing.{AreFields};
-ghost use Rattle.template_msgs.specs.Seen.{seen};
+ghost use Rattle.template_msgs.specs.Seen.{template_message, ReadsTemplate};
 
 use crate::message::Template;
 use sv2_messages::{Field, FieldReader, MsgError};
 use sv2_types::{Seq32, U256};
 
-/// Tells the template provider how much room the pool's outputs want (Stratum V2, "CoinbaseOutputConstraints").
+/// Tells the template provider how much room the pool's outputs want (Stratum V2,
+/// "CoinbaseOutputConstraints").
 #[derive(Clone, Copy, Debug, PartialEq, Eq)]
 pub struct CoinbaseOutputConstraints {
     /// Bytes that the pool's outputs may add to the coinbase.
@@ -23,7 +23,8 @@ pub struct CoinbaseOutputConstraints {
 impl CoinbaseOutputConstraints {
     /// The fields in their order.
     pub(crate) fn fields(&self) -> [Field<'_>; 2]
-        ensures { AreFields template (seen (Template.CoinbaseOutputConstraints self.now)) result }
+        ensures { AreFields template_table
+            (template_message (Template.CoinbaseOutputConstraints self.now)) result }
     {
         [
             Field::U32(self.max_additional_size),
@@ -36,7 +37,7 @@ impl CoinbaseOutputConstraints {
 pub(crate) fn read_coinbase_output_constraints<'a>(
     payload: &'a [u8],
 ) -> Result<Template<'a>, MsgError>
-    ensures { ReadsMessage template kinds.COINBASE_OUTPUT_CONSTRAINTS seen payload.now result }
+    ensures { ReadsTemplate kinds.COINBASE_OUTPUT_CONSTRAINTS payload.now result }
 {
     let mut fields = FieldReader::new(payload);
     let message = CoinbaseOutputConstraints {
@@ -47,7 +48,8 @@ pub(crate) fn read_coinbase_output_constraints<'a>(
     Ok(Template::CoinbaseOutputConstraints(message))
 }
 
-/// The template provider gives a block to be mined, but for its coinbase (Stratum V2, "NewTemplate").
+/// The template provider gives a block to be mined, but for its coinbase (Stratum V2,
+/// "NewTemplate").
 #[derive(Clone, Copy, Debug, PartialEq, Eq)]
 pub struct NewTemplate<'a> {
     pub template_id: u64,
@@ -64,14 +66,16 @@ pub struct NewTemplate<'a> {
     /// The outputs one after the other, without their count, in Bitcoin's raw transaction format.
     pub coinbase_tx_outputs: &'a [u8],
     pub coinbase_tx_locktime: u32,
-    /// The hashes beside the coinbase's on the way to the root, each 32 bytes as they stand in a block header.
+    /// The hashes beside the coinbase's on the way to the root, each 32 bytes as they stand in a
+    /// block header.
     pub merkle_path: Seq32<'a>,
 }
 
 impl NewTemplate<'_> {
     /// The fields in their order.
     pub(crate) fn fields(&self) -> [Field<'_>; 11]
-        ensures { AreFields template (seen (Template.NewTemplate self.now)) result }
+        ensures { AreFields template_table
+            (template_message (Template.NewTemplate self.now)) result }
     {
         [
             Field::U64(self.template_id),
@@ -91,7 +95,7 @@ impl NewTemplate<'_> {
 
 #[tactic(auto, unfolding(sv2_messages::specs::Reading::values_of))]
 pub(crate) fn read_new_template<'a>(payload: &'a [u8]) -> Result<Template<'a>, MsgError>
-    ensures { ReadsMessage template kinds.NEW_TEMPLATE seen payload.now result }
+    ensures { ReadsTemplate kinds.NEW_TEMPLATE payload.now result }
 {
     let mut fields = FieldReader::new(payload);
     let message = NewTemplate {
@@ -111,7 +115,8 @@ pub(crate) fn read_new_template<'a>(payload: &'a [u8]) -> Result<Template<'a>, M
     Ok(Template::NewTemplate(message))
 }
 
-/// The template provider makes a future template the one on the new tip (Stratum V2, "SetNewPrevHash").
+/// The template provider makes a future template the one on the new tip (Stratum V2,
+/// "SetNewPrevHash").
 #[derive(Clone, Copy, Debug, PartialEq, Eq)]
 pub struct SetNewPrevHash {
     pub template_id: u64,
@@ -128,7 +133,8 @@ pub struct SetNewPrevHash {
 impl SetNewPrevHash {
     /// The fields in their order.
     pub(crate) fn fields(&self) -> [Field<'_>; 5]
-        ensures { AreFields template (seen (Template.SetNewPrevHash self.now)) result }
+        ensures { AreFields template_table
+            (template_message (Template.SetNewPrevHash self.now)) result }
     {
         [
             Field::U64(self.template_id),
@@ -142,7 +148,7 @@ impl SetNewPrevHash {
 
 #[tactic(auto, unfolding(sv2_messages::specs::Reading::values_of))]
 pub(crate) fn read_set_new_prev_hash<'a>(payload: &'a [u8]) -> Result<Template<'a>, MsgError>
-    ensures { ReadsMessage template kinds.TEMPLATE_SET_NEW_PREV_HASH seen payload.now result }
+    ensures { ReadsTemplate kinds.TEMPLATE_SET_NEW_PREV_HASH payload.now result }
 {
     let mut fields = FieldReader::new(payload);
     let message = SetNewPrevHash {
@@ -172,7 +178,8 @@ pub struct SubmitSolution<'a> {
 impl SubmitSolution<'_> {
     /// The fields in their order.
     pub(crate) fn fields(&self) -> [Field<'_>; 5]
-        ensures { AreFields template (seen (Template.SubmitSolution self.now)) result }
+        ensures { AreFields template_table
+            (template_message (Template.SubmitSolution self.now)) result }
     {
         [
             Field::U64(self.template_id),
@@ -186,7 +193,7 @@ impl SubmitSolution<'_> {
 
 #[tactic(auto, unfolding(sv2_messages::specs::Reading::values_of))]
 pub(crate) fn read_submit_solution<'a>(payload: &'a [u8]) -> Result<Template<'a>, MsgError>
-    ensures { ReadsMessage template kinds.SUBMIT_SOLUTION seen payload.now result }
+    ensures { ReadsTemplate kinds.SUBMIT_SOLUTION payload.now result }
 {
     let mut fields = FieldReader::new(payload);
     let message = SubmitSolution {

@@ -2,10 +2,9 @@
 
 ghost use Rattle.std.specs.Prelude.{◌≡◌};
 ghost use Rattle.sv2_messages.specs.declared.kinds.TheConstants as kinds;
-ghost use Rattle.sv2_messages.specs.Tables.{template};
-ghost use Rattle.sv2_messages.specs.Reading.{ReadsMessage};
+ghost use Rattle.sv2_messages.specs.Tables.{template_table};
 ghost use Rattle.sv2_messages.specs.Writing.{AreFields};
-ghost use Rattle.template_msgs.specs.Seen.{seen};
+ghost use Rattle.template_msgs.specs.Seen.{template_message, ReadsTemplate};
 
 use crate::message::Template;
 use sv2_messages::{Field, FieldReader, MsgError};
@@ -20,7 +19,8 @@ pub struct RequestTransactionData {
 impl RequestTransactionData {
     /// The fields in their order.
     pub(crate) fn fields(&self) -> [Field<'_>; 1]
-        ensures { AreFields template (seen (Template.RequestTransactionData self.now)) result }
+        ensures { AreFields template_table
+            (template_message (Template.RequestTransactionData self.now)) result }
     {
         [Field::U64(self.template_id)]
     }
@@ -28,7 +28,7 @@ impl RequestTransactionData {
 
 #[tactic(auto, unfolding(sv2_messages::specs::Reading::values_of))]
 pub(crate) fn read_request_transaction_data<'a>(payload: &'a [u8]) -> Result<Template<'a>, MsgError>
-    ensures { ReadsMessage template kinds.REQUEST_TRANSACTION_DATA seen payload.now result }
+    ensures { ReadsTemplate kinds.REQUEST_TRANSACTION_DATA payload.now result }
 {
     let mut fields = FieldReader::new(payload);
     let message = RequestTransactionData {
@@ -50,7 +50,8 @@ pub struct RequestTransactionDataSuccess<'a> {
 impl RequestTransactionDataSuccess<'_> {
     /// The fields in their order.
     pub(crate) fn fields(&self) -> [Field<'_>; 3]
-        ensures { AreFields template (seen (Template.RequestTransactionDataSuccess self.now)) result }
+        ensures { AreFields template_table
+            (template_message (Template.RequestTransactionDataSuccess self.now)) result }
     {
         [
             Field::U64(self.template_id),
@@ -64,7 +65,7 @@ impl RequestTransactionDataSuccess<'_> {
 pub(crate) fn read_request_transaction_data_success<'a>(
     payload: &'a [u8],
 ) -> Result<Template<'a>, MsgError>
-    ensures { ReadsMessage template kinds.REQUEST_TRANSACTION_DATA_SUCCESS seen payload.now result }
+    ensures { ReadsTemplate kinds.REQUEST_TRANSACTION_DATA_SUCCESS payload.now result }
 {
     let mut fields = FieldReader::new(payload);
     let message = RequestTransactionDataSuccess {
@@ -76,7 +77,8 @@ pub(crate) fn read_request_transaction_data_success<'a>(
     Ok(Template::RequestTransactionDataSuccess(message))
 }
 
-/// Refuses a template's transactions, with an error code (Stratum V2, "RequestTransactionData.Error").
+/// Refuses a template's transactions, with an error code (Stratum V2,
+/// "RequestTransactionData.Error").
 #[derive(Clone, Copy, Debug, PartialEq, Eq)]
 pub struct RequestTransactionDataError<'a> {
     pub template_id: u64,
@@ -86,7 +88,8 @@ pub struct RequestTransactionDataError<'a> {
 impl RequestTransactionDataError<'_> {
     /// The fields in their order.
     pub(crate) fn fields(&self) -> [Field<'_>; 2]
-        ensures { AreFields template (seen (Template.RequestTransactionDataError self.now)) result }
+        ensures { AreFields template_table
+            (template_message (Template.RequestTransactionDataError self.now)) result }
     {
         [Field::U64(self.template_id), Field::Str255(self.error_code)]
     }
@@ -96,7 +99,7 @@ impl RequestTransactionDataError<'_> {
 pub(crate) fn read_request_transaction_data_error<'a>(
     payload: &'a [u8],
 ) -> Result<Template<'a>, MsgError>
-    ensures { ReadsMessage template kinds.REQUEST_TRANSACTION_DATA_ERROR seen payload.now result }
+    ensures { ReadsTemplate kinds.REQUEST_TRANSACTION_DATA_ERROR payload.now result }
 {
     let mut fields = FieldReader::new(payload);
     let message = RequestTransactionDataError {

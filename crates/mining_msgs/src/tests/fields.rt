@@ -1,4 +1,5 @@
-//! Each message's fields by their names, with the values that its frame has at their places in the tables.
+//! Each message's fields by their names, with the values that its frame has at their places in the
+//! tables.
 
 use super::CASES;
 use crate::{

@@ -1,14 +1,14 @@
 use Rattle.std.proofs.Common.{arith}
-use Rattle.sv2_messages.specs.Tables.{mining}
+use Rattle.sv2_messages.specs.Tables.{mining_table}
 use Rattle.sv2_messages.proofs.Answering.{found, only, refused}
-use Rattle.mining_msgs.specs.Seen.{seen}
+use Rattle.mining_msgs.specs.Seen.{mining_message}
 use Rattle.mining_msgs.proofs.reading.read.Goals as goal
 
 pub returns-clause-found : goal.returns-clause-found
-returns-clause-found c = found seen _ mining _ _ (λ i. omega (arith, c.type_inv.payload i)) c.read_by_kind.ensures
+returns-clause-found c = found mining_message _ mining_table _ _ (λ i. omega (arith, c.type_inv.payload i)) c.read_by_kind.ensures
 
 pub returns-clause-only : goal.returns-clause-only
-returns-clause-only c = only seen _ mining _ _ c.read_by_kind.ensures
+returns-clause-only c = only mining_message _ mining_table _ _ c.read_by_kind.ensures
 
 pub returns-clause-refused : goal.returns-clause-refused
-returns-clause-refused c = refused seen _ mining _ _ (λ i. omega (arith, c.type_inv.payload i)) c.read_by_kind.ensures
+returns-clause-refused c = refused mining_message _ mining_table _ _ (λ i. omega (arith, c.type_inv.payload i)) c.read_by_kind.ensures

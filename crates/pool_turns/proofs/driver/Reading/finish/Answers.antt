@@ -1,5 +1,5 @@
 use Rattle.std.proofs.Common.{ℕ, List, ◌++◌, Option, append-nil, refl}
-use Rattle.pool_io.specs.Steps.{Step, bytes_in}
+use Rattle.pool_io.specs.Steps.{ReadStep, bytes_in}
 use Rattle.pool_turns.specs.Between.{HasAnswered}
 use Rattle.pool_turns.specs.Owing.{OwesSome}
 use Rattle.pool_turns.proofs.Driving.{memory_ends_at, done_ends_at, cut_ends_at, whole_some, cut_some, put_fault_ends_at, put_memory_ends_at}
@@ -7,13 +7,13 @@ use Rattle.pool_turns.proofs.driver.Reading.finish.Goals as goal
 use Rattle.pool_turns.proofs.driver.Reading.finish.Goals.{After-put_all, in-Ok, in-Err-Refused}
 
 -- the command has read the bytes, and the text is empty
-read_at : (g : _) (c : After-put_all g) (before : Option (List ℕ)) (steps : List Step)
+read_at : (g : _) (c : After-put_all g) (before : Option (List ℕ)) (steps : List ReadStep)
     → (answered : HasAnswered (g.C.StreamCommand.has_read c.args.self.now.command) c.args.self.now.tally before (g.T.Sink.held c.args.sink.now) steps)
     → g.C.StreamCommand.has_read c.args.self.now.command (bytes_in steps) (answered.given ++ c.clear.new.self.items)
 read_at g c before steps answered = rw (c.clear.ensures.items, append-nil answered.given) answered.read
 
 -- whichever way the input ended, the text is owed
-owed_at : (g : _) (c : After-put_all g) (before : Option (List ℕ)) (steps : List Step)
+owed_at : (g : _) (c : After-put_all g) (before : Option (List ℕ)) (steps : List ReadStep)
     → (answered : HasAnswered (g.C.StreamCommand.has_read c.args.self.now.command) c.args.self.now.tally before (g.T.Sink.held c.args.sink.now) steps)
     → OwesSome (g.C.StreamCommand.duty (g.C.StreamCommand.asked c.args.self.now.command)) steps (answered.given ++ c.end.new.text.items)
 owed_at g c before steps answered =

@@ -1,5 +1,5 @@
 use Rattle.std.proofs.Common.{◌≡◌, ◌+◌, ◌^◌, ◌<◌, ◌≤◌, ℕ, List, [], ◌++◌, Option, Some, length, map, refl, sym, subst, ◌∙◌, append-nil, arith}
-use Rattle.pool_io.specs.Steps.{Step, bytes_in}
+use Rattle.pool_io.specs.Steps.{ReadStep, bytes_in}
 use Rattle.pool_turns.specs.Between.{HasAnswered}
 use Rattle.pool_turns.specs.Owing.{OwesSome}
 use Rattle.pool_turns.specs.Duties.{RefusesWithin}
@@ -20,7 +20,7 @@ refuses : (g : _) (c : After-put_all g) (piece text : List ℕ)
     → RefusesWithin (g.C.StreamCommand.has_read c.args.self.now.command) ((g.C.StreamCommand.duty (g.C.StreamCommand.asked c.args.self.now.command)).Refused) piece [] text
 refuses g c piece text refused = rw c.clear.ensures.items at refused
 
-module _ (g : _) (c : After-put_all g) (before : Option (List ℕ)) (steps : List Step)
+module _ (g : _) (c : After-put_all g) (before : Option (List ℕ)) (steps : List ReadStep)
     (answered : HasAnswered (g.C.StreamCommand.has_read c.args.self.now.command) c.args.self.now.tally before (g.T.Sink.held c.args.sink.now) steps) where
   -- the bytes before the piece are few enough, and the command has read them
   few : length (bytes_in steps ++ c.args.piece.now) ≤ 2 ^ 40
@@ -32,7 +32,7 @@ module _ (g : _) (c : After-put_all g) (before : Option (List ℕ)) (steps : Lis
   read_before = rw (c.clear.ensures.items, append-nil answered.given) answered.read
 
   -- whichever way the piece ended, the text is owed
-  owed_at : (rest : List Step) → OwesSome (g.C.StreamCommand.duty (g.C.StreamCommand.asked c.args.self.now.command)) ((steps ++ map Some c.args.piece.now) ++ rest) (answered.given ++ c.read.new.text.items)
+  owed_at : (rest : List ReadStep) → OwesSome (g.C.StreamCommand.duty (g.C.StreamCommand.asked c.args.self.now.command)) ((steps ++ map Some c.args.piece.now) ++ rest) (answered.given ++ c.read.new.text.items)
   owed_at rest =
       let duty = g.C.StreamCommand.duty (g.C.StreamCommand.asked c.args.self.now.command) in
       elim c.match-read.branch [
@@ -73,7 +73,7 @@ returns-then-refused-clause-goes g c = λ before steps answered.
     ]
 
 -- the whole piece was read
-read_whole : (g : _) (c : Else-refused g) (before : Option (List ℕ)) (steps : List Step)
+read_whole : (g : _) (c : Else-refused g) (before : Option (List ℕ)) (steps : List ReadStep)
     → (answered : HasAnswered (g.C.StreamCommand.has_read c.args.self.now.command) c.args.self.now.tally before (g.T.Sink.held c.args.sink.now) steps)
     → length (bytes_in steps ++ c.args.piece.now) ≤ 2 ^ 40 → g.C.StreamCommand.has_read c.args.self.now.command (bytes_in steps) (answered.given ++ c.clear.new.self.items)
     → g.C.StreamCommand.has_read c.read.new.self (bytes_in steps ++ c.args.piece.now) (answered.given ++ c.read.new.text.items)
