@@ -5,6 +5,7 @@ use Rattle.std.proofs.lemmas.Bool.{le-ltb, cases_lt, eqb-true}
 use Rattle.sv2_types.specs.Fields.{FieldType, FieldValue, U32, Number}
 use Rattle.sv2_types.specs.Reading.{said}
 use Rattle.sv2_types.proofs.Items.{IsBytes}
+use Rattle.sv2_messages.specs.declared.kinds.TheConstants as kinds
 use Rattle.sv2_messages.specs.Messages.{Message, AreSpelled, MsgOf}
 use Rattle.sv2_messages.specs.Tables.{mining_table}
 use Rattle.sv2_messages.proofs.Numbers.{IsBytes-drop}
@@ -36,9 +37,9 @@ numbers_spelled (suc count) bytes fits long =
 
 -- the message that 24 bytes are
 abbrev pub share_message : List ℕ → Message
-share_message payload = record { kind = 0x1a; fields = numbers 6 payload }
+share_message payload = record { kind = kinds.SUBMIT_SHARES_STANDARD; fields = numbers 6 payload }
 
-pub is_share : (payload : List ℕ) → IsBytes payload → length payload ≡ 24 → MsgOf mining_table 0x1a payload (share_message payload)
+pub is_share : (payload : List ℕ) → IsBytes payload → length payload ≡ 24 → MsgOf mining_table kinds.SUBMIT_SHARES_STANDARD payload (share_message payload)
 is_share payload fits long = record {
   same_kind = refl;
   types = types 6;
@@ -54,12 +55,12 @@ plain ext fits none = elim (cases_lt ext 0x8000) [
 ]
 
 -- of a plain header of a share's kind the length decides
-pub length_decides : (ext kind len : ℕ) → ext < 2 ^ 16 → len < 2 ^ 24 → ext % 0x8000 ≡ 0 → kind ≡ 0x1a
+pub length_decides : (ext kind len : ℕ) → ext < 2 ^ 16 → len < 2 ^ 24 → ext % 0x8000 ≡ 0 → kind ≡ kinds.SUBMIT_SHARES_STANDARD
     → IsTrue (nat_eq len 24) ↔ IsShareHeader (header_of ext kind len)
 length_decides ext kind len ext_fits len_fits none is = (
-  λ long. (ext, plain ext ext_fits none, ap (λ k. header_of ext k len) is ∙ ap (λ n. header_of ext 0x1a n) (eqb-true len 24 long)),
+  λ long. (ext, plain ext ext_fits none, ap (λ k. header_of ext k len) is ∙ ap (λ n. header_of ext kinds.SUBMIT_SHARES_STANDARD n) (eqb-true len 24 long)),
   λ header.
       let says = ap payload_length header.2 in
-      let long : len ≡ 24 = sym (payload_length-header ext kind len [] len_fits) ∙ says ∙ payload_length-header header.0 0x1a 24 [] (omega arith) in
+      let long : len ≡ 24 = sym (payload_length-header ext kind len [] len_fits) ∙ says ∙ payload_length-header header.0 kinds.SUBMIT_SHARES_STANDARD 24 [] (omega arith) in
       rw long refl,
 )

@@ -2,6 +2,7 @@
 use Rattle.std.proofs.Common.{◌≡◌, ◌≢◌, ℕ, ◌<◌, ◌≤◌, ◌^◌, List, [], ◌∷◌, ◌++◌, length, take, refl, sym, ap, ◌∙◌, append_assoc, append-nil, arith, length-append, inl, inr}
 use Rattle.std.proofs.lemmas.List.{take-append-le}
 use Rattle.std.proofs.lemmas.Bool.{cases_lt}
+use Rattle.sv2_messages.specs.declared.kinds.TheConstants as kinds
 use Rattle.sv2_frames.specs.Framing.{header_of, frame_of, payload_length}
 use Rattle.sv2_frames.specs.Holding.{Holding, IsCut, IsCutWithin, IsHeldFrame, HoldsOver}
 use Rattle.sv2_frames.proofs.Cutting.{payload_length-header}
@@ -45,8 +46,8 @@ header_says : (ext kind : ℕ) (payload rest held : List ℕ) → held ++ rest �
     → IsShareHeader (take 6 held) → length payload ≡ 24
 header_says ext kind payload rest held whole fits long header =
     let front : take 6 held ≡ header_of ext kind (length payload) = sym (take-append-le 6 held rest long) ∙ ap (take 6) whole in
-    let says : payload_length (header_of ext kind (length payload)) ≡ payload_length (header_of header.0 0x1a 24) = ap payload_length (sym front ∙ header.2) in
-    sym (payload_length-header ext kind (length payload) [] fits) ∙ says ∙ payload_length-header header.0 0x1a 24 [] (omega arith)
+    let says : payload_length (header_of ext kind (length payload)) ≡ payload_length (header_of header.0 kinds.SUBMIT_SHARES_STANDARD 24) = ap payload_length (sym front ∙ header.2) in
+    sym (payload_length-header ext kind (length payload) [] fits) ∙ says ∙ payload_length-header header.0 kinds.SUBMIT_SHARES_STANDARD 24 [] (omega arith)
 
 -- a frame that begins as a share's has its length
 pub share_length : (ext kind : ℕ) (payload : List ℕ) (holding : Holding) → IsHeldFrame ext kind payload holding → BeginsShare holding.held → length payload ≡ 24
@@ -65,7 +66,7 @@ frame_from holding ext kind payload s held begins spelled fits =
       ext = header.0;
       bit = header.1;
       fits = fits;
-      spelled = held.whole ∙ ap (λ h. h ++ payload) (sym front ∙ header.2) ∙ ap (λ p. header_of header.0 0x1a 24 ++ p) spelled;
+      spelled = held.whole ∙ ap (λ h. h ++ payload) (sym front ∙ header.2) ∙ ap (λ p. header_of header.0 kinds.SUBMIT_SHARES_STANDARD 24 ++ p) spelled;
     }
 
 -- a proper prefix of a frame that begins as a share's is shorter than that
@@ -91,8 +92,8 @@ over_other len holding over limit = record {
   long = omega (arith, ap length over.header);
   header = λ header.
       let front : take 6 holding.held ≡ header_of over.ext over.kind len = ap (take 6) over.header in
-      let says : payload_length (header_of over.ext over.kind len) ≡ payload_length (header_of header.0 0x1a 24) = ap payload_length (sym front ∙ header.2) in
-      omega (arith, says, payload_length-header over.ext over.kind len [] over.length_fits, payload_length-header header.0 0x1a 24 [], limit, over.over);
+      let says : payload_length (header_of over.ext over.kind len) ≡ payload_length (header_of header.0 kinds.SUBMIT_SHARES_STANDARD 24) = ap payload_length (sym front ∙ header.2) in
+      omega (arith, says, payload_length-header over.ext over.kind len [] over.length_fits, payload_length-header header.0 kinds.SUBMIT_SHARES_STANDARD 24 [], limit, over.over);
 }
 
 -- no whole frame is held, and no other one begins there

@@ -5,6 +5,7 @@ use Rattle.sv2_types.specs.Spelling.{spelled_u32, spelled_u64, spelled_str255}
 use Rattle.sv2_frames.specs.Framing.{frame_of}
 use Rattle.block_header.specs.Hash.{dsha, meets}
 use Rattle.block_header.specs.Layout.{header_bytes}
+use Rattle.sv2_messages.specs.declared.kinds.TheConstants as kinds
 use Rattle.mining_msgs.specs.declared.shares.SubmitSharesStandard.{SubmitSharesStandard}
 use Rattle.fixed_job.specs.declared.judge.Job.{Job}
 use Rattle.fixed_job.specs.declared.submission.Rolled.{Rolled}
@@ -43,9 +44,9 @@ error_code DuplicateShare = codes "duplicate-share"
 -- SubmitShares.Success with one share of the class's work, or SubmitShares.Error with the code
 abbrev pub answer_of : ℕ → SubmitSharesStandard → Option Refusal → List ℕ
 answer_of class s None =
-    frame_of 0x8000 0x1c (spelled_u32 s.channel_id ++ spelled_u32 s.sequence_number ++ spelled_u32 1 ++ spelled_u64 (2 ^ class))
+    frame_of 0x8000 kinds.SUBMIT_SHARES_SUCCESS (spelled_u32 s.channel_id ++ spelled_u32 s.sequence_number ++ spelled_u32 1 ++ spelled_u64 (2 ^ class))
 answer_of class s (Some refusal) =
-    frame_of 0x8000 0x1d (spelled_u32 s.channel_id ++ spelled_u32 s.sequence_number ++ spelled_str255 (error_code refusal))
+    frame_of 0x8000 kinds.SUBMIT_SHARES_ERROR (spelled_u32 s.channel_id ++ spelled_u32 s.sequence_number ++ spelled_str255 (error_code refusal))
 
 -- the answers to the later submissions, one after the other
 unfoldable pub answers_after : ℕ → Job → List SubmitSharesStandard → List SubmitSharesStandard → List ℕ

@@ -2,6 +2,7 @@
 use Rattle.std.specs.Prelude.{ℕ, ◌^◌, ◌≡◌, ◌<◌, ◌≤◌, ◌⊎◌, List, [], ◌∷◌, ◌++◌, length, take}
 use Rattle.sv2_types.specs.Spelling.{spelled_u32}
 use Rattle.sv2_frames.specs.Framing.{header_of, frame_of}
+use Rattle.sv2_messages.specs.declared.kinds.TheConstants as kinds
 use Rattle.mining_msgs.specs.declared.shares.SubmitSharesStandard.{SubmitSharesStandard}
 
 -- the channel bit of the extension type is set or not, and no other bit is
@@ -15,7 +16,7 @@ share_payload s = spelled_u32 s.channel_id ++ spelled_u32 s.sequence_number ++ s
 
 -- the six bytes begin a submission's frame
 abbrev pub IsShareHeader : List ℕ → Type 0
-IsShareHeader bytes = (ext : ℕ) × IsPlainOrChannel ext × (bytes ≡ header_of ext 0x1a 24)
+IsShareHeader bytes = (ext : ℕ) × IsPlainOrChannel ext × (bytes ≡ header_of ext kinds.SUBMIT_SHARES_STANDARD 24)
 
 -- each field has four bytes
 pub record HasFourByteFields (s : SubmitSharesStandard) : Type 0 where
@@ -31,7 +32,7 @@ pub record IsShareFrame (bytes : List ℕ) (s : SubmitSharesStandard) : Type 0 w
   pub ext : ℕ
   pub bit : IsPlainOrChannel ext
   pub fits : HasFourByteFields s
-  pub spelled : bytes ≡ frame_of ext 0x1a (share_payload s)
+  pub spelled : bytes ≡ frame_of ext kinds.SUBMIT_SHARES_STANDARD (share_payload s)
 
 -- the bytes are the frames of these submissions, one after the other, and then the rest
 abbrev pub SpellShares : List ℕ → List SubmitSharesStandard → List ℕ → Type 0

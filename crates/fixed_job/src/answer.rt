@@ -29,7 +29,7 @@ pub fn put_answer(
 /// Credits one share of the class's work, or tells why none is credited.
 fn answer_to(class: u8, share: SubmitSharesStandard, refusal: Option<Refusal>) -> Mining<'static>
     requires { class ≤ 60 }
-    ensures fits { FitsFrame mining_table (seen result) }
+    ensures fits { FitsFrame mining_table (mining_message result) }
     ensures frame { message_frame mining_table (mining_message result) ≡ answer_of class share refusal }
 {
     match refusal {

@@ -7,12 +7,10 @@ ghost use Rattle.fixed_job.specs.Submitting.{IsShareHeader, IsOtherHeader, Begin
 
 use mining_msgs::{Mining, SubmitSharesStandard, read};
 use sv2_frames::{FrameHeader, Splitter};
+use sv2_messages::kinds::SUBMIT_SHARES_STANDARD;
 
 /// The channel bit of an extension type, which isn't looked at.
 const CHANNEL_BIT: u16 = 0x8000;
-
-/// The message type of SubmitSharesStandard.
-const SUBMIT_SHARES_STANDARD: u8 = 0x1a;
 
 /// The bytes of its payload.
 pub const PAYLOAD_LEN: u32 = 24;
