@@ -26,7 +26,8 @@ abbrev pub is_submitted : List SubmitSharesStandard → Rolled → Bool
 is_submitted earlier r = list_any (λ s. is_ours s && is_same r (rolled_of s)) earlier
 
 -- the first of the four conditions that is false of a submission after the earlier ones, or none
-abbrev pub first_refusal : ℕ → Job → List SubmitSharesStandard → SubmitSharesStandard → Option Refusal
+abbrev pub first_refusal : ℕ → Job → List SubmitSharesStandard → SubmitSharesStandard
+    → Option Refusal
 first_refusal class job earlier s =
     if not (s.channel_id == 1) then Some InvalidChannelId
     else if not (s.job_id == 1) then Some InvalidJobId
@@ -44,15 +45,20 @@ error_code DuplicateShare = codes "duplicate-share"
 -- SubmitShares.Success with one share of the class's work, or SubmitShares.Error with the code
 abbrev pub answer_of : ℕ → SubmitSharesStandard → Option Refusal → List ℕ
 answer_of class s None =
-    frame_of 0x8000 kinds.SUBMIT_SHARES_SUCCESS (spelled_u32 s.channel_id ++ spelled_u32 s.sequence_number ++ spelled_u32 1 ++ spelled_u64 (2 ^ class))
+    frame_of 0x8000 kinds.SUBMIT_SHARES_SUCCESS
+    (spelled_u32 s.channel_id ++ spelled_u32 s.sequence_number ++ spelled_u32 1
+    ++ spelled_u64 (2 ^ class))
 answer_of class s (Some refusal) =
-    frame_of 0x8000 kinds.SUBMIT_SHARES_ERROR (spelled_u32 s.channel_id ++ spelled_u32 s.sequence_number ++ spelled_str255 (error_code refusal))
+    frame_of 0x8000 kinds.SUBMIT_SHARES_ERROR (spelled_u32 s.channel_id
+    ++ spelled_u32 s.sequence_number ++ spelled_str255 (error_code refusal))
 
 -- the answers to the later submissions, one after the other
-unfoldable pub answers_after : ℕ → Job → List SubmitSharesStandard → List SubmitSharesStandard → List ℕ
+unfoldable pub answers_after : ℕ → Job → List SubmitSharesStandard → List SubmitSharesStandard
+    → List ℕ
 answers_after class job earlier [] = []
 answers_after class job earlier (s ∷ later) =
-    answer_of class s (first_refusal class job earlier s) ++ answers_after class job (earlier ++ s ∷ []) later
+    answer_of class s (first_refusal class job earlier s)
+    ++ answers_after class job (earlier ++ s ∷ []) later
 
 -- the answers to the submissions of a fixed job
 abbrev pub answers_to : ℕ → Job → List SubmitSharesStandard → List ℕ

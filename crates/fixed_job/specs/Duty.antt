@@ -6,8 +6,10 @@ use Rattle.fixed_job.specs.declared.judge.Job.{Job}
 use Rattle.fixed_job.specs.Answers.{answers_to}
 use Rattle.fixed_job.specs.Submitting.{SpellShares, IsPartialShare, IsOtherHeader}
 
--- the bytes are the frames of some submissions and then a rest of this kind, and the text is the answers to them
-pub record AnswersShares (class : ℕ) (job : Job) (IsKind : List ℕ → Type 0) (bytes text : List ℕ) : Type 0 where
+-- the bytes are the frames of some submissions and then a rest of this kind, and the text is the
+-- answers to them
+pub record AnswersShares (class : ℕ) (job : Job) (IsKind : List ℕ → Type 0) (bytes text : List ℕ) :
+    Type 0 where
   pub shares : List SubmitSharesStandard
   pub rest : List ℕ
   pub spelled : SpellShares bytes shares rest
@@ -19,8 +21,9 @@ pub record IsCutShare (rest : List ℕ) : Type 0 where
   pub some : rest ≢ []
   pub partial : IsPartialShare rest
 
--- The input is whole where it is frames of submissions and nothing else; another header refuses it, and so does its
--- end within a frame. Always the text is the answers to the submissions before that.
+-- The input is whole where it is frames of submissions and nothing else; another header refuses it,
+-- and so does its end within a frame. Always the text is the answers to the submissions before
+-- that.
 abbrev pub share_duty : ℕ → Job → Duty
 share_duty class job = record {
   Whole = AnswersShares class job IsNothing;

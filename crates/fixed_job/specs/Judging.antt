@@ -15,7 +15,8 @@ abbrev pub RemembersCredits : Judge → List SubmitSharesStandard → Type 0
 RemembersCredits judge shares = (r : Rolled) → meets (hash_of judge.job r) judge.class ≡ true
     → list_any (is_same r) judge.credited.items ≡ is_submitted shares r
 
--- the bytes are the frames of some submissions and what is held, and the text is the answers to them
+-- the bytes are the frames of some submissions and what is held, and the text is the answers to
+-- them
 pub record HoldsRest (bytes text : List ℕ) (job : FixedJob) : Type 0 where
   pub shares : List SubmitSharesStandard
   pub spelled : SpellShares bytes shares job.splitter.held

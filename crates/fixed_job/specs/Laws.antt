@@ -6,4 +6,5 @@ use Rattle.fixed_job.specs.Submitting.{SpellShares, BeginsNoShare}
 -- two readings of one list of bytes, each up to where no frame begins, are the same
 abbrev pub HasOneReading : Type 0
 HasOneReading = (bytes : List ℕ) (shares others : List SubmitSharesStandard) (rest left : List ℕ)
-    → SpellShares bytes shares rest → SpellShares bytes others left → BeginsNoShare rest → BeginsNoShare left → (shares ≡ others) × (rest ≡ left)
+    → SpellShares bytes shares rest → SpellShares bytes others left → BeginsNoShare rest
+    → BeginsNoShare left → (shares ≡ others) × (rest ≡ left)

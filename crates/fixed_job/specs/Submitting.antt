@@ -16,7 +16,8 @@ share_payload s = spelled_u32 s.channel_id ++ spelled_u32 s.sequence_number ++ s
 
 -- the six bytes begin a submission's frame
 abbrev pub IsShareHeader : List ℕ → Type 0
-IsShareHeader bytes = (ext : ℕ) × IsPlainOrChannel ext × (bytes ≡ header_of ext kinds.SUBMIT_SHARES_STANDARD 24)
+IsShareHeader bytes = (ext : ℕ) × IsPlainOrChannel ext
+    × (bytes ≡ header_of ext kinds.SUBMIT_SHARES_STANDARD 24)
 
 -- each field has four bytes
 pub record HasFourByteFields (s : SubmitSharesStandard) : Type 0 where
@@ -37,7 +38,8 @@ pub record IsShareFrame (bytes : List ℕ) (s : SubmitSharesStandard) : Type 0 w
 -- the bytes are the frames of these submissions, one after the other, and then the rest
 abbrev pub SpellShares : List ℕ → List SubmitSharesStandard → List ℕ → Type 0
 SpellShares bytes [] rest = bytes ≡ rest
-SpellShares bytes (s ∷ later) rest = (frame : List ℕ) × (after : List ℕ) × IsShareFrame frame s × (bytes ≡ frame ++ after) × SpellShares after later rest
+SpellShares bytes (s ∷ later) rest = (frame : List ℕ) × (after : List ℕ) × IsShareFrame frame s
+    × (bytes ≡ frame ++ after) × SpellShares after later rest
 
 -- where six bytes are there, they begin a submission's frame
 abbrev pub BeginsShare : List ℕ → Type 0
@@ -55,4 +57,5 @@ pub record IsOtherHeader (bytes : List ℕ) : Type 0 where
 
 -- no frame of a submission begins the bytes
 abbrev pub BeginsNoShare : List ℕ → Type 0
-BeginsNoShare bytes = (frame more : List ℕ) (s : SubmitSharesStandard) → IsShareFrame frame s → bytes ≡ frame ++ more → ⊥
+BeginsNoShare bytes = (frame more : List ℕ) (s : SubmitSharesStandard) → IsShareFrame frame s
+    → bytes ≡ frame ++ more → ⊥

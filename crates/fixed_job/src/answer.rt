@@ -18,7 +18,8 @@ pub fn put_answer(
     refusal: Option<Refusal>,
 ) -> Result<(), AllocError>
     requires { class ≤ 60 }
-    ensures ok { OnOk result (answers.new.items ≡ answers.old.items ++ answer_of class share refusal) }
+    ensures ok { OnOk result (answers.new.items ≡ answers.old.items
+        ++ answer_of class share refusal) }
     ensures err { OnErr result (answers.new.items ≡ answers.old.items) }
 {
     // In a tuple, since no proof covers a local of an enum whose structs borrow.
@@ -30,7 +31,8 @@ pub fn put_answer(
 fn answer_to(class: u8, share: SubmitSharesStandard, refusal: Option<Refusal>) -> Mining<'static>
     requires { class ≤ 60 }
     ensures fits { FitsFrame mining_table (mining_message result) }
-    ensures frame { message_frame mining_table (mining_message result) ≡ answer_of class share refusal }
+    ensures frame { message_frame mining_table (mining_message result)
+        ≡ answer_of class share refusal }
 {
     match refusal {
         None => Mining::SubmitSharesSuccess(SubmitSharesSuccess {

@@ -10,10 +10,17 @@ use pool_io::Host;
 use pool_turns::{Status, run_on_host};
 use std::alloc::Global;
 
-/// Judges the shares that standard input brings, and puts the answers to standard output. The class is 0 to 60.
+/// Judges the shares that standard input brings, and puts the answers to standard output. The class
+/// is 0 to 60.
 pub fn judge_shares<H: Host>(alloc: Global, host: &mut H, class: u8, job: &Job) -> Status
     requires { class ≤ 60 }
-    ensures { StreamRow (record { left = H.S.left; read_faults = H.S.faults; held = H.T.held; write_faults = H.T.faults }) (share_duty class job.now) (H.seen host.old) (H.seen host.new) result }
+    ensures { StreamRow (record {
+      left = H.S.left;
+      read_faults = H.S.faults;
+      held = H.T.held;
+      write_faults = H.T.faults;
+    }) (share_duty class job.now) (H.seen host.old) (H.seen host.new)
+        result }
 {
     let task = FixedTask { class, job: *job };
     run_on_host::<FixedJob, H>(alloc, host, &task)

@@ -110,12 +110,15 @@ impl Judge {
     /// The first condition that fails; where none does, the share is credited.
     pub fn judge(&mut self, share: &SubmitSharesStandard) -> Result<Option<Refusal>, AllocError>
         ensures verdict { (earlier : List _) → RemembersCredits self.old earlier
-            → IfOk result (λ refusal. refusal ≡ first_refusal self.old.class self.old.job earlier share.now) }
+            → IfOk result (λ refusal. refusal ≡ first_refusal self.old.class self.old.job earlier
+            share.now) }
         ensures remembers { (earlier : List _) → RemembersCredits self.old earlier
             → OnOk result (RemembersCredits self.new (earlier ++ share.now ∷ [])) }
         // A refused share isn't kept, and a credited one is kept once.
-        ensures refused { IfOk result (λ refusal. IsSome refusal → self.new.credited.items ≡ self.old.credited.items) }
-        ensures credited { IfOk result (λ refusal. refusal ≡ None → self.new.credited.items ≡ self.old.credited.items ++ rolled_of share.now ∷ []) }
+        ensures refused { IfOk result (λ refusal. IsSome refusal
+            → self.new.credited.items ≡ self.old.credited.items) }
+        ensures credited { IfOk result (λ refusal. refusal ≡ None
+            → self.new.credited.items ≡ self.old.credited.items ++ rolled_of share.now ∷ []) }
         ensures class { self.new.class ≡ self.old.class }
         ensures job { self.new.job ≡ self.old.job }
     {

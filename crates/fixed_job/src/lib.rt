@@ -1,5 +1,5 @@
-//! The command `solo fixed`: it judges the shares of one fixed job, from the bytes of standard input to those of
-//! standard output. It keeps no ledger.
+//! The command `solo fixed`: it judges the shares of one fixed job, from the bytes of standard
+//! input to those of standard output. It keeps no ledger.
 #![tactic(auto)]
 
 mod answer;

@@ -31,10 +31,13 @@ impl FixedJob {
 
     /// Judges the frame that is held, where it is whole, and appends its answer.
     fn frame(&mut self, text: &mut Vec<u8>) -> Result<(), Stop>
-        ensures ok { OnOk result ((bytes given : List ℕ) → HoldsRest bytes (given ++ text.old.items) self.old
+        ensures ok { OnOk result ((bytes given : List ℕ)
+            → HoldsRest bytes (given ++ text.old.items) self.old
             → HasAnsweredShares bytes (given ++ text.new.items) self.new) }
-        ensures other { IsErrOf result Stop.Refused → (bytes given : List ℕ) → HoldsRest bytes (given ++ text.old.items) self.old
-            → AnswersShares self.old.judge.class self.old.judge.job IsOtherHeader bytes (given ++ text.new.items) }
+        ensures other { IsErrOf result Stop.Refused → (bytes given : List ℕ)
+            → HoldsRest bytes (given ++ text.old.items) self.old
+            → AnswersShares self.old.judge.class self.old.judge.job IsOtherHeader bytes
+            (given ++ text.new.items) }
         ensures cut { OnOk result (IsCutWithin self.new.splitter) }
         ensures class { self.new.judge.class ≡ self.old.judge.class }
         ensures job { self.new.judge.job ≡ self.old.judge.job }
@@ -45,7 +48,8 @@ impl FixedJob {
         let share = match self.splitter.next() {
             Ok(Some(frame)) => read_share(frame.payload).unwrap(),
             Ok(None) => return Ok(()),
-            // A header over the limit is another one. It was refused above, but the splitter tells it too.
+            // A header over the limit is another one. It was refused above, but the splitter tells
+            // it too.
             Err(TooLong(_)) => return Err(Stop::Refused),
         };
         let refusal = self.judge.judge(&share)?;

@@ -7,7 +7,8 @@ use Rattle.frame_listing.specs.declared.flaw.Flaw.TheVariants.{Cut}
 use Rattle.frame_listing.specs.Lines.{lines_of, bad_line}
 use Rattle.frame_listing.specs.Listing.{ListsFrames, IsPartialFrame, IsFlawed}
 
--- the bytes are some good frames and then a rest of this kind, and the text has a line for each frame
+-- the bytes are some good frames and then a rest of this kind, and the text has a line for each
+-- frame
 pub record ListsGood (IsKind : List ℕ → Type 0) (bytes text : List ℕ) : Type 0 where
   pub frames : List FrameValue
   pub rest : List ℕ
@@ -15,7 +16,8 @@ pub record ListsGood (IsKind : List ℕ → Type 0) (bytes text : List ℕ) : Ty
   pub is_kind : IsKind rest
   pub listed : text ≡ lines_of frames
 
--- the bytes are some good frames and then a rest with such a flaw, and the last line of the text tells it
+-- the bytes are some good frames and then a rest with such a flaw, and the last line of the text
+-- tells it
 pub record ListsFlaw (HasFlaw : Flaw → List ℕ → Type 0) (bytes text : List ℕ) : Type 0 where
   pub frames : List FrameValue
   pub flaw : Flaw
@@ -30,8 +32,8 @@ pub record IsCutFrame (flaw : Flaw) (rest : List ℕ) : Type 0 where
   pub partial : IsPartialFrame rest
   pub counted : flaw ≡ Cut (length rest)
 
--- The input is whole where it is good frames and nothing else; a bad frame or a header over the limit refuses it,
--- and so does its end within a frame.
+-- The input is whole where it is good frames and nothing else; a bad frame or a header over the
+-- limit refuses it, and so does its end within a frame.
 abbrev pub listing_duty : Duty
 listing_duty = record {
   Whole = ListsGood IsNothing;

@@ -20,7 +20,8 @@ or_dash (Some name) = name
 abbrev pub name_for : ℕ → ℕ → List ℕ
 name_for ext kind = if ext % 0x8000 == 0 then or_dash (name_of kind) else codes "-"
 
--- the line of a frame: its number, its extension type and kind, most significant digit first, its length and its name
+-- the line of a frame: its number, its extension type and kind, most significant digit first, its
+-- length and its name
 abbrev pub frame_line : ℕ → FrameValue → List ℕ
 frame_line number frame =
     codes "frame " ++ decimal number

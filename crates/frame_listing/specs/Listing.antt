@@ -16,7 +16,8 @@ use Rattle.frame_listing.specs.declared.flaw.Flaw.TheVariants.{Payload, Length, 
 abbrev pub payload_limit : ℕ
 payload_limit = 262144
 
--- the frame is one of a message that is there, its low extension bits are 0, and its payload has this as its first defect
+-- the frame is one of a message that is there, its low extension bits are 0, and its payload has
+-- this as its first defect
 pub record IsBad (frame : FrameValue) (error : MsgError) : Type 0 where
   pub plain : frame.ext % 0x8000 ≡ 0
   pub types : List FieldType

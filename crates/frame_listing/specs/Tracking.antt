@@ -7,11 +7,12 @@ use Rattle.frame_listing.specs.Listing.{payload_limit, ListsFrames, IsPartialFra
 use Rattle.frame_listing.specs.Lines.{lines_of}
 
 -- the bytes are good frames and what is held, and the text has a line for each frame
-pub record TracksFrames (bytes text : List ℕ) (frames : List FrameValue) (lister : Lister) : Type 0 where
-  pub lists : ListsFrames bytes frames lister.splitter.held
-  pub taken : lister.splitter.limit ≡ payload_limit
-  pub counted : lister.count ≡ length frames
-  pub listed : text ≡ lines_of frames
+pub record TracksFrames (bytes text : List ℕ) (frames : List FrameValue) (lister : Lister) : Type 0
+  where
+    pub lists : ListsFrames bytes frames lister.splitter.held
+    pub taken : lister.splitter.limit ≡ payload_limit
+    pub counted : lister.count ≡ length frames
+    pub listed : text ≡ lines_of frames
 
 -- what is held is less than a frame
 pub record HasListedFrames (bytes text : List ℕ) (lister : Lister) : Type 0 where

@@ -10,7 +10,12 @@ use std::alloc::Global;
 
 /// Lists the frames that standard input brings, and puts the lines to standard output.
 pub fn list_frames<H: Host>(alloc: Global, host: &mut H) -> Status
-    ensures { StreamRow (record { left = H.S.left; read_faults = H.S.faults; held = H.T.held; write_faults = H.T.faults }) listing_duty (H.seen host.old) (H.seen host.new) result }
+    ensures { StreamRow (record {
+      left = H.S.left;
+      read_faults = H.S.faults;
+      held = H.T.held;
+      write_faults = H.T.faults;
+    }) listing_duty (H.seen host.old) (H.seen host.new) result }
 {
     run_on_host::<Lister, H>(alloc, host, &())
 }

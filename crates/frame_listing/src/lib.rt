@@ -1,5 +1,5 @@
-//! The command `frames`: it lists the frames of standard input on standard output, and says where the first bad
-//! one goes wrong. It answers no frame.
+//! The command `frames`: it lists the frames of standard input on standard output, and says where
+//! the first bad one goes wrong. It answers no frame.
 #![tactic(auto)]
 
 mod command;

@@ -21,7 +21,12 @@ pub fn put_frame_line(
 ) -> Result<(), AllocError>
     requires { name.now ≡ name_for frame.ext frame.kind }
     ensures { OnOk result (text.new.items ≡ text.old.items
-        ++ frame_line number (record { ext = frame.entry.ext; kind = frame.entry.kind; payload = frame.entry.payload.now })) }
+        ++ frame_line number (record {
+          ext = frame.entry.ext;
+          kind = frame.entry.kind;
+          payload =
+              frame.entry.payload.now;
+        })) }
 {
     text.extend_from_slice(b"frame ")?;
     put_decimal(text, number)?;
@@ -95,7 +100,8 @@ fn put_decimal(text: &mut Vec<u8>, number: u64) -> Result<(), AllocError>
 }
 
 fn put_hex_u16(text: &mut Vec<u8>, number: u16) -> Result<(), AllocError>
-    ensures { OnOk result (text.new.items ≡ text.old.items ++ encode_lower (to_be_bytes w16 number)) }
+    ensures { OnOk result (text.new.items ≡ text.old.items
+        ++ encode_lower (to_be_bytes w16 number)) }
 {
     let mut digits = [0; 4];
     let _ = hex::encode_to_slice(number.to_be_bytes(), &mut digits);

@@ -27,9 +27,11 @@ impl Lister {
 
     /// Lists the frame that is held, where it is whole, and lets go of it.
     fn frame(&mut self, text: &mut Vec<u8>) -> Result<(), Stop>
-        ensures ok { OnOk result ((bytes given : List ℕ) → length bytes ≤ 2 ^ 40 → MayHoldFrame bytes (given ++ text.old.items) self.old
+        ensures ok { OnOk result ((bytes given : List ℕ) → length bytes ≤ 2 ^ 40
+            → MayHoldFrame bytes (given ++ text.old.items) self.old
             → HasListedFrames bytes (given ++ text.new.items) self.new) }
-        ensures bad { IsErrOf result Stop.Refused → (bytes given : List ℕ) → MayHoldFrame bytes (given ++ text.old.items) self.old
+        ensures bad { IsErrOf result Stop.Refused → (bytes given : List ℕ)
+            → MayHoldFrame bytes (given ++ text.old.items) self.old
             → ListsFlaw IsFlawed bytes (given ++ text.new.items) }
         ensures cut { OnOk result (IsCutWithin self.new.splitter) }
     {

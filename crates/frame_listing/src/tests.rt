@@ -199,7 +199,11 @@ fn each_kind_that_is_there_has_its_payload_read(rt: HostRuntime) -> Result<(), F
             }
             status => {
                 assert_eq!(rt; status, Status::Refused, "{kind}");
-                assert_eq!(rt; text_of(&rt, &host), b"bad 0 field 0 short\n".as_slice(), "{kind}");
+                assert_eq!(rt;
+                    text_of(&rt, &host),
+                    b"bad 0 field 0 short\n".as_slice(),
+                    "{kind}"
+                );
                 there = there.wrapping_add(1);
             }
         }

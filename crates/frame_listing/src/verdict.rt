@@ -16,12 +16,21 @@ const CHANNEL_BIT: u16 = 0x8000;
 /// What is printed in place of a name.
 const NO_NAME: &str = "-";
 
-/// The name that a frame is listed with, or why its payload is no message of its kind. Where an extension bit
-/// beside the channel bit is set, or no message has the kind, the payload isn't read.
+/// The name that a frame is listed with, or why its payload is no message of its kind. Where an
+/// extension bit beside the channel bit is set, or no message has the kind, the payload isn't read.
 pub fn verdict(frame: Frame<'_>) -> Result<&'static str, MsgError>
     ensures name { IfOk result (λ name. name.now ≡ name_for frame.entry.ext frame.entry.kind) }
-    ensures good { OnOk result (IsGood (record { ext = frame.entry.ext; kind = frame.entry.kind; payload = frame.entry.payload.now })) }
-    ensures bad { IfErr result (λ e. IsBad (record { ext = frame.entry.ext; kind = frame.entry.kind; payload = frame.entry.payload.now }) e) }
+    ensures good { OnOk result (IsGood (record {
+      ext = frame.entry.ext;
+      kind = frame.entry.kind;
+      payload = frame.entry.payload.now;
+    })) }
+    ensures bad { IfErr result (λ e. IsBad (record {
+      ext = frame.entry.ext;
+      kind =
+          frame.entry.kind;
+      payload = frame.entry.payload.now;
+    }) e) }
 {
     if frame.ext % CHANNEL_BIT != 0 {
         return Ok(NO_NAME);

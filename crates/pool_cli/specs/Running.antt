@@ -11,11 +11,13 @@ use Rattle.pool_cli.specs.declared.words.Form.TheVariants.{SoloFixed, Frames}
 
 -- what each form of words owes at each status: a row a command
 abbrev pub OwesRow : {S T : Type 0} → Meanings S T → Form → Seen S T → Seen S T → Status → Type 0
-OwesRow meanings (SoloFixed class job) old new status = StreamRow meanings (share_duty class job) old new status
+OwesRow meanings (SoloFixed class job) old new status = StreamRow meanings (share_duty class job)
+    old new status
 OwesRow meanings Frames old new status = StreamRow meanings listing_duty old new status
 
 -- the answer is the number of a status, and what the form owes at it stands
-pub record DoesForm {S T : Type 0} (meanings : Meanings S T) (form : Form) (old new : Seen S T) (answer : ℕ) : Type 0 where
+pub record DoesForm {S T : Type 0} (meanings : Meanings S T) (form : Form) (old new : Seen S T)
+    (answer : ℕ) : Type 0 where
   pub status : Status
   pub told : answer ≡ status_code status
   pub owed : OwesRow meanings form old new status

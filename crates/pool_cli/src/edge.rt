@@ -1,4 +1,5 @@
-//! The edge: standard input and output as a source and a sink. The real ones tell nothing of what they bring or hold.
+//! The edge: standard input and output as a source and a sink. The real ones tell nothing of what
+//! they bring or hold.
 
 ghost use Rattle.std.specs.Prelude.{◌≡◌, []};
 
@@ -6,8 +7,8 @@ use pool_io::{Host, HostError, Shelf, Sink, SinkFailed, Source, Took};
 use std::alloc::Global;
 use std::io::{ErrorKind, Read, Write};
 
-/// A reader as a source, which tells no turns. A read that was interrupted or would block is Idle; any other
-/// error is counted.
+/// A reader as a source, which tells no turns. A read that was interrupted or would block is Idle;
+/// any other error is counted.
 #[derive(Drop)]
 pub struct ReadSource<R: Read + Drop> {
     reader: R,
@@ -39,7 +40,8 @@ impl<R: Read + Drop> Source for ReadSource<R> {
         ensures counts { CountsFailure (is_failed_take result) self.old.faults self.new.faults }
 
         // Where the reader tells its bytes, they are those that come.
-        ensures reads { ReadsOn (R.remaining self.old.reader) (R.remaining self.new.reader) result buffer.new }
+        ensures reads { ReadsOn (R.remaining self.old.reader) (R.remaining self.new.reader) result
+            buffer.new }
     {
         match self.reader.read(buffer) {
             Ok(0) => Took::End,
@@ -87,9 +89,12 @@ impl<W: Write + Drop> Sink for WriteSink<W> {
         ensures taken { IfOk result (λ n. Adds None None (take n piece.now)) }
         ensures counts { CountsFailure (is_failed_put result) self.old.faults self.new.faults }
 
-        // Where the writer tells its bytes, it has those that were taken, and after a failure no more.
-        ensures unwritten { OnErr result (Keeps (W.contents self.old.writer) (W.contents self.new.writer)) }
-        ensures writes { IfOk result (λ n. Appends (W.contents self.old.writer) (W.contents self.new.writer) (take n piece.now)) }
+        // Where the writer tells its bytes, it has those that were taken, and after a failure no
+        // more.
+        ensures unwritten { OnErr result (Keeps (W.contents self.old.writer)
+            (W.contents self.new.writer)) }
+        ensures writes { IfOk result (λ n. Appends (W.contents self.old.writer)
+            (W.contents self.new.writer) (take n piece.now)) }
     {
         match self.writer.write(piece) {
             Ok(count) if count > 0 => Ok(count),
@@ -135,11 +140,18 @@ impl<R: Read + Copy + Drop, W: Write + Copy + Drop> Host for StreamHost<R, W> {
 
     type T = WriteSink<W>;
 
-    ghost seen = { λ h. record { faults = 0; input = None; output = None; sources = h.sources; sinks = h.sinks } };
+    ghost seen = { λ h. record {
+      faults = 0;
+      input = None;
+      output = None;
+      sources = h.sources;
+      sinks = h.sinks;
+    } };
 
     fn input(&mut self) -> Result<ReadSource<R>, HostError>
         ensures fresh { IfOk result (λ given. given.faults ≡ 0) }
-        ensures given { OnOk result (self.new ≡ record self.old { sources = lent_one self.old.sources }) }
+        ensures given { OnOk result (self.new ≡ record
+            self.old { sources = lent_one self.old.sources }) }
         ensures refused { OnErr result (self.new ≡ self.old) }
         ensures counts { result ≢ Err HostError.Failed }
 
@@ -154,7 +166,8 @@ impl<R: Read + Copy + Drop, W: Write + Copy + Drop> Host for StreamHost<R, W> {
 
     fn output(&mut self) -> Result<WriteSink<W>, HostError>
         ensures fresh { IfOk result (λ given. given.faults ≡ 0) }
-        ensures given { OnOk result (self.new ≡ record self.old { sinks = lent_one self.old.sinks }) }
+        ensures given { OnOk result (self.new ≡ record
+            self.old { sinks = lent_one self.old.sinks }) }
         ensures refused { OnErr result (self.new ≡ self.old) }
         ensures counts { result ≢ Err HostError.Failed }
 

@@ -1,4 +1,5 @@
-//! The program: the words of the command line, the top call `run`, and the adapters of the real system.
+//! The program: the words of the command line, the top call `run`, and the adapters of the real
+//! system.
 #![tactic(auto)]
 
 ghost use Rattle.std.specs.Prelude.{◌≡◌, IfOk, map, drop, string_bytes};
@@ -27,7 +28,8 @@ fn words_of<R: Env + AllocGlobal>(rt: &R) -> io::Result<Vec<Word>> {
 
 /// The texts behind the first, as words.
 fn words_behind_name(alloc: Global, mut texts: Args) -> Result<Vec<Word>, AllocError>
-    ensures { IfOk result (λ words. words.items ≡ map string_bytes (drop 1 (into_iter_items texts))) }
+    ensures { IfOk result (λ words. words.items
+        ≡ map string_bytes (drop 1 (into_iter_items texts))) }
 {
     let _name = texts.next();
     let mut words = Vec::new(alloc);

@@ -21,13 +21,20 @@ pub fn run<H: Host>(alloc: Global, host: &mut H, words: &[Word]) -> u8
     ensures usage { result ≡ 2 ↔ HasNoForm words.now }
     ensures unopened { result ≡ 2 → H.seen host.new ≡ H.seen host.old }
 
-    // What the words ask for was done: the answer is a status, and what the command owes at it stands.
+    // What the words ask for was done: the answer is a status, and what the command owes at it
+    // stands.
     ensures does { (form : Asked) → IsForm words.now form → DoesForm
-        (record { left = H.S.left; read_faults = H.S.faults; held = H.T.held; write_faults = H.T.faults })
+        (record {
+          left = H.S.left;
+          read_faults = H.S.faults;
+          held = H.T.held;
+          write_faults =
+              H.T.faults;
+        })
         form (H.seen host.old) (H.seen host.new) result }
 
-    // Whatever the words: there are no other statuses, everything that the host gave has come back, and 7 is
-    // answered exactly where the host's count rose, by one.
+    // Whatever the words: there are no other statuses, everything that the host gave has come back,
+    // and 7 is answered exactly where the host's count rose, by one.
     ensures statuses { (status : Answer) × (result ≡ status_code status) }
     ensures back { IsHandedBack (H.seen host.old) (H.seen host.new) }
     ensures counts { CountsFailure (result == 7) (H.seen host.old).faults (H.seen host.new).faults }
@@ -42,7 +49,13 @@ pub fn run<H: Host>(alloc: Global, host: &mut H, words: &[Word]) -> u8
 fn perform<H: Host>(alloc: Global, host: &mut H, form: Form) -> Status
     requires { IsWithinLimits form }
     ensures { OwesRow
-        (record { left = H.S.left; read_faults = H.S.faults; held = H.T.held; write_faults = H.T.faults })
+        (record {
+          left = H.S.left;
+          read_faults = H.S.faults;
+          held = H.T.held;
+          write_faults =
+              H.T.faults;
+        })
         form (H.seen host.old) (H.seen host.new) result }
 {
     match form {

@@ -19,8 +19,8 @@ const FIRST_BLOCK: &str = "00000000000000000000000000000000000000000000000000000
 /// The digits of a frame by its name, or the word itself.
 fn digits(word: &str) -> &str {
     match word {
-        // SubmitSharesStandard with the version, time and nonce of Bitcoin's first block; the same for job 2,
-        // for channel 2, and without the channel bit.
+        // SubmitSharesStandard with the version, time and nonce of Bitcoin's first block; the same
+        // for job 2, for channel 2, and without the channel bit.
         "share" => "00801a1800000100000000000000010000001dac2b7c29ab5f4901000000",
         "other-job" => "00801a1800000100000000000000020000001dac2b7c29ab5f4901000000",
         "other-channel" => "00801a1800000200000000000000010000001dac2b7c29ab5f4901000000",
@@ -134,7 +134,8 @@ fn shares_of_the_first_block_are_judged_as_worked(rt: HostRuntime) -> Result<(),
         ("43", "other-job", "no-job", 0),
         ("43", "other-channel", "no-channel", 0),
         ("43", "plain share", "credited duplicate", 0),
-        // A share that was too weak once is too weak again, and one for another job is no earlier share.
+        // A share that was too weak once is too weak again, and one for another job is no earlier
+        // share.
         ("44", "share share", "weak weak", 0),
         ("43", "other-job share", "no-job credited", 0),
         ("43", "", "", 0),

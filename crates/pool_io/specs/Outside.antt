@@ -1,4 +1,5 @@
--- What one call does to what a source or a sink tells, and to a count of failures (this project's own).
+-- What one call does to what a source or a sink tells, and to a count of failures (this project's
+-- own).
 use Rattle.std.specs.Prelude.{ℕ, ◌+◌, ◌-◌, ◌^◌, min, max, ◌≡◌, ◌<◌, ◌≤◌, Bool, true, false, List, [], ◌∷◌, ◌++◌, length, take, drop, Option, Some, IfSome, Result, Ok, Err}
 use Rattle.pool_io.specs.declared.turn.Turn.{Turn}
 use Rattle.pool_io.specs.declared.turn.Turn.TheVariants as turn
@@ -35,7 +36,8 @@ pub record TakesBytes (old new : List Turn) (n : ℕ) (buffer : List ℕ) : Type
   pub taken : take n buffer ≡ take n piece
   pub rest : new ≡ turns_behind (drop n piece) later
 
--- one answer of a source takes the old turns to the new ones; after End comes End, and a failure takes nothing
+-- one answer of a source takes the old turns to the new ones; after End comes End, and a failure
+-- takes nothing
 abbrev pub TakesFrom : List Turn → List Turn → Took → List ℕ → Type 0
 TakesFrom old new (Bytes n) buffer = TakesBytes old new n buffer
 TakesFrom old new Idle buffer = old ≡ turn.Idle ∷ new
@@ -44,7 +46,8 @@ TakesFrom old new Failed buffer = new ≡ old
 
 -- the same of what a source tells, where it tells
 abbrev pub Takes : Option (List Turn) → Option (List Turn) → Took → List ℕ → Type 0
-Takes old new took buffer = IfSome old (λ turns. (left : List Turn) × (new ≡ Some left) × TakesFrom turns left took buffer)
+Takes old new took buffer = IfSome old (λ turns. (left : List Turn) × (new ≡ Some left)
+    × TakesFrom turns left took buffer)
 
 -- a sink that tells what it holds holds these bytes more
 abbrev pub Adds : Option (List ℕ) → Option (List ℕ) → List ℕ → Type 0
@@ -54,7 +57,8 @@ Adds old new bytes = IfSome old (λ held. new ≡ Some (held ++ bytes))
 abbrev pub next_count : ℕ → ℕ
 next_count before = max before (min (before + 1) (2 ^ 64 - 1))
 
--- a count of failures before and after an answer: the next one where the answer is a failure, and else the same
+-- a count of failures before and after an answer: the next one where the answer is a failure, and
+-- else the same
 abbrev pub CountsFailure : Bool → ℕ → ℕ → Type 0
 CountsFailure true before now = now ≡ next_count before
 CountsFailure false before now = now ≡ before

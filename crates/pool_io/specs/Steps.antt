@@ -49,7 +49,8 @@ IsAtLimit bounds steps = IsIdleOut bounds steps ⊎ IsBytesOut bounds steps
 
 -- no shorter front of these steps reaches a limit
 abbrev pub IsFreeBefore : Bounds → List ReadStep → Type 0
-IsFreeBefore bounds steps = (front : List ReadStep) (step : ReadStep) (rest : List ReadStep) → steps ≡ front ++ step ∷ rest → IsAtLimit bounds front → ⊥
+IsFreeBefore bounds steps = (front : List ReadStep) (step : ReadStep) (rest : List ReadStep)
+    → steps ≡ front ++ step ∷ rest → IsAtLimit bounds front → ⊥
 
 -- neither these steps nor a shorter front of them reach a limit
 abbrev pub IsFree : Bounds → List ReadStep → Type 0
@@ -57,4 +58,5 @@ IsFree bounds steps = IsFreeBefore bounds steps × (IsAtLimit bounds steps → �
 
 -- between these turns to come and those, where the source tells them, it brought these steps
 abbrev pub Brought : Option (List Turn) → Option (List Turn) → List ReadStep → Type 0
-Brought before now steps = IfSome before (λ turns. (left : List Turn) × (now ≡ Some left) × (steps_of turns ≡ steps ++ steps_of left))
+Brought before now steps = IfSome before (λ turns. (left : List Turn) × (now ≡ Some left)
+    × (steps_of turns ≡ steps ++ steps_of left))

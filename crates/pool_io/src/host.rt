@@ -17,7 +17,8 @@ pub enum HostError {
     Memory,
 }
 
-/// Gives out sources and sinks, and takes them back. What it gave isn't `Drop`, so it can't be lost.
+/// Gives out sources and sinks, and takes them back. What it gave isn't `Drop`, so it can't be
+/// lost.
 pub trait Host {
     type S: Source;
 
@@ -33,8 +34,10 @@ pub trait Host {
           input = emptied (seen self.old).input;
           sources = lent_one (seen self.old).sources;
         }) }
-        ensures refused { OnErr result (seen self.new ≡ record (seen self.old) { faults = (seen self.new).faults }) }
-        ensures counts { CountsFailure (is_failed_gift result) (seen self.old).faults (seen self.new).faults };
+        ensures refused { OnErr result (seen self.new
+            ≡ record (seen self.old) { faults = (seen self.new).faults }) }
+        ensures counts { CountsFailure (is_failed_gift result) (seen self.old).faults
+            (seen self.new).faults };
 
     /// Standard output.
     fn output(&mut self) -> Result<Self::T, HostError>
@@ -44,16 +47,24 @@ pub trait Host {
           output = emptied (seen self.old).output;
           sinks = lent_one (seen self.old).sinks;
         }) }
-        ensures refused { OnErr result (seen self.new ≡ record (seen self.old) { faults = (seen self.new).faults }) }
-        ensures counts { CountsFailure (is_failed_gift result) (seen self.old).faults (seen self.new).faults };
+        ensures refused { OnErr result (seen self.new
+            ≡ record (seen self.old) { faults = (seen self.new).faults }) }
+        ensures counts { CountsFailure (is_failed_gift result) (seen self.old).faults
+            (seen self.new).faults };
 
     /// Takes a source back, without memory.
     fn done_source(&mut self, source: Self::S)
         requires { 0 < (seen self.old).sources.lent }
-        ensures { seen self.new ≡ record (seen self.old) { sources = with_back (seen self.old).sources source } };
+        ensures { seen self.new ≡ record (seen self.old) {
+          sources = with_back
+              (seen self.old).sources source;
+        } };
 
     /// Takes a sink back, without memory.
     fn done_sink(&mut self, sink: Self::T)
         requires { 0 < (seen self.old).sinks.lent }
-        ensures { seen self.new ≡ record (seen self.old) { sinks = with_back (seen self.old).sinks sink } };
+        ensures { seen self.new ≡ record (seen self.old) {
+          sinks = with_back (seen self.old).sinks
+              sink;
+        } };
 }

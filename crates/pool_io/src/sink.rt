@@ -14,7 +14,8 @@ pub enum SinkFailed {
     Memory,
 }
 
-/// Takes a program's bytes, piece by piece: the program brings one, and the sink answers how much of it was taken.
+/// Takes a program's bytes, piece by piece: the program brings one, and the sink answers how much
+/// of it was taken.
 pub trait Sink {
     /// How often the sink has failed. A counter stays at 2^64 - 1 once it is there.
     ghost faults: { Self → ℕ };

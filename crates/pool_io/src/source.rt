@@ -17,7 +17,8 @@ pub enum Took {
     Failed,
 }
 
-/// Gives a program its bytes, turn by turn: the program asks, and the source answers with its next turn.
+/// Gives a program its bytes, turn by turn: the program asks, and the source answers with its next
+/// turn.
 pub trait Source {
     /// How often the source has failed. A counter stays at 2^64 - 1 once it is there.
     ghost faults: { Self → ℕ };
@@ -30,5 +31,6 @@ pub trait Source {
         requires { 0 < length buffer.old }
         ensures bound { IsWithinRoom result (length buffer.new) }
         ensures turns { Takes (left self.old) (left self.new) result buffer.new }
-        ensures counts { CountsFailure (is_failed_take result) (faults self.old) (faults self.new) };
+        ensures counts { CountsFailure (is_failed_take result) (faults self.old)
+            (faults self.new) };
 }

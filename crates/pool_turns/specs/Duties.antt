@@ -16,17 +16,20 @@ pub record Duty : Type 1 where
 abbrev pub IsNothing : List ℕ → Type 0
 IsNothing rest = rest ≡ []
 
--- Nothing is owed for nothing, and bytes have one verdict: what is refused is refused whatever follows, and where
--- the input ends it is whole or cut.
+-- Nothing is owed for nothing, and bytes have one verdict: what is refused is refused whatever
+-- follows, and where the input ends it is whole or cut.
 pub record IsSoundDuty (duty : Duty) : Type 0 where
   pub nothing : duty.SoFar [] []
-  pub whole_or_refused : (bytes more text other : List ℕ) → duty.Whole (bytes ++ more) text → duty.Refused bytes other → ⊥
-  pub so_far_or_refused : (bytes more text other : List ℕ) → duty.SoFar (bytes ++ more) text → duty.Refused bytes other → ⊥
+  pub whole_or_refused : (bytes more text other : List ℕ) → duty.Whole (bytes ++ more) text
+      → duty.Refused bytes other → ⊥
+  pub so_far_or_refused : (bytes more text other : List ℕ) → duty.SoFar (bytes ++ more) text
+      → duty.Refused bytes other → ⊥
   pub whole_or_cut : (bytes text other : List ℕ) → duty.Whole bytes text → duty.Cut bytes other → ⊥
 
--- Within a piece comes what refuses the input: where the bytes before it were read, with the text before the call,
--- the text after the call is owed for the bytes up to there.
-pub record RefusesWithin (HasRead Refused : List ℕ → List ℕ → Type 0) (piece old new : List ℕ) : Type 0 where
+-- Within a piece comes what refuses the input: where the bytes before it were read, with the text
+-- before the call, the text after the call is owed for the bytes up to there.
+pub record RefusesWithin (HasRead Refused : List ℕ → List ℕ → Type 0) (piece old new : List ℕ) :
+    Type 0 where
   pub front : List ℕ
   pub rest : List ℕ
   pub split : piece ≡ front ++ rest

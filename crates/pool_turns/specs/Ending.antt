@@ -9,8 +9,10 @@ use Rattle.pool_turns.specs.Owing.{OwesWhole, OwesRefused, OwesAtLimit, EndsWith
 use Rattle.pool_turns.specs.declared.end.End.{End}
 use Rattle.pool_turns.specs.declared.end.End.TheVariants.{Done, Refused, IdleOut, BytesOut, ReadFault, WriteFault, Memory}
 
--- between these turns to come and these held bytes, before and after: the steps taken, the text put, and what the end says of them
-pub record EndsRun (duty : Duty) (turns left : Option (List Turn)) (before after : Option (List ℕ)) (end : End) : Type 0 where
+-- between these turns to come and these held bytes, before and after: the steps taken, the text
+-- put, and what the end says of them
+pub record EndsRun (duty : Duty) (turns left : Option (List Turn)) (before after : Option (List ℕ))
+    (end : End) : Type 0 where
   pub taken : List ReadStep
   pub brought : Brought turns left taken
   pub given : List ℕ
@@ -35,8 +37,10 @@ EndsAs wanted end = (end ≡ wanted) ⊎ IsOutsideEnd end
 pub record DecideEnd (duty : Duty) (steps : List ReadStep) (end : End) : Type 0 where
   pub whole : (text : List ℕ) → OwesWhole duty steps text → EndsAs Done end
   pub refused : (text : List ℕ) → OwesRefused duty steps text → EndsAs Refused end
-  pub idle_out : (text : List ℕ) → OwesAtLimit duty (IsIdleOut bounds) steps text → EndsAs IdleOut end
-  pub bytes_out : (text : List ℕ) → OwesAtLimit duty (IsBytesOut bounds) steps text → EndsAs BytesOut end
+  pub idle_out : (text : List ℕ) → OwesAtLimit duty (IsIdleOut bounds) steps text
+      → EndsAs IdleOut end
+  pub bytes_out : (text : List ℕ) → OwesAtLimit duty (IsBytesOut bounds) steps text
+      → EndsAs BytesOut end
 
 -- the source failed
 abbrev pub is_read_fault : Option End → Bool

@@ -30,7 +30,8 @@ abbrev pub OwesRefused : Duty → List ReadStep → List ℕ → Type 0
 OwesRefused duty steps text = OwesRefusal duty steps text ⊎ OwesCut duty steps text
 
 -- a front of the steps, which isn't refused, reaches a limit, and no shorter one does
-pub record OwesAtLimit (duty : Duty) (IsOut : List ReadStep → Type 0) (steps : List ReadStep) (text : List ℕ) : Type 0 where
+pub record OwesAtLimit (duty : Duty) (IsOut : List ReadStep → Type 0) (steps : List ReadStep)
+    (text : List ℕ) : Type 0 where
   pub front : List ReadStep
   pub rest : List ReadStep
   pub split : steps ≡ front ++ rest
@@ -45,7 +46,8 @@ pub record OwesSoFar (duty : Duty) (steps : List ReadStep) (text : List ℕ) : T
 -- the text is owed for a front of the steps, or at an end of them
 abbrev pub OwesSome : Duty → List ReadStep → List ℕ → Type 0
 OwesSome duty steps text =
-    ((front : List ReadStep) × (rest : List ReadStep) × (steps ≡ front ++ rest) × duty.SoFar (bytes_in front) text)
+    ((front : List ReadStep) × (rest : List ReadStep) × (steps ≡ front ++ rest)
+    × duty.SoFar (bytes_in front) text)
     ⊎ OwesRefused duty steps text
     ⊎ OwesWhole duty steps text
 
@@ -53,12 +55,15 @@ OwesSome duty steps text =
 abbrev pub OwesFront : Duty → List ReadStep → List ℕ → Type 0
 OwesFront duty steps given = (text : List ℕ) × OwesSome duty steps text × Begins given text
 
--- what an end says of the steps that were taken, of all that the source had, and of the text that was put
+-- what an end says of the steps that were taken, of all that the source had, and of the text that
+-- was put
 abbrev pub EndsWith : Duty → List ReadStep → List ReadStep → List ℕ → End → Type 0
 EndsWith duty taken steps given Done = OwesWhole duty steps given
 EndsWith duty taken steps given Refused = OwesRefused duty steps given
-EndsWith duty taken steps given IdleOut = OwesAtLimit duty (IsIdleOut bounds) steps given × JustReaches (IsIdleOut bounds) taken
-EndsWith duty taken steps given BytesOut = OwesAtLimit duty (IsBytesOut bounds) steps given × JustReaches (IsBytesOut bounds) taken
+EndsWith duty taken steps given IdleOut = OwesAtLimit duty (IsIdleOut bounds) steps given
+    × JustReaches (IsIdleOut bounds) taken
+EndsWith duty taken steps given BytesOut = OwesAtLimit duty (IsBytesOut bounds) steps given
+    × JustReaches (IsBytesOut bounds) taken
 EndsWith duty taken steps given ReadFault = OwesSoFar duty taken given
 EndsWith duty taken steps given WriteFault = OwesFront duty steps given
 EndsWith duty taken steps given Memory = OwesFront duty steps given

@@ -12,7 +12,8 @@ use Rattle.pool_turns.specs.Statuses.{status_of_end, status_of_refusal}
 use Rattle.pool_turns.specs.declared.end.End.{End}
 use Rattle.pool_turns.specs.declared.status.Status.{Status}
 
--- what a host's sources and sinks tell: the turns to come, the bytes held, and how often each has failed
+-- what a host's sources and sinks tell: the turns to come, the bytes held, and how often each has
+-- failed
 pub record Meanings (S T : Type 0) : Type 0 where
   pub left : S → Option (List Turn)
   pub read_faults : S → ℕ
@@ -25,7 +26,8 @@ pub record CameBack {T : Type 0} (old new : Lending T) (item : T) : Type 0 where
   pub back : new.back ≡ old.back ++ item ∷ []
 
 -- A source and a sink were given, the command ran from the one to the other, and both came back.
-pub record RanOnHost {S T : Type 0} (meanings : Meanings S T) (duty : Duty) (old new : Seen S T) (end : End) : Type 0 where
+pub record RanOnHost {S T : Type 0} (meanings : Meanings S T) (duty : Duty) (old new : Seen S T)
+    (end : End) : Type 0 where
   pub source : S
   pub sink : T
   pub sources : CameBack old.sources new.sources source
@@ -42,14 +44,16 @@ pub record RanOnHost {S T : Type 0} (meanings : Meanings S T) (duty : Duty) (old
   pub writes : CountsFailure (is_write_fault (Some end)) 0 (meanings.write_faults sink)
 
 -- a source came back as it was given: nothing was taken from it
-pub record CameBackUnread {S T : Type 0} (meanings : Meanings S T) (old new : Seen S T) : Type 0 where
-  pub source : S
-  pub sources : CameBack old.sources new.sources source
-  pub unread : meanings.left source ≡ old.input
-  pub reads : meanings.read_faults source ≡ 0
+pub record CameBackUnread {S T : Type 0} (meanings : Meanings S T) (old new : Seen S T) : Type 0
+  where
+    pub source : S
+    pub sources : CameBack old.sources new.sources source
+    pub unread : meanings.left source ≡ old.input
+    pub reads : meanings.read_faults source ≡ 0
 
 -- The host gave no source, or a source and no sink; no sink came back.
-pub record WasRefused {S T : Type 0} (meanings : Meanings S T) (old new : Seen S T) (error : HostError) : Type 0 where
+pub record WasRefused {S T : Type 0} (meanings : Meanings S T) (old new : Seen S T)
+    (error : HostError) : Type 0 where
   pub source : (new.sources ≡ old.sources) ⊎ CameBackUnread meanings old new
   pub sinks : new.sinks ≡ old.sinks
   pub counts : CountsFailure (is_failed_gift {A = Unit {0}} (Err error)) old.faults new.faults

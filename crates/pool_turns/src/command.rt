@@ -24,8 +24,8 @@ impl From<AllocError> for Stop {
     }
 }
 
-/// A command that turns the bytes of a stream into text. It reads and writes nothing itself: it is told the
-/// bytes piece by piece, and appends to a text.
+/// A command that turns the bytes of a stream into text. It reads and writes nothing itself: it is
+/// told the bytes piece by piece, and appends to a text.
 pub trait StreamCommand: Drop {
     /// What is asked of it.
     type Task;
@@ -56,21 +56,26 @@ pub trait StreamCommand: Drop {
         ensures task { asked self.new ≡ asked self.old }
         ensures ready { OnOk result (is_ready self.new) }
         ensures ok { OnOk result ((bytes given : List ℕ) → length (bytes ++ piece.now) ≤ 2 ^ 40
-            → has_read self.old bytes (given ++ text.old.items) → has_read self.new (bytes ++ piece.now) (given ++ text.new.items)) }
+            → has_read self.old bytes (given ++ text.old.items)
+            → has_read self.new (bytes ++ piece.now) (given ++ text.new.items)) }
         ensures refused { IsErrOf result Stop.Refused
-            → RefusesWithin (has_read self.old) ((duty (asked self.old)).Refused) piece.now text.old.items text.new.items };
+            → RefusesWithin (has_read self.old) ((duty (asked self.old)).Refused) piece.now
+            text.old.items text.new.items };
 
     /// The input ends here.
     fn end(&mut self, text: &mut Vec<u8>) -> Result<(), Stop>
         requires { is_ready self.old }
         ensures task { asked self.new ≡ asked self.old }
-        ensures whole { OnOk result ((bytes given : List ℕ) → has_read self.old bytes (given ++ text.old.items)
+        ensures whole { OnOk result ((bytes given : List ℕ)
+            → has_read self.old bytes (given ++ text.old.items)
             → (duty (asked self.old)).Whole bytes (given ++ text.new.items)) }
-        ensures cut { IsErrOf result Stop.Refused → (bytes given : List ℕ) → has_read self.old bytes (given ++ text.old.items)
+        ensures cut { IsErrOf result Stop.Refused → (bytes given : List ℕ)
+            → has_read self.old bytes (given ++ text.old.items)
             → (duty (asked self.old)).Cut bytes (given ++ text.new.items) };
 
     /// What was told is what is owed so far.
-    ghost owes_so_far: { (command : Self) (bytes text : List ℕ) → has_read command bytes text → (duty (asked command)).SoFar bytes text };
+    ghost owes_so_far: { (command : Self) (bytes text : List ℕ) → has_read command bytes text
+        → (duty (asked command)).SoFar bytes text };
 
     /// Nothing is owed for nothing, and bytes have one verdict.
     ghost is_sound: { (task : Self.Task) → IsSoundDuty (duty task) };

@@ -1,4 +1,5 @@
-//! The one loop over a stream: it takes turn after turn, tells the command the bytes, and puts what it says.
+//! The one loop over a stream: it takes turn after turn, tells the command the bytes, and puts what
+//! it says.
 
 ghost use Rattle.std.specs.Prelude.{◌≡◌, ◌≤◌, ◌<◌, ◌+◌, ◌^◌, ℕ, List, [], ◌∷◌, ◌++◌, Option, Some, None, length, map, IfNone, IfOk, Bool, false};
 ghost use Rattle.pool_io.specs.declared.turn.Turn.{Turn};
@@ -27,7 +28,8 @@ impl<C: StreamCommand> Reading<C> {
         ensures asked { IfOk result (λ reading. C.asked reading.command ≡ task.now) }
         ensures ready { IfOk result (λ reading. C.is_ready reading.command) }
         ensures below { IfOk result (λ reading. IsBelowLimits reading.tally) }
-        ensures answered { IfOk result (λ reading. (before : Option (List ℕ)) → HasAnswered (C.has_read reading.command) reading.tally before before []) }
+        ensures answered { IfOk result (λ reading. (before : Option (List ℕ))
+            → HasAnswered (C.has_read reading.command) reading.tally before before []) }
     {
         Ok(Reading {
             command: C::start(alloc, task)?,
@@ -46,10 +48,14 @@ impl<C: StreamCommand> Reading<C> {
         ensures ready { IfNone result (C.is_ready self.new.command) }
         ensures below { IfNone result (IsBelowLimits self.new.tally) }
         ensures nearer { IfNone result (turns_left self.new.tally < turns_left self.old.tally) }
-        ensures goes { (before : Option (List ℕ)) (steps : List ReadStep) → HasAnswered (C.has_read self.old.command) self.old.tally before (T.held sink.old) steps
-            → GoesOnOrEnds (C.duty (C.asked self.old.command)) (C.has_read self.new.command) self.new.tally before (T.held sink.new) (steps ++ map Some piece.now) result }
+        ensures goes { (before : Option (List ℕ)) (steps : List ReadStep)
+            → HasAnswered (C.has_read self.old.command) self.old.tally before (T.held sink.old)
+            steps
+            → GoesOnOrEnds (C.duty (C.asked self.old.command)) (C.has_read self.new.command)
+            self.new.tally before (T.held sink.new) (steps ++ map Some piece.now) result }
         ensures reads { is_read_fault result ≡ false }
-        ensures writes { CountsFailure (is_write_fault result) (T.faults sink.old) (T.faults sink.new) }
+        ensures writes { CountsFailure (is_write_fault result) (T.faults sink.old)
+            (T.faults sink.new) }
     {
         self.text.clear();
         let refused = match self.command.read(piece, &mut self.text) {
@@ -80,8 +86,10 @@ impl<C: StreamCommand> Reading<C> {
         ensures same { self.new.command ≡ self.old.command }
         ensures below { IfNone result (IsBelowLimits self.new.tally) }
         ensures nearer { IfNone result (turns_left self.new.tally < turns_left self.old.tally) }
-        ensures goes { (before now : Option (List ℕ)) (steps : List ReadStep) → HasAnswered (C.has_read self.old.command) self.old.tally before now steps
-            → GoesOnOrEnds (C.duty (C.asked self.old.command)) (C.has_read self.old.command) self.new.tally before now (steps ++ None ∷ []) result }
+        ensures goes { (before now : Option (List ℕ)) (steps : List ReadStep)
+            → HasAnswered (C.has_read self.old.command) self.old.tally before now steps
+            → GoesOnOrEnds (C.duty (C.asked self.old.command)) (C.has_read self.old.command)
+            self.new.tally before now (steps ++ None ∷ []) result }
         ensures no_fault { (is_read_fault result ≡ false) × (is_write_fault result ≡ false) }
     {
         self.tally.idles += 1;
@@ -96,10 +104,13 @@ impl<C: StreamCommand> Reading<C> {
     fn finish<T: Sink>(&mut self, sink: &mut T) -> End
         requires { C.is_ready self.old.command }
         ensures asked { C.asked self.new.command ≡ C.asked self.old.command }
-        ensures ends { (before : Option (List ℕ)) (steps : List ReadStep) → HasAnswered (C.has_read self.old.command) self.old.tally before (T.held sink.old) steps
+        ensures ends { (before : Option (List ℕ)) (steps : List ReadStep)
+            → HasAnswered (C.has_read self.old.command) self.old.tally before (T.held sink.old)
+            steps
             → EndsAt (C.duty (C.asked self.old.command)) before (T.held sink.new) steps result }
         ensures reads { is_read_fault (Some result) ≡ false }
-        ensures writes { CountsFailure (is_write_fault (Some result)) (T.faults sink.old) (T.faults sink.new) }
+        ensures writes { CountsFailure (is_write_fault (Some result)) (T.faults sink.old)
+            (T.faults sink.new) }
     {
         self.text.clear();
         let end = match self.command.end(&mut self.text) {
@@ -115,7 +126,12 @@ impl<C: StreamCommand> Reading<C> {
     }
 
     /// Takes one turn of the source.
-    fn turn<S: Source, T: Sink>(&mut self, source: &mut S, sink: &mut T, buffer: &mut [u8]) -> Option<End>
+    fn turn<S: Source, T: Sink>(
+        &mut self,
+        source: &mut S,
+        sink: &mut T,
+        buffer: &mut [u8],
+    ) -> Option<End>
         requires ready { C.is_ready self.old.command }
         requires below { IsBelowLimits self.old.tally }
         requires room { 0 < length buffer.old }
@@ -123,10 +139,15 @@ impl<C: StreamCommand> Reading<C> {
         ensures ready { IfNone result (C.is_ready self.new.command) }
         ensures below { IfNone result (IsBelowLimits self.new.tally) }
         ensures nearer { IfNone result (turns_left self.new.tally < turns_left self.old.tally) }
-        ensures goes { (turns : Option (List Turn)) (before : Option (List ℕ)) → IsInRun (C.has_read self.old.command) self.old.tally turns (S.left source.old) before (T.held sink.old)
-            → TurnsOnOrEnds (C.duty (C.asked self.old.command)) (C.has_read self.new.command) self.new.tally turns (S.left source.new) before (T.held sink.new) result }
-        ensures reads { CountsFailure (is_read_fault result) (S.faults source.old) (S.faults source.new) }
-        ensures writes { CountsFailure (is_write_fault result) (T.faults sink.old) (T.faults sink.new) }
+        ensures goes { (turns : Option (List Turn)) (before : Option (List ℕ))
+            → IsInRun (C.has_read self.old.command) self.old.tally turns (S.left source.old) before
+            (T.held sink.old)
+            → TurnsOnOrEnds (C.duty (C.asked self.old.command)) (C.has_read self.new.command)
+            self.new.tally turns (S.left source.new) before (T.held sink.new) result }
+        ensures reads { CountsFailure (is_read_fault result) (S.faults source.old)
+            (S.faults source.new) }
+        ensures writes { CountsFailure (is_write_fault result) (T.faults sink.old)
+            (T.faults sink.new) }
     {
         let room = buffer.len().min((MOST_BYTES - self.tally.taken) as usize);
         match source.take(&mut buffer[..room]) {
@@ -138,20 +159,30 @@ impl<C: StreamCommand> Reading<C> {
     }
 }
 
-/// Drives a command from a source to a sink, to the end of the input, a limit, a refusal or a fault. At most
-/// `PIECE_LEN` bytes are taken at once, and what the command says to them is put before more is taken.
-pub fn drive<C: StreamCommand, S: Source, T: Sink>(alloc: Global, task: &C::Task, source: &mut S, sink: &mut T) -> End
+/// Drives a command from a source to a sink, to the end of the input, a limit, a refusal or a
+/// fault. At most `PIECE_LEN` bytes are taken at once, and what the command says to them is put
+/// before more is taken.
+pub fn drive<C: StreamCommand, S: Source, T: Sink>(
+    alloc: Global,
+    task: &C::Task,
+    source: &mut S,
+    sink: &mut T,
+) -> End
     requires { C.can_run task.now }
 
     // What each end says of the input and of what was put.
-    ensures ran { EndsRun (C.duty task.now) (S.left source.old) (S.left source.new) (T.held sink.old) (T.held sink.new) result }
+    ensures ran { EndsRun (C.duty task.now) (S.left source.old) (S.left source.new)
+        (T.held sink.old) (T.held sink.new) result }
 
     // The steps that the source tells decide the end, but for a fault or want of memory.
-    ensures decided { (told : List Turn) → S.left source.old ≡ Some told → DecideEnd (C.duty task.now) (steps_of told) result }
+    ensures decided { (told : List Turn) → S.left source.old ≡ Some told
+        → DecideEnd (C.duty task.now) (steps_of told) result }
 
     // A failure is the end exactly where it was counted, and is counted once.
-    ensures reads { CountsFailure (is_read_fault (Some result)) (S.faults source.old) (S.faults source.new) }
-    ensures writes { CountsFailure (is_write_fault (Some result)) (T.faults sink.old) (T.faults sink.new) }
+    ensures reads { CountsFailure (is_read_fault (Some result)) (S.faults source.old)
+        (S.faults source.new) }
+    ensures writes { CountsFailure (is_write_fault (Some result)) (T.faults sink.old)
+        (T.faults sink.new) }
 {
     let Ok(mut reading) = Reading::<C>::start(alloc, task) else {
         return End::Memory;

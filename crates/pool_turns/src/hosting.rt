@@ -10,7 +10,12 @@ use std::alloc::Global;
 /// Runs a command from the host's standard input to its standard output, and hands both back.
 pub fn run_on_host<C: StreamCommand, H: Host>(alloc: Global, host: &mut H, task: &C::Task) -> Status
     requires { C.can_run task.now }
-    ensures { StreamRow (record { left = H.S.left; read_faults = H.S.faults; held = H.T.held; write_faults = H.T.faults }) (C.duty task.now) (H.seen host.old) (H.seen host.new) result }
+    ensures { StreamRow (record {
+      left = H.S.left;
+      read_faults = H.S.faults;
+      held = H.T.held;
+      write_faults = H.T.faults;
+    }) (C.duty task.now) (H.seen host.old) (H.seen host.new) result }
 {
     let mut source = match host.input() {
         Ok(source) => source,

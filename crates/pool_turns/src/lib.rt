@@ -1,5 +1,6 @@
-//! What all commands over a source and a sink share: their limits, their ends, the put of a whole buffer, and the
-//! one loop that drives a command from turn to turn. It opens nothing, and knows nothing of what a command says.
+//! What all commands over a source and a sink share: their limits, their ends, the put of a whole
+//! buffer, and the one loop that drives a command from turn to turn. It opens nothing, and knows
+//! nothing of what a command says.
 #![tactic(auto)]
 
 mod command;

@@ -9,7 +9,8 @@ use pool_io::{Sink, SinkFailed};
 /// Puts all bytes. After an `Err` the sink has some front of them.
 pub fn put_all<T: Sink>(sink: &mut T, bytes: &[u8]) -> Result<(), SinkFailed>
     ensures ok { OnOk result (Adds (T.held sink.old) (T.held sink.new) bytes.now) }
-    ensures err { OnErr result ((front : List ℕ) × Begins front bytes.now × Adds (T.held sink.old) (T.held sink.new) front) }
+    ensures err { OnErr result ((front : List ℕ) × Begins front bytes.now
+        × Adds (T.held sink.old) (T.held sink.new) front) }
     ensures counts { CountsFailure (is_failed_put result) (T.faults sink.old) (T.faults sink.new) }
 {
     let mut rest = bytes;

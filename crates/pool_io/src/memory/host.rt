@@ -15,8 +15,8 @@ pub struct Script<T> {
     pub failing: Vec<u64>,
 }
 
-/// Gives one input and one output as their scripts say, and empty ones after them. It fails at the opening
-/// calls whose numbers are listed, the first being number 0.
+/// Gives one input and one output as their scripts say, and empty ones after them. It fails at the
+/// opening calls whose numbers are listed, the first being number 0.
 #[derive(Drop)]
 pub struct MemHost {
     alloc: Global,

@@ -49,7 +49,8 @@ impl Sink for SureSink {
     }
 }
 
-/// Holds what was put, and fails at the calls whose numbers are listed, the first call being number 0.
+/// Holds what was put, and fails at the calls whose numbers are listed, the first call being number
+/// 0.
 #[derive(Drop)]
 pub struct MemSink {
     sink: SureSink,

@@ -22,7 +22,8 @@ impl Model for SureSource {
 
     ghost view = { λ s. turns_from s.taken (drop s.next s.turns.items) };
 
-    ghost invariant = { λ s. HasMore s.taken (drop s.next s.turns.items) × (s.next ≤ vec_len s.turns) };
+    ghost invariant = { λ s. HasMore s.taken (drop s.next s.turns.items)
+        × (s.next ≤ vec_len s.turns) };
 }
 
 impl SureSource {
@@ -68,7 +69,8 @@ impl Source for SureSource {
     }
 }
 
-/// Brings its turns, and fails at the calls whose numbers are listed, the first call being number 0.
+/// Brings its turns, and fails at the calls whose numbers are listed, the first call being number
+/// 0.
 #[derive(Drop)]
 pub struct MemSource {
     source: SureSource,
