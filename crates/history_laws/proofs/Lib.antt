@@ -8,6 +8,7 @@ pub mod Coinbases
 pub mod Counted
 pub mod Crediting
 pub mod CreditsFit
+pub mod EnteredBefore
 pub mod Entrances
 pub mod Fronts
 pub mod Holding

@@ -33,7 +33,8 @@ pub use places::{
     channels_by_places, entrances_by_places, present_by_places, present_is_some_workers,
 };
 pub use serving::{
-    calls_are_answered, calls_are_judged, calls_keep_legality, credits_are_called, fronts_rise,
+    calls_are_answered, calls_are_judged, calls_keep_legality, credits_are_called,
+    sessions_ask_behind_their_enter,
 };
 pub use spaces::{are_apart, lowest_is_least, spaces_are_disjoint};
 pub use staying::{

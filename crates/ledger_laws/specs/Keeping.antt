@@ -8,7 +8,8 @@ use Rattle.pool_history.specs.declared.replies.Reply.{Reply}
 use Rattle.pool_history.specs.declared.settings.Rules.{Rules}
 use Rattle.pool_history.specs.Accounts.{are_in_range}
 use Rattle.pool_history.specs.Answering.{Answer}
-use Rattle.pool_history.specs.Calls.{Call, GoodCalls, Parted}
+use Rattle.calls.specs.Calls.{Parted}
+use Rattle.pool_history.specs.Calls.{GoodPoolCalls, PoolCall}
 use Rattle.pool_history.specs.Legal.{Legal}
 use Rattle.ledger_laws.specs.OneLedger.{AllCanBeKept}
 use Rattle.ledger_laws.specs.Requests.{IsWellFormedRequest}
@@ -35,12 +36,12 @@ AnswersCanBeKept =
     → Answer history worker asked events answer → KeepsOn history events
 
 -- a call of a worker whose request's fields are of their types
-pub record IsWellFormedCall (call : Call) : Type 0 where
+pub record IsWellFormedCall (call : PoolCall) : Type 0 where
   pub worker_fits : IsU32 call.worker
   pub asked_fits : IsWellFormedRequest call.asked
 
 -- so do calls that part a history from its first events on, whatever was asked, in whatever order, and whatever failed
 abbrev pub CallsCanBeKept : Type 0
 CallsCanBeKept =
-    (history : List Event) (front : ℕ) (calls : List Call) → Parted history front calls → GoodCalls history calls → AllByRecursion IsWellFormedCall calls
-    → IsKept (take front history) → IsKept history
+    (start history : List Event) (least most : ℕ) (calls : List PoolCall) → Parted start history least most calls
+    → GoodPoolCalls history calls → AllByRecursion IsWellFormedCall calls → IsKept start → IsKept history

@@ -19,7 +19,9 @@ pub use causes::Cause;
 pub use events::{Event, JobState, Kind, Role};
 pub use laws::{classes_by_places, jobs_by_places, states_by_places};
 pub use leads::Lead;
-pub use refusals::{CustomError, Failed, GrantError, JobError, NameError, OpenError, UpdateError};
+pub use refusals::{
+    BookError, CustomError, Failed, GrantError, JobError, NameError, OpenError, UpdateError,
+};
 pub use replies::{Class, Opened, Reply, Script, SessionNumber};
 pub use settings::{Rules, Users};
 pub use shares::{Brief, Checked, Submission};
