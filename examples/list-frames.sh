@@ -4,10 +4,8 @@
 set -eu
 cd "$(dirname "$0")/.."
 
+sh examples/build.sh
 program=crates/pool_cli/out/pool_cli
-echo "building (proving it takes some minutes the first time)"
-(cd crates/pool_cli && rt run -- frames < /dev/null > /tmp/maqefwi-build.$$ 2>&1) || { cat /tmp/maqefwi-build.$$; exit 1; }
-rm -f /tmp/maqefwi-build.$$
 
 bytes() { tr -d ' \n' | sed 's/../\\x&/g' | xargs -0 printf '%b'; }
 captured() { grep -v '^#' examples/session.hex; }

@@ -1,4 +1,9 @@
--- The double hash of Bitcoin, and the tests on its displayed form.
+-- The double hash of Bitcoin, and the test on its displayed form.
+--
+-- Sources: FIPS 180-4 for the hash, Bitcoin's "Hash Byte Order" for how it is displayed. Classes
+-- are this project's own.
+-- Computed on Bitcoin's blocks 0 and 100,000, and on hashes at the edges of bytes (the crate's
+-- tests).
 use Rattle.std.specs.Prelude.{ℕ, ◌≤◌, ◌==◌, Bool, not, List, [], ◌∷◌, length, reverse, map, take_while, nat_le}
 use Rattle.std.specs.List.{flat_map}
 use Rattle.std.specs.Int.{bit_at}

@@ -1,4 +1,7 @@
--- The merkle root that a path gives (Stratum V2, "Merkle Root Construction").
+-- The merkle root that a path gives.
+--
+-- Source: Stratum V2, "Merkle Root Construction". Computed on the four transactions of Bitcoin's
+-- block 100,000, and on the one of block 0 with an empty path (the crate's tests).
 use Rattle.std.specs.Prelude.{ℕ, List, [], ◌∷◌, ◌++◌, reverse}
 use Rattle.block_header.specs.Hash.{dsha}
 

@@ -6,8 +6,8 @@ ghost use Rattle.block_header.specs.Hash.{Meets};
 
 use sha2::{Digest, Sha256};
 
-/// SHA-256 of the SHA-256 (FIPS 180-4), as Bitcoin hashes headers and transactions. The bytes are in
-/// the order in which SHA-256 gives them, the reverse of how a hash is displayed.
+/// SHA-256 of the SHA-256 (FIPS 180-4), as Bitcoin hashes headers and transactions. The bytes are
+/// in the order in which SHA-256 gives them, the reverse of how a hash is displayed.
 pub fn dsha(bytes: &[u8]) -> [u8; 32]
     ensures { result ≡ spec.dsha bytes.now }
 {

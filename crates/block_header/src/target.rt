@@ -2,14 +2,14 @@
 
 ghost use Rattle.std.specs.Prelude.{◌≡◌, ℕ, List, ◌≤◌, ◌↔◌, IsTrue};
 ghost use Rattle.block_header.specs.Hash.{Meets};
-ghost use Rattle.block_header.specs.Target.{IsHash, AtMost, IsClassOf, class_of, number, target};
+ghost use Rattle.block_header.specs.Target.{IsU256, IsAtMost, IsClassOf, class_of_number, number, target};
 
 use crate::hash::zero_bits;
 use sv2_types::U256;
 
 /// Whether a hash, as a number, is at most a target.
 pub fn meets_target(hash: &[u8; 32], target: &U256) -> bool
-    ensures { IsTrue result ↔ AtMost hash.now target.now }
+    ensures { IsTrue result ↔ IsAtMost hash.now target.now }
 {
     is_at_most(hash, target.bytes())
 }
@@ -18,7 +18,7 @@ pub fn meets_target(hash: &[u8; 32], target: &U256) -> bool
 /// target of 0.
 pub fn class_of_target(t: &U256) -> u16
     ensures least { IsClassOf (number t.now) result }
-    ensures value { result ≡ class_of (number t.now) }
+    ensures value { result ≡ class_of_number (number t.now) }
 {
     class_of_bytes(t.bytes())
 }
@@ -28,28 +28,29 @@ pub fn target_of(class: u8) -> U256
     requires { class ≤ 60 }
     ensures { result ≡ target class }
 {
-    U256::of(top_of(u16::from(class)))
+    U256::of(target_bytes(u16::from(class)))
 }
 
 /// A hash meets a class exactly where it is at most the class's target.
 pub fn meets_class_is_meets_target()
-    ensures { (hash : List ℕ) (z : ℕ) → IsHash hash → z ≤ 256 → (Meets hash z ↔ AtMost hash (target z)) }
+    ensures { (hash : List ℕ) (z : ℕ) → IsU256 hash → z ≤ 256 →
+        (Meets hash z ↔ IsAtMost hash (target z)) }
 {}
 
 /// The class of a class's target is that class.
 pub fn class_of_target_of_class()
-    ensures { (z : ℕ) → z ≤ 256 → class_of (number (target z)) ≡ z }
+    ensures { (z : ℕ) → z ≤ 256 → class_of_number (number (target z)) ≡ z }
 {}
 
 // Whether the first is displayed no later than the second.
 fn is_at_most(hash: &[u8; 32], target: &[u8; 32]) -> bool
-    ensures { IsTrue result ↔ AtMost hash.now target.now }
+    ensures { IsTrue result ↔ IsAtMost hash.now target.now }
 {
     hash.iter().rev().cmp(target.iter().rev()).is_le()
 }
 
 // The target of a class: from the lowest bit up as many ones as there are bits left.
-fn top_of(class: u16) -> [u8; 32]
+fn target_bytes(class: u16) -> [u8; 32]
     requires { class ≤ 256 }
     ensures { result ≡ target class }
 {
@@ -63,13 +64,13 @@ fn top_of(class: u16) -> [u8; 32]
     bytes
 }
 
-// The leading zero bits are the class of the greatest number with so many, and one less than that of
-// the others.
+// The leading zero bits are the class of the greatest number with so many, and one less than that
+// of the others.
 fn class_of_bytes(bytes: &[u8; 32]) -> u16
     ensures { IsClassOf (number bytes.now) result }
 {
     let zeros = zero_bits(bytes);
-    if is_at_most(&top_of(zeros), bytes) {
+    if is_at_most(&target_bytes(zeros), bytes) {
         zeros
     } else {
         zeros + 1

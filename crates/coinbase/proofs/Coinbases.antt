@@ -8,15 +8,15 @@ use Rattle.std.proofs.lemmas.List.{append-nil, take_at, drop_at, length-append}
 use Rattle.coinbase.specs.declared.tx.Tx.{Tx}
 use Rattle.coinbase.specs.declared.tx.TxOut.{TxOut}
 use Rattle.coinbase.specs.Compact.{compact}
-use Rattle.coinbase.specs.Form.{input_bytes, output_bytes, stack_bytes, counted, written, with_witness, without_witness, IsInput, IsOutput, IsWitness, IsTx, TxOf, txid}
+use Rattle.coinbase.specs.Form.{input_bytes, output_bytes, stack_bytes, counted_bytes, tx_bytes, with_witness, without_witness, IsInput, IsOutput, IsWitness, IsTx, TxOf, txid}
 use Rattle.block_header.specs.Hash.{dsha}
-use Rattle.coinbase.specs.Parts.{Parts, prefix_of, suffix_of, coin, whole, whole_len, witnessed, reserved_value}
+use Rattle.coinbase.specs.Parts.{Parts, prefix_of, suffix_of, coin, whole, whole_len, witnessed_suffix, reserved_value}
 use Rattle.coinbase.specs.declared.error.AssemblyError.TheVariants.{ScriptTooLong, CountDiffers, RewardTooLarge, TooLong}
 use Rattle.coinbase.specs.declared.error.OutputsError.{OutputsError}
 use Rattle.coinbase.specs.declared.error.OutputsError.TheVariants as custom
-use Rattle.coinbase.specs.Coin.{Terms, pool_output, parts_of, counted_as, outputs_said, within_length, with_reward, assembled}
+use Rattle.coinbase.specs.Coin.{Terms, pool_output, template_parts, counted_as, outputs_said, within_length, with_reward, template_assembly}
 use Rattle.coinbase.specs.CoinTx.{coinbase_input, coinbase_witness, template_tx, custom_tx, AreTerms, AreCustomTerms}
-use Rattle.coinbase.specs.Custom.{CustomTerms, custom_parts, is_foreign, some_outputs, without_foreign, total, paying_outputs, with_total, assembled_of_outputs}
+use Rattle.coinbase.specs.Custom.{CustomTerms, custom_parts, is_foreign, some_outputs, without_foreign, total, paying_outputs, with_total, custom_assembly}
 use Rattle.coinbase.specs.Outputs.{outputs_of, commits, commitment_in}
 use Rattle.coinbase.specs.Steps.{◌>>=◌}
 use Rattle.coinbase.proofs.OutputLaws.{whole_law}
@@ -43,7 +43,7 @@ abbrev input_start : List ℕ → List ℕ
 input_start prefix = (1 ∷ []) ++ replicate 32 0 ++ replicate 4 255 ++ ((12 + length prefix) ∷ []) ++ prefix
 
 one_input : (prefix e : List ℕ) (sequence : ℕ) → length prefix ≤ 88 → length e ≡ 12 →
-    counted input_bytes (coinbase_input prefix e sequence ∷ []) ≡ input_start prefix ++ e ++ to_le_bytes w32 sequence
+    counted_bytes input_bytes (coinbase_input prefix e sequence ∷ []) ≡ input_start prefix ++ e ++ to_le_bytes w32 sequence
 one_input prefix e sequence short twelve =
     let long : length (prefix ++ e) ≡ 12 + length prefix = omega (arith, length-append prefix e) in
     let size : compact (length (prefix ++ e)) ≡ (12 + length prefix) ∷ [] = ap compact long ∙ compact_small (12 + length prefix) (omega arith) in
@@ -73,7 +73,7 @@ one_witness =
     let size : compact 32 ≡ 32 ∷ [] = compact_small 32 (omega arith) in
     rw (count, size) refl
 
-witness_placed : (s l : List ℕ) → length l ≡ 4 → witnessed (s ++ l) ≡ s ++ reserved_value ++ l
+witness_placed : (s l : List ℕ) → length l ≡ 4 → witnessed_suffix (s ++ l) ≡ s ++ reserved_value ++ l
 witness_placed s l four =
     let place : length s ≡ length (s ++ l) - 4 = omega (arith, length-append s l) in
     let front : take (length (s ++ l) - 4) (s ++ l) ≡ s = take_at s l (length (s ++ l) - 4) place in
@@ -110,7 +110,7 @@ witness_fits true = inr (record { each = (record { count = omega arith; each = (
 witness_fits false = inl refl
 
 form_is : (witness : Bool) (version sequence lock_time : ℕ) (prefix e : List ℕ) (outputs : List TxOut) → AreFields version sequence lock_time prefix e outputs →
-    whole (coinbase_parts version prefix sequence outputs witness lock_time) e ≡ written (coinbase_tx version prefix e sequence outputs witness lock_time)
+    whole (coinbase_parts version prefix sequence outputs witness lock_time) e ≡ tx_bytes (coinbase_tx version prefix e sequence outputs witness lock_time)
 form_is true version sequence lock_time prefix e outputs is = sym (whole_is version sequence lock_time prefix e outputs is.short is.twelve)
 form_is false version sequence lock_time prefix e outputs is = sym (coin_is version sequence lock_time prefix e outputs false is.short is.twelve)
 
@@ -147,19 +147,19 @@ same_parts : (prefix a b : List ℕ) (v w : Bool) → a ≡ b → v ≡ w → pa
 same_parts prefix a b v w suffix witness =
     ap (λ (x : List ℕ). parts_with prefix x v) suffix ∙ ap (λ (x : Bool). parts_with prefix b x) witness
 
-parts_said : (terms : Terms) (script : List ℕ) (parts : Parts) (outputs : List TxOut) → assembled terms script ≡ Ok parts → outputs_of terms.outputs ≡ Ok outputs →
-    (length terms.prefix ≤ 88) × (length outputs ≡ terms.outputs_count) × (terms.reward < 2 ^ 40) × (parts_of terms script ≡ parts)
+parts_said : (terms : Terms) (script : List ℕ) (parts : Parts) (outputs : List TxOut) → template_assembly terms script ≡ Ok parts → outputs_of terms.outputs ≡ Ok outputs →
+    (length terms.prefix ≤ 88) × (length outputs ≡ terms.outputs_count) × (terms.reward < 2 ^ 40) × (template_parts terms script ≡ parts)
 parts_said terms script parts outputs e read =
     let a = past_test (ltb 88 (length terms.prefix)) (ScriptTooLong (length terms.prefix)) (outputs_said terms >>= λ os. with_reward terms script) parts e in
     bind_case (outputs_said terms) (λ os. with_reward terms script) parts a.1 (λ os step rest.
     let same : counted_as terms.outputs_count (Ok outputs) ≡ Ok os = ap (counted_as terms.outputs_count) (sym read) ∙ step in
     let b = guard_held (eqb (length outputs) terms.outputs_count) (CountDiffers terms.outputs_count (length outputs)) (Ok outputs) os same in
-    let c = guard_held (ltb terms.reward (2 ^ 40)) (RewardTooLarge terms.reward) (within_length (parts_of terms script)) parts rest in
-    let d = guard_ok (ltb 65535 (whole_len (parts_of terms script))) (TooLong (whole_len (parts_of terms script))) (parts_of terms script) parts c.1 in
+    let c = guard_held (ltb terms.reward (2 ^ 40)) (RewardTooLarge terms.reward) (within_length (template_parts terms script)) parts rest in
+    let d = guard_ok (ltb 65535 (whole_len (template_parts terms script))) (TooLong (whole_len (template_parts terms script))) (template_parts terms script) parts c.1 in
     (ltb-false _ _ a.0, eqb-true _ _ b.0, ltb-true _ _ c.0, d.1))
 
 pub template_law : (terms : Terms) (script e : List ℕ) (parts : Parts) (outputs : List TxOut) → AreTerms terms → length script ≤ 100 → length e ≡ 12 →
-    assembled terms script ≡ Ok parts → outputs_of terms.outputs ≡ Ok outputs →
+    template_assembly terms script ≡ Ok parts → outputs_of terms.outputs ≡ Ok outputs →
     TxOf (template_tx terms script e outputs) (whole parts e) × (txid (template_tx terms script e outputs) ≡ dsha (coin parts e))
 template_law terms script e parts outputs are small twelve made read =
     let said = parts_said terms script parts outputs made read in
@@ -208,7 +208,7 @@ few_outputs : (outputs : List TxOut) → length outputs ≤ length (flat_map out
 few_outputs [] = omega arith
 few_outputs (x ∷ xs) = omega (arith, few_outputs xs, length-append (output_bytes x) (flat_map output_bytes xs))
 
-custom_said : (terms : CustomTerms) (script : List ℕ) (made : Parts × ℕ) (outputs : List TxOut) → assembled_of_outputs terms script ≡ Ok made → outputs_of terms.outputs ≡ Ok outputs →
+custom_said : (terms : CustomTerms) (script : List ℕ) (made : Parts × ℕ) (outputs : List TxOut) → custom_assembly terms script ≡ Ok made → outputs_of terms.outputs ≡ Ok outputs →
     (length terms.prefix ≤ 88) × (length terms.outputs ≤ 1024) × ((custom_parts terms (length outputs), total outputs) ≡ made)
 custom_said terms script made outputs e read =
     let a = past_test (ltb 88 (length terms.prefix)) (custom.ScriptTooLong (length terms.prefix)) (paying_outputs terms script >>= λ os. with_total terms os) made e in
@@ -221,7 +221,7 @@ custom_said terms script made outputs e read =
     (ltb-false _ _ a.0, ltb-false _ _ b.0, subst (λ (xs : List TxOut). (custom_parts terms (length xs), total xs) ≡ made) (sym (some ∙ which)) (made_is _ _ c.1))))
 
 pub custom_law : (terms : CustomTerms) (script e : List ℕ) (made : Parts × ℕ) (outputs : List TxOut) → AreCustomTerms terms → length e ≡ 12 →
-    assembled_of_outputs terms script ≡ Ok made → outputs_of terms.outputs ≡ Ok outputs →
+    custom_assembly terms script ≡ Ok made → outputs_of terms.outputs ≡ Ok outputs →
     TxOf (custom_tx terms e outputs) (whole made.0 e) × (txid (custom_tx terms e outputs) ≡ dsha (coin made.0 e)) × (made.1 ≡ total outputs)
 custom_law terms script e made outputs are twelve built read =
     let said = custom_said terms script made outputs built read in

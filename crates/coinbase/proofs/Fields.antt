@@ -7,8 +7,8 @@ use Rattle.std.proofs.lemmas.List.{take_at, drop_at, take-append-drop, length-ap
 use Rattle.std.proofs.lemmas.Nat.{le_bytes_2, le_bytes_4, le_bytes_8, from_le_bytes-to_le_bytes_2, from_le_bytes-to_le_bytes_4, from_le_bytes-to_le_bytes_8}
 use Rattle.coinbase.specs.declared.error.TxError.{TxError}
 use Rattle.coinbase.specs.declared.error.TxError.TheVariants.{Short, LongSize}
-use Rattle.coinbase.specs.Compact.{compact, sized}
-use Rattle.coinbase.specs.Form.{counted}
+use Rattle.coinbase.specs.Compact.{compact, sized_bytes}
+use Rattle.coinbase.specs.Form.{counted_bytes}
 use Rattle.coinbase.specs.Steps.{◌>>=◌}
 use Rattle.coinbase.specs.Reading.{Place, bytes_at, number_at, marked_at, compact_at, sized_at, many_at, counted_at}
 
@@ -295,7 +295,7 @@ compact_reader = record { found = compact_found; only = compact_only }
 
 -- ---- bytes behind their number
 
-pub sized_reader : IsReader sized_at sized (λ bytes. length bytes < 2 ^ 64)
+pub sized_reader : IsReader sized_at sized_bytes (λ bytes. length bytes < 2 ^ 64)
 unfolding sized_at
 sized_reader = record {
   found = λ p q x bytes e. bind_case (compact_at p) (λ len. bytes_at len.0 len.1) (x, q) e (λ len step rest.
@@ -342,7 +342,7 @@ many_reader read spell Fits is n = record {
 }
 
 pub counted_reader : {X : Type 0} (read : Place → Result (X × Place) TxError) (spell : X → List ℕ) (Fits : X → Type 0) → IsReader read spell Fits →
-    IsReader (counted_at read) (counted spell) (λ xs. (length xs < 2 ^ 64) × AllByRecursion Fits xs)
+    IsReader (counted_at read) (counted_bytes spell) (λ xs. (length xs < 2 ^ 64) × AllByRecursion Fits xs)
 unfolding counted_at
 counted_reader read spell Fits is = record {
   found = λ p q xs bytes e. bind_case (compact_at p) (λ count. many_at read count.0 count.1) (xs, q) e (λ count step rest.

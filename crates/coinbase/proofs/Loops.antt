@@ -4,7 +4,7 @@ use Rattle.std.proofs.lemmas.List.{append-nil}
 use Rattle.coinbase.specs.declared.error.TxError.{TxError}
 use Rattle.coinbase.specs.declared.error.TxError.TheVariants.{Short, LongSize, BadMarker, EmptyWitness, Trailing, Memory}
 use Rattle.coinbase.specs.Steps.{◌>>=◌}
-use Rattle.coinbase.specs.Reading.{Place, many_at, Fails}
+use Rattle.coinbase.specs.Reading.{Place, many_at, FailsReading}
 
 -- what was read before, and what is still read
 abbrev pub with_front : {X : Type 0} → List X → Result (List X × Place) TxError → Result (List X × Place) TxError
@@ -30,7 +30,7 @@ goes_on read front new count i p after x total lt h more so_far =
     rw more (sym one ∙ so_far)
 
 pub ends : {X : Type 0} (read : Place → Result (X × Place) TxError) (e : TxError) (front : List X) (count i : ℕ) (p : Place)
-    (total : Result (List X × Place) TxError) → i < count → Fails e (read p) → with_front front (many_at read (count - i) p) ≡ total → Fails e total
+    (total : Result (List X × Place) TxError) → i < count → FailsReading e (read p) → with_front front (many_at read (count - i) p) ≡ total → FailsReading e total
 unfolding many_at
 ends read Memory front count i p total lt h so_far = tt
 ends read (Short at) front count i p total lt h so_far = let k : count - i ≡ suc (count - (i + 1)) = omega arith in sym so_far ∙ rw (k, h) refl

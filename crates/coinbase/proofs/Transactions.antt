@@ -10,10 +10,10 @@ use Rattle.coinbase.specs.declared.error.TxError.TheVariants.{BadMarker, EmptyWi
 use Rattle.coinbase.specs.declared.tx.Tx.{Tx}
 use Rattle.coinbase.specs.declared.tx.TxIn.{TxIn}
 use Rattle.coinbase.specs.declared.tx.TxOut.{TxOut}
-use Rattle.coinbase.specs.Compact.{compact, sized}
-use Rattle.coinbase.specs.Form.{counted, input_bytes, output_bytes, stack_bytes, has_item, written, with_witness, without_witness, IsInput, IsOutput, IsItem, IsStack, IsWitness, IsTx, TxOf}
+use Rattle.coinbase.specs.Compact.{compact, sized_bytes}
+use Rattle.coinbase.specs.Form.{counted_bytes, input_bytes, output_bytes, stack_bytes, has_item, tx_bytes, with_witness, without_witness, IsInput, IsOutput, IsItem, IsStack, IsWitness, IsTx, TxOf}
 use Rattle.coinbase.specs.Steps.{◌>>=◌}
-use Rattle.coinbase.specs.Reading.{Place, bytes_at, number_at, compact_at, sized_at, many_at, counted_at, input_at, output_at, flagged_count_at, flagged_at, opening_at, witnesses_at, witnesses_if, tx_at, tx_of, Answers}
+use Rattle.coinbase.specs.Reading.{Place, bytes_at, number_at, compact_at, sized_at, many_at, counted_at, input_at, output_at, flagged_count_at, flagged_at, opening_at, witnesses_at, witnesses_if, tx_at, tx_of, ReadsTx}
 use Rattle.coinbase.proofs.Fields.{AreBytes, bind_case, guard_ok, guard_held, chosen, ok_is, same_place, Took, Took-then, between, Took-first, Took-second, AreBytes-rest, IsReader, bytes_found, bytes_only, number_reader, wide8, wide32, wide64, compact_reader, sized_reader, many_reader, counted_reader}
 
 number8 : IsReader (number_at w8) (to_le_bytes w8) (λ n. n < 256)
@@ -46,11 +46,11 @@ input_found p q x bytes e =
     let two = number32.found previous.1 index.1 index.0 bytes1 step2 in
     let bytes2 : AreBytes index.1.left = AreBytes-rest previous.1 index.1 (to_le_bytes w32 index.0) bytes1 two.0 in
     let three = sized_reader.found index.1 script.1 script.0 bytes2 step3 in
-    let bytes3 : AreBytes script.1.left = AreBytes-rest index.1 script.1 (sized script.0) bytes2 three.0 in
+    let bytes3 : AreBytes script.1.left = AreBytes-rest index.1 script.1 (sized_bytes script.0) bytes2 three.0 in
     let four = number32.found script.1 sequence.1 sequence.0 bytes3 step4 in
     let to2 = Took-then p previous.1 index.1 previous.0 (to_le_bytes w32 index.0) one.0 two.0 in
-    let to3 = Took-then p index.1 script.1 (previous.0 ++ to_le_bytes w32 index.0) (sized script.0) to2 three.0 in
-    let to4 = Took-then p script.1 sequence.1 (previous.0 ++ to_le_bytes w32 index.0 ++ sized script.0) (to_le_bytes w32 sequence.0) to3 four.0 in
+    let to3 = Took-then p index.1 script.1 (previous.0 ++ to_le_bytes w32 index.0) (sized_bytes script.0) to2 three.0 in
+    let to4 = Took-then p script.1 sequence.1 (previous.0 ++ to_le_bytes w32 index.0 ++ sized_bytes script.0) (to_le_bytes w32 sequence.0) to3 four.0 in
     let made : TxIn = record { previous = previous.0; index = index.0; script = script.0; sequence = sequence.0 } in
     subst (λ (y : TxIn × Place). Took p y.1 (input_bytes y.0) × IsInput y.0) (ok_is (made, sequence.1) (x, q) rest4)
     (to4, record { previous = one.1; index = two.1; script = three.1; sequence = four.1 })))))
@@ -60,7 +60,7 @@ unfolding input_at
 input_only p q x fits took =
     let a : List ℕ = x.previous in
     let b : List ℕ = to_le_bytes w32 x.index in
-    let c : List ℕ = sized x.script in
+    let c : List ℕ = sized_bytes x.script in
     let d : List ℕ = to_le_bytes w32 x.sequence in
     let m3 = between p q (a ++ b ++ c) d in
     let m2 = between p m3 (a ++ b) c in
@@ -85,13 +85,13 @@ output_found p q x bytes e =
     let two = sized_reader.found value.1 script.1 script.0 (AreBytes-rest p value.1 (to_le_bytes w64 value.0) bytes one.0) step2 in
     let made : TxOut = record { value = value.0; script = script.0 } in
     subst (λ (y : TxOut × Place). Took p y.1 (output_bytes y.0) × IsOutput y.0) (ok_is (made, script.1) (x, q) rest2)
-    (Took-then p value.1 script.1 (to_le_bytes w64 value.0) (sized script.0) one.0 two.0, record { value = one.1; script = two.1 })))
+    (Took-then p value.1 script.1 (to_le_bytes w64 value.0) (sized_bytes script.0) one.0 two.0, record { value = one.1; script = two.1 })))
 
 output_only : (p q : Place) (x : TxOut) → IsOutput x → Took p q (output_bytes x) → output_at p ≡ Ok (x, q)
 unfolding output_at
 output_only p q x fits took =
     let a : List ℕ = to_le_bytes w64 x.value in
-    let b : List ℕ = sized x.script in
+    let b : List ℕ = sized_bytes x.script in
     let m = between p q a b in
     let one : number_at w64 p ≡ Ok (x.value, m) = number64.only p m x.value fits.value (Took-first p q a b took) in
     let two : sized_at m ≡ Ok (x.script, q) = sized_reader.only m q x.script fits.script (Took-second p q a b took) in
@@ -174,7 +174,7 @@ opening_reader = record { found = opening_found; only = λ p q o fits took. open
 
 stack_reader : IsReader (counted_at sized_at) stack_bytes IsStack
 stack_reader =
-    let lists = counted_reader sized_at sized IsItem sized_reader in
+    let lists = counted_reader sized_at sized_bytes IsItem sized_reader in
     record {
       found = λ p q x bytes e. let all = lists.found p q x bytes e in (all.0, record { count = all.1.0; each = all.1.1 });
       only = λ p q x fits took. lists.only p q x (fits.count, fits.each) took;
@@ -216,7 +216,7 @@ witnesses_reader marked n = record { found = witnesses_found marked n; only = wi
 -- a transaction's text by the fields that are read
 abbrev pub fields : Bool → Tx → List ℕ
 fields marked t =
-    to_le_bytes w32 t.version ++ opening_text (marked, length t.inputs) ++ flat_map input_bytes t.inputs ++ counted output_bytes t.outputs
+    to_le_bytes w32 t.version ++ opening_text (marked, length t.inputs) ++ flat_map input_bytes t.inputs ++ counted_bytes output_bytes t.outputs
     ++ flat_map stack_bytes t.witnesses ++ to_le_bytes w32 t.lock_time
 
 regroup-with : (v m c a d w l : List ℕ) → v ++ (m ++ c) ++ a ++ d ++ w ++ l ≡ v ++ m ++ (c ++ a ++ d) ++ w ++ l
@@ -227,12 +227,12 @@ regroup-without v c a d l = simp (append_assoc, append-nil)
 
 fields-with : (t : Tx) → fields true t ≡ with_witness t
 fields-with t =
-    regroup-with (to_le_bytes w32 t.version) (0 ∷ 1 ∷ []) (compact (length t.inputs)) (flat_map input_bytes t.inputs) (counted output_bytes t.outputs)
+    regroup-with (to_le_bytes w32 t.version) (0 ∷ 1 ∷ []) (compact (length t.inputs)) (flat_map input_bytes t.inputs) (counted_bytes output_bytes t.outputs)
     (flat_map stack_bytes t.witnesses) (to_le_bytes w32 t.lock_time)
 
 fields-without : (t : Tx) → t.witnesses ≡ [] → fields false t ≡ without_witness t
 fields-without t none =
-    rw none (regroup-without (to_le_bytes w32 t.version) (compact (length t.inputs)) (flat_map input_bytes t.inputs) (counted output_bytes t.outputs) (to_le_bytes w32 t.lock_time))
+    rw none (regroup-without (to_le_bytes w32 t.version) (compact (length t.inputs)) (flat_map input_bytes t.inputs) (counted_bytes output_bytes t.outputs) (to_le_bytes w32 t.lock_time))
 
 -- what was read of a transaction
 pub record IsRead (marked : Bool) (t : Tx) : Type 0 where
@@ -272,7 +272,7 @@ tx_found p q t bytes e =
     let b0 : List ℕ = to_le_bytes w32 version.0 in
     let b1 : List ℕ = opening_text opening.0 in
     let b2 : List ℕ = flat_map input_bytes inputs.0 in
-    let b3 : List ℕ = counted output_bytes outputs.0 in
+    let b3 : List ℕ = counted_bytes output_bytes outputs.0 in
     let b4 : List ℕ = flat_map stack_bytes witnesses.0 in
     let b5 : List ℕ = to_le_bytes w32 lock_time.0 in
     let t0 = number32.found p version.1 version.0 bytes step1 in
@@ -310,7 +310,7 @@ tx_only marked p q t is took =
     let b0 : List ℕ = to_le_bytes w32 t.version in
     let b1 : List ℕ = opening_text (marked, n) in
     let b2 : List ℕ = flat_map input_bytes t.inputs in
-    let b3 : List ℕ = counted output_bytes t.outputs in
+    let b3 : List ℕ = counted_bytes output_bytes t.outputs in
     let b4 : List ℕ = flat_map stack_bytes t.witnesses in
     let b5 : List ℕ = to_le_bytes w32 t.lock_time in
     let m5 = between p q (b0 ++ b1 ++ b2 ++ b3 ++ b4) b5 in
@@ -334,14 +334,14 @@ tx_only marked p q t is took =
 
 -- ---- all of the bytes
 
-written-with : (t : Tx) → 0 < length t.witnesses → written t ≡ with_witness t
+written-with : (t : Tx) → 0 < length t.witnesses → tx_bytes t ≡ with_witness t
 written-with t some = rw (ne_eqb (length t.witnesses) 0 (λ none. absurd (omega arith))) refl
 
-written-without : (t : Tx) → t.witnesses ≡ [] → written t ≡ without_witness t
+written-without : (t : Tx) → t.witnesses ≡ [] → tx_bytes t ≡ without_witness t
 written-without t none = rw (eq-eqb (length t.witnesses) 0 (ap length none)) refl
 
 -- what is read is written so, in either form
-spelled : (m : Bool) (t : Tx) → IsRead m t → IsTx t × (fields m t ≡ written t)
+spelled : (m : Bool) (t : Tx) → IsRead m t → IsTx t × (fields m t ≡ tx_bytes t)
 spelled true t is =
     let some : 0 < length t.witnesses = omega (arith, is.opening.some, is.witnesses.one_per_input) in (
       record {
@@ -371,7 +371,7 @@ spelled false t is = (
 )
 
 -- what is a transaction is read, in either form
-readable : (t : Tx) → IsTx t → (m : Bool) × IsRead m t × (fields m t ≡ written t)
+readable : (t : Tx) → IsTx t → (m : Bool) × IsRead m t × (fields m t ≡ tx_bytes t)
 readable t is =
     elim is.witnesses [
       | inl none ↦ (
@@ -428,17 +428,17 @@ tx_again bytes t is =
 pub one_tx : (a b : Tx) (bytes : List ℕ) → TxOf a bytes → TxOf b bytes → a ≡ b
 one_tx a b bytes first second = ok_is a b (sym (tx_again bytes a first) ∙ tx_again bytes b second)
 
-pub is_found : (bytes : List ℕ) (r : Result Tx TxError) → AreBytes bytes → Answers r (tx_of bytes) → IfOk r (λ tx. TxOf tx bytes)
+pub is_found : (bytes : List ℕ) (r : Result Tx TxError) → AreBytes bytes → ReadsTx r (tx_of bytes) → IfOk r (λ tx. TxOf tx bytes)
 is_found bytes (Ok tx) fits given = tx_takes bytes tx fits given
 is_found bytes (Err e) fits given = tt
 
 -- what was read is written as it was
-pub read_then_written : (t : Tx) (bytes : List ℕ) → AreBytes bytes → tx_of bytes ≡ Ok t → written t ≡ bytes
+pub read_then_written : (t : Tx) (bytes : List ℕ) → AreBytes bytes → tx_of bytes ≡ Ok t → tx_bytes t ≡ bytes
 read_then_written t bytes fits e = sym (tx_takes bytes t fits e).form
 
 -- what is written is read again
-pub written_then_read : (t : Tx) → IsTx t → tx_of (written t) ≡ Ok t
-written_then_read t is = tx_again (written t) t (record { is_tx = is; form = refl })
+pub written_then_read : (t : Tx) → IsTx t → tx_of (tx_bytes t) ≡ Ok t
+written_then_read t is = tx_again (tx_bytes t) t (record { is_tx = is; form = refl })
 
 -- what follows a transaction is counted
 pub trailing_law : (t : Tx) (front rest : List ℕ) → TxOf t front → 0 < length rest → tx_of (front ++ rest) ≡ Err (Trailing (length rest))

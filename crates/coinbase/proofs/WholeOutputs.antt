@@ -9,7 +9,7 @@ use Rattle.coinbase.specs.declared.error.TxError.TheVariants.{LongSize}
 use Rattle.coinbase.specs.declared.outputs.Broken.{Broken}
 use Rattle.coinbase.specs.declared.outputs.Broken.TheVariants as broken
 use Rattle.coinbase.specs.declared.tx.TxOut.{TxOut}
-use Rattle.coinbase.specs.Broken.{EndsAt, Ends}
+use Rattle.coinbase.specs.Broken.{ReadsNoOutput, EndsOutputs}
 use Rattle.coinbase.specs.Outputs.{first_of, and_more, outputs_within, outputs_of}
 use Rattle.coinbase.specs.Steps.{◌>>=◌}
 use Rattle.coinbase.specs.Reading.{Place, bytes_at, number_at, marked_at, compact_at, sized_at, output_at}
@@ -136,8 +136,8 @@ at_error : (r : Result (TxOut × Place) TxError) (at : ℕ) (rest : Place → Re
 at_error (Ok read) at rest e = absurd cc
 at_error (Err d) at rest e = refl
 
-pub ends : (e : Broken) (front : List TxOut) (p : Place) (total : Result (List TxOut) ℕ) → 0 < length p.left → EndsAt e p →
-    after_front front (outputs_within (length p.left) p) ≡ total → Ends e total
+pub ends : (e : Broken) (front : List TxOut) (p : Place) (total : Result (List TxOut) ℕ) → 0 < length p.left → ReadsNoOutput e p →
+    after_front front (outputs_within (length p.left) p) ≡ total → EndsOutputs e total
 ends (broken.At at) front p total some end so_far =
     let read : outputs_within (length p.left) p ≡ Err p.at =
     ap (λ n. outputs_within n p) (one_less (length p.left) some) ∙ more_read (length p.left - 1) p some ∙ at_error (output_at p) p.at _ end.1 in

@@ -1,4 +1,9 @@
--- The coinbase of a template's job (Stratum V2, "NewTemplate"): what it is, and when it is refused.
+-- The coinbase of a template's job: what it is, and when it is refused.
+--
+-- Sources: Stratum V2, "NewTemplate"; the pool's output in front, the order of the refusals and the
+-- limits are this project's own.
+-- Computed on a template whose coinbase stands byte for byte, and on each refusal (the crate's
+-- tests).
 use Rattle.std.specs.Prelude.{ℕ, ◌+◌, ◌^◌, ◌==◌, if◌then◌else◌, List, ◌++◌, length, nat_lt, Result, Ok, Err}
 use Rattle.coinbase.specs.declared.error.AssemblyError.{AssemblyError}
 use Rattle.coinbase.specs.declared.error.AssemblyError.TheVariants.{ScriptTooLong, BadOutputs, CountDiffers, RewardTooLarge, TooLong}
@@ -23,17 +28,19 @@ abbrev pub pool_output : ℕ → List ℕ → TxOut
 pool_output reward script = record { value = reward; script = script }
 
 -- its coinbase: the pool's output comes first, then the template's
-abbrev pub parts_of : Terms → List ℕ → Parts
-parts_of terms script = record {
+abbrev pub template_parts : Terms → List ℕ → Parts
+template_parts terms script = record {
   prefix = prefix_of terms.tx_version terms.prefix;
-  suffix = suffix_of terms.sequence (1 + terms.outputs_count) (output_bytes (pool_output terms.reward script) ++ terms.outputs) terms.lock_time;
+  suffix = suffix_of terms.sequence (1 + terms.outputs_count)
+      (output_bytes (pool_output terms.reward script) ++ terms.outputs) terms.lock_time;
   witness = commitment_in (outputs_of terms.outputs);
 }
 
 -- outputs that were read are as many as was said
 abbrev pub counted_as : ℕ → Result (List TxOut) ℕ → Result (List TxOut) AssemblyError
 counted_as said (Err at) = Err (BadOutputs at)
-counted_as said (Ok outputs) = if length outputs == said then Ok outputs else Err (CountDiffers said (length outputs))
+counted_as said (Ok outputs) =
+    if length outputs == said then Ok outputs else Err (CountDiffers said (length outputs))
 
 -- the template's outputs, or what is wrong with them
 abbrev pub outputs_said : Terms → Result (List TxOut) AssemblyError
@@ -41,13 +48,19 @@ outputs_said terms = counted_as terms.outputs_count (outputs_of terms.outputs)
 
 -- a coinbase that isn't too long
 abbrev pub within_length : Parts → Result Parts AssemblyError
-within_length parts = if nat_lt 65535 (whole_len parts) then Err (TooLong (whole_len parts)) else Ok parts
+within_length parts =
+    if nat_lt 65535 (whole_len parts) then Err (TooLong (whole_len parts)) else Ok parts
 
 -- the coinbase of a reward that isn't too large
 abbrev pub with_reward : Terms → List ℕ → Result Parts AssemblyError
-with_reward terms script = if nat_lt terms.reward (2 ^ 40) then within_length (parts_of terms script) else Err (RewardTooLarge terms.reward)
+with_reward terms script =
+    if nat_lt terms.reward (2 ^ 40)
+    then within_length (template_parts terms script)
+    else Err (RewardTooLarge terms.reward)
 
 -- the coinbase of a template and the pool's script, or the first refusal (this project's own)
-abbrev pub assembled : Terms → List ℕ → Result Parts AssemblyError
-assembled terms script =
-    if nat_lt 88 (length terms.prefix) then Err (ScriptTooLong (length terms.prefix)) else (outputs_said terms >>= λ outputs. with_reward terms script)
+abbrev pub template_assembly : Terms → List ℕ → Result Parts AssemblyError
+template_assembly terms script =
+    if nat_lt 88 (length terms.prefix)
+    then Err (ScriptTooLong (length terms.prefix))
+    else (outputs_said terms >>= λ outputs. with_reward terms script)

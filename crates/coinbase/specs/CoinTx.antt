@@ -1,4 +1,4 @@
--- Coinbases as transactions.
+-- Coinbases as transactions (BIP 141 for the witness; the rest is this project's own).
 use Rattle.std.specs.Prelude.{ℕ, ◌-◌, ◌^◌, ◌<◌, Bool, if◌then◌else◌, List, [], ◌∷◌, ◌++◌, replicate}
 use Rattle.std.specs.List.{list_any}
 use Rattle.coinbase.specs.declared.tx.Tx.{Tx}
@@ -10,7 +10,12 @@ use Rattle.coinbase.specs.Outputs.{AreBytes, commits}
 
 -- an input that spends no output, with a script that ends in the extranonce
 abbrev pub coinbase_input : List ℕ → List ℕ → ℕ → TxIn
-coinbase_input prefix extranonce sequence = record { previous = replicate 32 0; index = 2 ^ 32 - 1; script = prefix ++ extranonce; sequence = sequence }
+coinbase_input prefix extranonce sequence = record {
+  previous = replicate 32 0;
+  index = 2 ^ 32 - 1;
+  script = prefix ++ extranonce;
+  sequence = sequence;
+}
 
 -- the witness of a coinbase that has one: 32 zero bytes (BIP 141)
 abbrev pub coinbase_witness : Bool → List (List (List ℕ))
@@ -44,6 +49,7 @@ pub record AreTerms (terms : Terms) : Type 0 where
   pub outputs : AreBytes terms.outputs
   pub lock_time : terms.lock_time < 2 ^ 32
 
+-- the same of a miner's own job
 pub record AreCustomTerms (terms : CustomTerms) : Type 0 where
   pub tx_version : terms.tx_version < 2 ^ 32
   pub sequence : terms.sequence < 2 ^ 32

@@ -1,4 +1,7 @@
--- Compact sizes (Bitcoin's "CompactSize Unsigned Integers").
+-- Compact sizes.
+--
+-- Source: Bitcoin's "CompactSize Unsigned Integers". Computed on each of the four spellings, and on
+-- sizes that aren't in their shortest (the crate's tests).
 use Rattle.std.specs.Prelude.{ℕ, ◌^◌, List, [], ◌∷◌, ◌++◌, length, nat_lt, if◌then◌else◌}
 use Rattle.std.specs.Int.{w16, w32, w64, to_le_bytes}
 
@@ -11,5 +14,5 @@ compact n =
     else 255 ∷ to_le_bytes w64 n
 
 -- bytes behind their number
-abbrev pub sized : List ℕ → List ℕ
-sized bytes = compact (length bytes) ++ bytes
+abbrev pub sized_bytes : List ℕ → List ℕ
+sized_bytes bytes = compact (length bytes) ++ bytes

@@ -1,4 +1,8 @@
--- The coinbase of a miner's own job (Stratum V2, "SetCustomMiningJob"): what it is, and when it is refused.
+-- The coinbase of a miner's own job: what it is, and when it is refused.
+--
+-- Sources: Stratum V2, "SetCustomMiningJob"; that all outputs pay to the pool, the order of the
+-- refusals and the limits are this project's own.
+-- Computed on a job whose coinbase stands byte for byte, and on each refusal (the crate's tests).
 use Rattle.std.specs.Prelude.{ℕ, ◌^◌, ◌&&◌, Bool, not, if◌then◌else◌, List, [], ◌∷◌, length, nat_lt, position, sum_by, Option, Some, None, Result, Ok, Err}
 use Rattle.std.specs.Str.{bytes_eq}
 use Rattle.coinbase.specs.declared.error.OutputsError.{OutputsError}
@@ -47,13 +51,19 @@ total outputs = sum_by (λ output. output.value) outputs
 abbrev pub paying_outputs : CustomTerms → List ℕ → Result (List TxOut) OutputsError
 paying_outputs terms script =
     if nat_lt 1024 (length terms.outputs) then Err (TooLong (length terms.outputs))
-    else (some_outputs (outputs_of terms.outputs) >>= λ outputs. without_foreign (position (is_foreign script) outputs) outputs)
+    else (some_outputs (outputs_of terms.outputs) >>= λ outputs.
+    without_foreign (position (is_foreign script) outputs) outputs)
 
 -- the coinbase and its reward, which isn't too large
 abbrev pub with_total : CustomTerms → List TxOut → Result (Parts × ℕ) OutputsError
-with_total terms outputs = if nat_lt (total outputs) (2 ^ 40) then Ok (custom_parts terms (length outputs), total outputs) else Err (RewardTooLarge (total outputs))
+with_total terms outputs =
+    if nat_lt (total outputs) (2 ^ 40)
+    then Ok (custom_parts terms (length outputs), total outputs)
+    else Err (RewardTooLarge (total outputs))
 
 -- the coinbase of a miner's job and its reward, or the first refusal (this project's own)
-abbrev pub assembled_of_outputs : CustomTerms → List ℕ → Result (Parts × ℕ) OutputsError
-assembled_of_outputs terms script =
-    if nat_lt 88 (length terms.prefix) then Err (ScriptTooLong (length terms.prefix)) else (paying_outputs terms script >>= λ outputs. with_total terms outputs)
+abbrev pub custom_assembly : CustomTerms → List ℕ → Result (Parts × ℕ) OutputsError
+custom_assembly terms script =
+    if nat_lt 88 (length terms.prefix)
+    then Err (ScriptTooLong (length terms.prefix))
+    else (paying_outputs terms script >>= λ outputs. with_total terms outputs)

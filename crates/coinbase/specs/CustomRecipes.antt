@@ -1,10 +1,12 @@
--- A miner's recipe without where its bytes lie, and what an assembly of it answers.
+-- A miner's recipe without where its bytes lie, and what an assembly of it answers (this project's
+-- own).
 use Rattle.std.specs.Prelude.{◌≡◌, Result, Ok, Err}
 use Rattle.coinbase.specs.declared.assembly.CustomRecipe.{CustomRecipe}
 use Rattle.coinbase.specs.declared.error.OutputsError.{OutputsError}
 use Rattle.coinbase.specs.declared.error.OutputsError.TheVariants.{ScriptTooLong, TooLong, BadOutputs, NoOutputs, ForeignOutput, RewardTooLarge, Memory}
 use Rattle.coinbase.specs.Custom.{CustomTerms}
 
+-- what a miner's recipe says
 abbrev pub custom_terms_of : CustomRecipe → CustomTerms
 custom_terms_of recipe = record {
   tx_version = recipe.tx_version;

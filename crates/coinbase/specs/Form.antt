@@ -1,44 +1,51 @@
--- How a transaction is written (Bitcoin's "Raw Transaction Format", BIP 144), and its ids (BIP 141).
+-- How a transaction is written, and its ids.
+--
+-- Sources: Bitcoin's "Raw Transaction Format" and BIP 144 for the forms, BIP 141 for the ids.
+-- Computed on transactions of Bitcoin's first blocks with their published ids, and on the examples
+-- of BIP 143 (the crate's tests).
 use Rattle.std.specs.Prelude.{◌≡◌, ℕ, Bool, not, IsTrue, ◌^◌, ◌<◌, ◌==◌, ◌⊎◌, if◌then◌else◌, List, [], ◌∷◌, ◌++◌, length}
 use Rattle.std.specs.List.{flat_map, list_any, AllByRecursion}
 use Rattle.std.specs.Int.{w32, w64, to_le_bytes}
 use Rattle.block_header.specs.Hash.{dsha}
-use Rattle.coinbase.specs.Compact.{compact, sized}
+use Rattle.coinbase.specs.Compact.{compact, sized_bytes}
 use Rattle.coinbase.specs.declared.tx.Tx.{Tx}
 use Rattle.coinbase.specs.declared.tx.TxIn.{TxIn}
 use Rattle.coinbase.specs.declared.tx.TxOut.{TxOut}
 
 -- the id of the transaction spent from and the place of its output, the script, the sequence
 abbrev pub input_bytes : TxIn → List ℕ
-input_bytes i = i.previous ++ to_le_bytes w32 i.index ++ sized i.script ++ to_le_bytes w32 i.sequence
+input_bytes i =
+    i.previous ++ to_le_bytes w32 i.index ++ sized_bytes i.script ++ to_le_bytes w32 i.sequence
 
 -- the value, the script
 abbrev pub output_bytes : TxOut → List ℕ
-output_bytes o = to_le_bytes w64 o.value ++ sized o.script
+output_bytes o = to_le_bytes w64 o.value ++ sized_bytes o.script
 
 -- how many there are, and each
-abbrev pub counted : {X : Type 0} → (X → List ℕ) → List X → List ℕ
-counted spell xs = compact (length xs) ++ flat_map spell xs
+abbrev pub counted_bytes : {X : Type 0} → (X → List ℕ) → List X → List ℕ
+counted_bytes spell xs = compact (length xs) ++ flat_map spell xs
 
 -- the items of one witness
 abbrev pub stack_bytes : List (List ℕ) → List ℕ
-stack_bytes items = counted sized items
+stack_bytes items = counted_bytes sized_bytes items
 
 -- inputs and outputs
-abbrev pub body : Tx → List ℕ
-body t = counted input_bytes t.inputs ++ counted output_bytes t.outputs
+abbrev pub body_bytes : Tx → List ℕ
+body_bytes t = counted_bytes input_bytes t.inputs ++ counted_bytes output_bytes t.outputs
 
 -- the form without marker, flag and witnesses
 abbrev pub without_witness : Tx → List ℕ
-without_witness t = to_le_bytes w32 t.version ++ body t ++ to_le_bytes w32 t.lock_time
+without_witness t = to_le_bytes w32 t.version ++ body_bytes t ++ to_le_bytes w32 t.lock_time
 
 -- the form with them
 abbrev pub with_witness : Tx → List ℕ
-with_witness t = to_le_bytes w32 t.version ++ (0 ∷ 1 ∷ []) ++ body t ++ flat_map stack_bytes t.witnesses ++ to_le_bytes w32 t.lock_time
+with_witness t =
+    to_le_bytes w32 t.version ++ (0 ∷ 1 ∷ []) ++ body_bytes t ++ flat_map stack_bytes t.witnesses
+    ++ to_le_bytes w32 t.lock_time
 
 -- the form that a transaction is written in
-abbrev pub written : Tx → List ℕ
-written t = if length t.witnesses == 0 then without_witness t else with_witness t
+abbrev pub tx_bytes : Tx → List ℕ
+tx_bytes t = if length t.witnesses == 0 then without_witness t else with_witness t
 
 -- what an input may be
 pub record IsInput (i : TxIn) : Type 0 where
@@ -85,7 +92,7 @@ pub record IsTx (t : Tx) : Type 0 where
 -- the bytes are this transaction
 pub record TxOf (t : Tx) (bytes : List ℕ) : Type 0 where
   pub is_tx : IsTx t
-  pub form : bytes ≡ written t
+  pub form : bytes ≡ tx_bytes t
 
 -- the id is of the form without witnesses, so that a witness doesn't change it (BIP 141)
 abbrev pub txid : Tx → List ℕ
@@ -93,4 +100,4 @@ txid t = dsha (without_witness t)
 
 -- the witness id is of the form as it is written (BIP 141)
 abbrev pub wtxid : Tx → List ℕ
-wtxid t = dsha (written t)
+wtxid t = dsha (tx_bytes t)

@@ -1,4 +1,5 @@
--- The outputs that a coinbase is to have, as one list of bytes.
+-- The outputs that a coinbase is to have, as one list of bytes (BIP 141 for the commitment; the
+-- rest is this project's own). Computed on lists that are whole, cut and empty (the crate's tests).
 use Rattle.std.specs.Prelude.{◌≡◌, ◌≢◌, ℕ, zero, suc, ◌<◌, Bool, false, ◌==◌, if◌then◌else◌, List, [], ◌∷◌, ◌++◌, length, take, drop, slice_index, Result, Ok, Err, nat_eq}
 use Rattle.std.specs.List.{flat_map, list_any, starts_with, AllByRecursion}
 use Rattle.coinbase.specs.declared.error.TxError.{TxError}
@@ -17,7 +18,8 @@ pub record AreOutputs (outputs : List TxOut) (bytes : List ℕ) : Type 0 where
 
 -- the bytes don't begin with a whole output
 abbrev pub BeginsBroken : List ℕ → Type 0
-BeginsBroken bytes = (output : TxOut) (rest : List ℕ) → IsOutput output → bytes ≢ output_bytes output ++ rest
+BeginsBroken bytes = (output : TxOut) (rest : List ℕ) → IsOutput output →
+    bytes ≢ output_bytes output ++ rest
 
 -- whole outputs stand before this place, and at it begins one that isn't whole
 pub record FirstBroken (bytes : List ℕ) (at : ℕ) : Type 0 where
@@ -32,16 +34,20 @@ first_of output (Ok others) = Ok (output ∷ others)
 first_of output (Err at) = Err at
 
 -- an output that was read, and those that follow it; or the place where none was read
-abbrev pub and_more : Result (TxOut × Place) TxError → ℕ → (Place → Result (List TxOut) ℕ) → Result (List TxOut) ℕ
+abbrev pub and_more : Result (TxOut × Place) TxError → ℕ → (Place → Result (List TxOut) ℕ) →
+    Result (List TxOut) ℕ
 and_more (Ok read) at rest = first_of read.0 (rest read.1)
 and_more (Err e) at rest = Err at
 
 -- at most so many outputs from a place on, or the place of the first that isn't whole
 unfoldable pub outputs_within : ℕ → Place → Result (List TxOut) ℕ
 outputs_within zero p = Ok []
-outputs_within (suc n) p = if length p.left == 0 then Ok [] else and_more (output_at p) p.at (λ after. outputs_within n after)
+outputs_within (suc n) p =
+    if length p.left == 0 then Ok []
+    else and_more (output_at p) p.at (λ after. outputs_within n after)
 
--- the outputs that the bytes are, or the place of the first that isn't whole; none is shorter than a byte
+-- the outputs that the bytes are, or the place of the first that isn't whole; none is shorter than
+-- a byte
 abbrev pub outputs_of : List ℕ → Result (List TxOut) ℕ
 outputs_of bytes = outputs_within (length bytes) (record { at = 0; left = bytes })
 

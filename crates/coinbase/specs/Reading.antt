@@ -1,4 +1,6 @@
--- Reading a transaction from left to right, with the first defect that is met.
+-- Reading a transaction from left to right, with the first defect that is met (this project's own;
+-- that it agrees with the public form is proved by the crate's laws).
+-- Computed on each transaction of the tests, cut behind each byte, and on each defect.
 use Rattle.std.specs.Prelude.{◌≡◌, ℕ, zero, suc, ◌+◌, ◌^◌, Bool, true, false, ◌==◌, if◌then◌else◌, List, [], ◌∷◌, length, take, drop, nat_lt, Result, Ok, Err}
 use Rattle.std.specs.Int.{Width, w8, w16, w32, w64, byte_len, from_le_bytes}
 use Rattle.coinbase.specs.declared.tx.Tx.{Tx}
@@ -16,7 +18,9 @@ pub record Place : Type 0 where
 
 -- a field of so many bytes
 abbrev pub bytes_at : ℕ → Place → Result (List ℕ × Place) TxError
-bytes_at n p = if nat_lt (length p.left) n then Err (Short p.at) else Ok (take n p.left, record { at = p.at + n; left = drop n p.left })
+bytes_at n p =
+    if nat_lt (length p.left) n then Err (Short p.at)
+    else Ok (take n p.left, record { at = p.at + n; left = drop n p.left })
 
 -- a number, low byte first
 unfoldable pub number_at : Width → Place → Result (ℕ × Place) TxError
@@ -28,7 +32,8 @@ number_at w p = do
 unfoldable pub marked_at : Width → ℕ → Place → Result (ℕ × Place) TxError
 marked_at w least p = do
   bytes ← bytes_at (1 + byte_len w) p
-  if nat_lt (from_le_bytes w (drop 1 bytes.0)) least then Err (LongSize p.at) else Ok (from_le_bytes w (drop 1 bytes.0), bytes.1)
+  if nat_lt (from_le_bytes w (drop 1 bytes.0)) least then Err (LongSize p.at)
+      else Ok (from_le_bytes w (drop 1 bytes.0), bytes.1)
 
 -- a compact size
 unfoldable pub compact_at : Place → Result (ℕ × Place) TxError
@@ -46,7 +51,8 @@ sized_at p = do
   bytes_at len.0 len.1
 
 -- so many of a kind
-unfoldable pub many_at : {X : Type 0} → (Place → Result (X × Place) TxError) → ℕ → Place → Result (List X × Place) TxError
+unfoldable pub many_at : {X : Type 0} → (Place → Result (X × Place) TxError) → ℕ → Place →
+    Result (List X × Place) TxError
 many_at read zero p = Ok ([], p)
 many_at read (suc n) p = do
   first ← read p
@@ -54,7 +60,8 @@ many_at read (suc n) p = do
   Ok (first.0 ∷ others.0, others.1)
 
 -- a count, and so many of a kind
-unfoldable pub counted_at : {X : Type 0} → (Place → Result (X × Place) TxError) → Place → Result (List X × Place) TxError
+unfoldable pub counted_at : {X : Type 0} → (Place → Result (X × Place) TxError) → Place →
+    Result (List X × Place) TxError
 counted_at read p = do
   count ← compact_at p
   many_at read count.0 count.1
@@ -66,7 +73,15 @@ input_at p = do
   index ← number_at w32 previous.1
   script ← sized_at index.1
   sequence ← number_at w32 script.1
-  Ok (record { previous = previous.0; index = index.0; script = script.0; sequence = sequence.0 }, sequence.1)
+  Ok (
+    record {
+      previous = previous.0;
+      index = index.0;
+      script = script.0;
+      sequence = sequence.0;
+    },
+    sequence.1,
+  )
 
 -- an output: its value, its script
 unfoldable pub output_at : Place → Result (TxOut × Place) TxError
@@ -114,7 +129,16 @@ tx_at p = do
   outputs ← counted_at output_at inputs.1
   witnesses ← witnesses_if opening.0.0 opening.0.1 outputs.1
   lock_time ← number_at w32 witnesses.1
-  Ok (record { version = version.0; inputs = inputs.0; outputs = outputs.0; witnesses = witnesses.0; lock_time = lock_time.0 }, lock_time.1)
+  Ok (
+    record {
+      version = version.0;
+      inputs = inputs.0;
+      outputs = outputs.0;
+      witnesses = witnesses.0;
+      lock_time = lock_time.0;
+    },
+    lock_time.1,
+  )
 
 -- a transaction that is all of the bytes
 unfoldable pub tx_of : List ℕ → Result Tx TxError
@@ -123,19 +147,19 @@ tx_of bytes = do
   if length tx.1.left == 0 then Ok tx.0 else Err (Trailing (length tx.1.left))
 
 -- a call failed as reading does, unless memory ran out
-abbrev pub Fails : {X : Type 0} → TxError → Result X TxError → Type 0
-Fails Memory read = Unit {0}
-Fails (Short at) read = read ≡ Err (Short at)
-Fails (LongSize at) read = read ≡ Err (LongSize at)
-Fails BadMarker read = read ≡ Err BadMarker
-Fails EmptyWitness read = read ≡ Err EmptyWitness
-Fails (Trailing count) read = read ≡ Err (Trailing count)
+abbrev pub FailsReading : {X : Type 0} → TxError → Result X TxError → Type 0
+FailsReading Memory read = Unit {0}
+FailsReading (Short at) read = read ≡ Err (Short at)
+FailsReading (LongSize at) read = read ≡ Err (LongSize at)
+FailsReading BadMarker read = read ≡ Err BadMarker
+FailsReading EmptyWitness read = read ≡ Err EmptyWitness
+FailsReading (Trailing count) read = read ≡ Err (Trailing count)
 
 -- what a call answered, seen by view, is what reading gives, unless memory ran out
-abbrev pub Gives : {X Y : Type 0} → (X → Y) → Result X TxError → Result Y TxError → Type 0
-Gives view (Ok x) read = read ≡ Ok (view x)
-Gives view (Err e) read = Fails e read
+abbrev pub ReadsAs : {X Y : Type 0} → (X → Y) → Result X TxError → Result Y TxError → Type 0
+ReadsAs view (Ok x) read = read ≡ Ok (view x)
+ReadsAs view (Err e) read = FailsReading e read
 
 -- the same of what is seen as it is
-abbrev pub Answers : {X : Type 0} → Result X TxError → Result X TxError → Type 0
-Answers result read = Gives (λ x. x) result read
+abbrev pub ReadsTx : {X : Type 0} → Result X TxError → Result X TxError → Type 0
+ReadsTx result read = ReadsAs (λ x. x) result read

@@ -1,10 +1,11 @@
--- A recipe without where its bytes lie, and what an assembly answers.
+-- A recipe without where its bytes lie, and what an assembly answers (this project's own).
 use Rattle.std.specs.Prelude.{◌≡◌, Result, Ok, Err}
 use Rattle.coinbase.specs.declared.assembly.Recipe.{Recipe}
 use Rattle.coinbase.specs.declared.error.AssemblyError.{AssemblyError}
 use Rattle.coinbase.specs.declared.error.AssemblyError.TheVariants.{ScriptTooLong, BadOutputs, CountDiffers, RewardTooLarge, TooLong, Memory}
 use Rattle.coinbase.specs.Coin.{Terms}
 
+-- what a recipe says
 abbrev pub terms_of : Recipe → Terms
 terms_of recipe = record {
   tx_version = recipe.tx_version;

@@ -1,4 +1,4 @@
--- What an assembly keeps true.
+-- What an assembly keeps true (this project's own).
 use Rattle.std.specs.Prelude.{ℕ, ◌≤◌, List, length}
 use Rattle.sha2.specs.declared.Sha256.{Sha256}
 use Rattle.sha2.specs.Hashers.{Holds256}

@@ -1,4 +1,4 @@
--- One step after another, up to the first that fails.
+-- One step after another, up to the first that fails (this project's own).
 use Rattle.std.specs.Prelude.{Result, Ok, Err}
 
 infixl 10 ◌>>=◌

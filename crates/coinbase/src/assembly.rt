@@ -63,7 +63,11 @@ impl Model for Assembly {
 
     ghost use Rattle.coinbase.specs.States.{IsAssembled};
 
-    ghost view = { λ a. record { prefix = a.prefix.items; suffix = a.suffix.items; witness = a.witness } };
+    ghost view = { λ a. record {
+      prefix = a.prefix.items;
+      suffix = a.suffix.items;
+      witness = a.witness;
+    } };
 
     ghost invariant = { λ a. IsAssembled a.prefix.items a.suffix.items a.state };
 }
@@ -71,8 +75,8 @@ impl Model for Assembly {
 impl Assembly {
     ghost use Rattle.std.specs.Prelude.{◌≡◌, ◌+◌, ◌^◌, ◌<◌, ◌≤◌, length, IfOk};
     ghost use Rattle.block_header.specs.Hash as hash;
-    ghost use Rattle.coinbase.specs.Coin.{assembled};
-    ghost use Rattle.coinbase.specs.Custom.{assembled_of_outputs};
+    ghost use Rattle.coinbase.specs.Coin.{template_assembly};
+    ghost use Rattle.coinbase.specs.Custom.{custom_assembly};
     ghost use Rattle.coinbase.specs.CustomRecipes.{custom_terms_of, AssemblesOutputs};
     ghost use Rattle.coinbase.specs.Parts as parts;
     ghost use Rattle.coinbase.specs.Recipes.{terms_of, Assembles};
@@ -81,7 +85,7 @@ impl Assembly {
     pub fn of(alloc: Global, recipe: &Recipe<'_>, script: &[u8]) -> Result<Assembly, AssemblyError>
         requires some { 1 ≤ length script.now }
         requires short { length script.now ≤ 100 }
-        ensures { Assembles result (assembled (terms_of recipe.now) script.now) }
+        ensures { Assembles result (template_assembly (terms_of recipe.now) script.now) }
     {
         if recipe.prefix.len() > 88 {
             return Err(AssemblyError::ScriptTooLong(recipe.prefix.len()));
@@ -110,7 +114,8 @@ impl Assembly {
     ) -> Result<(Assembly, u64), OutputsError>
         requires some { 1 ≤ length script.now }
         requires short { length script.now ≤ 100 }
-        ensures { AssemblesOutputs result (assembled_of_outputs (custom_terms_of recipe.now) script.now) }
+        ensures { AssemblesOutputs result
+            (custom_assembly (custom_terms_of recipe.now) script.now) }
     {
         if recipe.prefix.len() > 88 {
             return Err(OutputsError::ScriptTooLong(recipe.prefix.len()));
@@ -147,8 +152,8 @@ impl Assembly {
         &self.suffix
     }
 
-    /// The id of the coinbase with this extranonce, in the order of its bytes. It hashes no more than
-    /// the extranonce and what stands after it, and takes no memory.
+    /// The id of the coinbase with this extranonce, in the order of its bytes. It hashes no more
+    /// than the extranonce and what stands after it, and takes no memory.
     pub fn txid_with(&self, extranonce: &[u8; 12]) -> [u8; 32]
         ensures { result ≡ hash.dsha (parts.coin self.now extranonce.now) }
     {
@@ -160,7 +165,8 @@ impl Assembly {
         Sha256::digest(hasher.finalize())
     }
 
-    /// The coinbase with this extranonce as it is sent in a block, with its witness where it has one.
+    /// The coinbase with this extranonce as it is sent in a block, with its witness where it has
+    /// one.
     pub fn whole(&self, extranonce: &[u8; 12]) -> Result<Vec<u8>, AllocError>
         ensures { IfOk result (λ v. v.items ≡ parts.whole self.now extranonce.now) }
     {
@@ -244,7 +250,8 @@ fn suffix_of(
 
 // The pool's output, and then the template's.
 fn paid_outputs(alloc: Global, recipe: &Recipe, script: &[u8]) -> Result<Vec<u8>, AllocError>
-    ensures { IfOk result (λ v. v.items ≡ output_bytes (coin.pool_output recipe.now.reward script.now) ++ recipe.now.outputs.now) }
+    ensures { IfOk result (λ v. v.items ≡
+        output_bytes (coin.pool_output recipe.now.reward script.now) ++ recipe.now.outputs.now) }
 {
     let mut text = Vec::new(alloc);
     text.extend_from_slice(&recipe.reward.to_le_bytes())?;
@@ -255,7 +262,8 @@ fn paid_outputs(alloc: Global, recipe: &Recipe, script: &[u8]) -> Result<Vec<u8>
 
 // A template's outputs, which are as many as it says.
 fn said_outputs(alloc: Global, recipe: &Recipe) -> Result<Vec<TxOut>, AssemblyError>
-    ensures said { MatchResult result (λ v. coin.outputs_said (terms_of recipe.now) ≡ Ok v.items) (λ e. Refuses e (coin.outputs_said (terms_of recipe.now))) }
+    ensures said { MatchResult result (λ v. coin.outputs_said (terms_of recipe.now) ≡ Ok v.items)
+        (λ e. Refuses e (coin.outputs_said (terms_of recipe.now))) }
     ensures read { IfOk result (λ v. outputs_of recipe.now.outputs.now ≡ Ok v.items) }
 {
     let outputs = match outputs::outputs_of(alloc, recipe.outputs) {
@@ -291,7 +299,8 @@ fn paying_outputs(
     recipe: &CustomRecipe,
     script: &[u8],
 ) -> Result<Vec<TxOut>, OutputsError>
-    ensures paying { MatchResult result (λ v. custom.paying_outputs (custom_terms_of recipe.now) script.now ≡ Ok v.items)
+    ensures paying { MatchResult result
+        (λ v. custom.paying_outputs (custom_terms_of recipe.now) script.now ≡ Ok v.items)
         (λ e. RefusesOutputs e (custom.paying_outputs (custom_terms_of recipe.now) script.now)) }
     ensures read { IfOk result (λ v. outputs_of recipe.now.outputs.now ≡ Ok v.items) }
 {

@@ -6,8 +6,8 @@ ghost use Rattle.coinbase.specs.declared.error.TxError.TheVariants.{Memory};
 use std::alloc::{AllocError, AllocFailed};
 use thiserror::Error;
 
-/// Why bytes are no transaction: the first defect in reading order. A place is that of the first byte of
-/// the field that has the defect.
+/// Why bytes are no transaction: the first defect in reading order. A place is that of the first
+/// byte of the field that has the defect.
 #[derive(Clone, Copy, Debug, PartialEq, Eq, Drop, Error)]
 pub enum TxError {
     #[error("the field at byte {0} passes the end")]

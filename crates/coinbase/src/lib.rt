@@ -1,5 +1,5 @@
-//! Bitcoin's transactions, read and written, and the coinbases that the pool makes. It never looks at
-//! blocks.
+//! Bitcoin's transactions, read and written, and the coinbases that the pool makes. It never looks
+//! at blocks.
 #![tactic(auto)]
 
 mod assembly;

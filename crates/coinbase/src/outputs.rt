@@ -1,7 +1,7 @@
 //! The outputs that a coinbase is to have.
 
 ghost use Rattle.std.specs.Prelude.{◌≡◌, ◌<◌, length, Ok, IfOk, MatchResult};
-ghost use Rattle.coinbase.specs.Broken.{EndsAt, Ends};
+ghost use Rattle.coinbase.specs.Broken.{ReadsNoOutput, EndsOutputs};
 ghost use Rattle.coinbase.specs.Cursors.{place_of};
 ghost use Rattle.coinbase.specs.Outputs as outputs;
 ghost use Rattle.coinbase.specs.Reading as reading;
@@ -31,7 +31,9 @@ impl<T: Drop> From<AllocFailed<T>> for Broken {
 
 // One output.
 fn next_output(alloc: Global, cursor: Cursor) -> Result<(TxOut, Cursor), Broken>
-    ensures read { MatchResult result (λ x. reading.output_at (place_of cursor.entry) ≡ Ok (x.0, place_of x.1)) (λ e. EndsAt e (place_of cursor.entry)) }
+    ensures read { MatchResult result
+        (λ x. reading.output_at (place_of cursor.entry) ≡ Ok (x.0, place_of x.1))
+        (λ e. ReadsNoOutput e (place_of cursor.entry)) }
     ensures shorter { IfOk result (λ x. length x.1.left.now < length cursor.entry.left.now) }
 {
     match output_at(alloc, cursor) {
@@ -43,7 +45,8 @@ fn next_output(alloc: Global, cursor: Cursor) -> Result<(TxOut, Cursor), Broken>
 
 // The outputs that the bytes are.
 pub(crate) fn outputs_of(alloc: Global, bytes: &[u8]) -> Result<Vec<TxOut>, Broken>
-    ensures { MatchResult result (λ v. outputs.outputs_of bytes.now ≡ Ok v.items) (λ e. Ends e (outputs.outputs_of bytes.now)) }
+    ensures { MatchResult result (λ v. outputs.outputs_of bytes.now ≡ Ok v.items)
+        (λ e. EndsOutputs e (outputs.outputs_of bytes.now)) }
 {
     let mut outputs = Vec::new(alloc);
     let mut cursor = Cursor::new(bytes);

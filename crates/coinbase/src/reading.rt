@@ -2,10 +2,10 @@
 
 ghost use Rattle.std.specs.Prelude.{◌≡◌, ℕ, ◌^◌, length, IfOk, Result};
 ghost use Rattle.std.specs.Int.{w8, w16, w32, w64};
-ghost use Rattle.coinbase.specs.Cursors.{Takes, TakesAs};
+ghost use Rattle.coinbase.specs.Cursors.{TakesField, TakesFieldAs};
 ghost use Rattle.coinbase.specs.Form as form;
 ghost use Rattle.coinbase.specs.Reading as reading;
-ghost use Rattle.coinbase.specs.Reading.{Answers};
+ghost use Rattle.coinbase.specs.Reading.{ReadsTx};
 ghost use Rattle.coinbase.specs.declared.error.TxError.{TxError};
 
 use crate::cursor::Cursor;
@@ -17,7 +17,7 @@ use sv2_types::Blob;
 // A field of so many bytes.
 fn bytes_at(count: u64, cursor: Cursor) -> Result<(&[u8], Cursor), TxError>
     ensures length { IfOk result (λ x. length x.0.now ≡ count) }
-    ensures field { TakesAs (λ x. x.now) result (reading.bytes_at count) cursor.entry }
+    ensures field { TakesFieldAs (λ x. x.now) result (reading.bytes_at count) cursor.entry }
 {
     let count = count as usize;
     if cursor.left.len() < count {
@@ -35,7 +35,7 @@ fn bytes_at(count: u64, cursor: Cursor) -> Result<(&[u8], Cursor), TxError>
 
 #[tactic(auto, unfolding(crate::specs::Reading::number_at))]
 fn u8_at(cursor: Cursor) -> Result<(u8, Cursor), TxError>
-    ensures { Takes result (reading.number_at w8) cursor.entry }
+    ensures { TakesField result (reading.number_at w8) cursor.entry }
 {
     let (field, after) = bytes_at(1, cursor)?;
     Ok((field[0], after))
@@ -43,7 +43,7 @@ fn u8_at(cursor: Cursor) -> Result<(u8, Cursor), TxError>
 
 #[tactic(auto, unfolding(crate::specs::Reading::number_at))]
 fn u32_at(cursor: Cursor) -> Result<(u32, Cursor), TxError>
-    ensures { Takes result (reading.number_at w32) cursor.entry }
+    ensures { TakesField result (reading.number_at w32) cursor.entry }
 {
     let (field, after) = bytes_at(4, cursor)?;
     let number = u32::from_le_bytes([field[0], field[1], field[2], field[3]]);
@@ -52,7 +52,7 @@ fn u32_at(cursor: Cursor) -> Result<(u32, Cursor), TxError>
 
 #[tactic(auto, unfolding(crate::specs::Reading::number_at))]
 fn u64_at(cursor: Cursor) -> Result<(u64, Cursor), TxError>
-    ensures { Takes result (reading.number_at w64) cursor.entry }
+    ensures { TakesField result (reading.number_at w64) cursor.entry }
 {
     let (field, after) = bytes_at(8, cursor)?;
     let number = u64::from_le_bytes([
@@ -64,7 +64,7 @@ fn u64_at(cursor: Cursor) -> Result<(u64, Cursor), TxError>
 // A compact size of a mark and two bytes.
 #[tactic(auto, unfolding(crate::specs::Reading::marked_at))]
 fn marked_u16_at(cursor: Cursor) -> Result<(u64, Cursor), TxError>
-    ensures { Takes result (reading.marked_at w16 253) cursor.entry }
+    ensures { TakesField result (reading.marked_at w16 253) cursor.entry }
 {
     let (field, after) = bytes_at(3, cursor)?;
     let size = u16::from_le_bytes([field[1], field[2]]);
@@ -77,7 +77,7 @@ fn marked_u16_at(cursor: Cursor) -> Result<(u64, Cursor), TxError>
 // A compact size of a mark and four bytes.
 #[tactic(auto, unfolding(crate::specs::Reading::marked_at))]
 fn marked_u32_at(cursor: Cursor) -> Result<(u64, Cursor), TxError>
-    ensures { Takes result (reading.marked_at w32 (2 ^ 16)) cursor.entry }
+    ensures { TakesField result (reading.marked_at w32 (2 ^ 16)) cursor.entry }
 {
     let (field, after) = bytes_at(5, cursor)?;
     let size = u32::from_le_bytes([field[1], field[2], field[3], field[4]]);
@@ -90,7 +90,7 @@ fn marked_u32_at(cursor: Cursor) -> Result<(u64, Cursor), TxError>
 // A compact size of a mark and eight bytes.
 #[tactic(auto, unfolding(crate::specs::Reading::marked_at))]
 fn marked_u64_at(cursor: Cursor) -> Result<(u64, Cursor), TxError>
-    ensures { Takes result (reading.marked_at w64 (2 ^ 32)) cursor.entry }
+    ensures { TakesField result (reading.marked_at w64 (2 ^ 32)) cursor.entry }
 {
     let (field, after) = bytes_at(9, cursor)?;
     let size = u64::from_le_bytes([
@@ -104,7 +104,7 @@ fn marked_u64_at(cursor: Cursor) -> Result<(u64, Cursor), TxError>
 
 #[tactic(auto, unfolding(crate::specs::Reading::compact_at))]
 fn compact_at(cursor: Cursor) -> Result<(u64, Cursor), TxError>
-    ensures { Takes result reading.compact_at cursor.entry }
+    ensures { TakesField result reading.compact_at cursor.entry }
 {
     let (first, after) = u8_at(cursor)?;
     match first {
@@ -118,7 +118,7 @@ fn compact_at(cursor: Cursor) -> Result<(u64, Cursor), TxError>
 // Bytes behind their number.
 #[tactic(auto, unfolding(crate::specs::Reading::sized_at))]
 fn sized_at(cursor: Cursor) -> Result<(&[u8], Cursor), TxError>
-    ensures { TakesAs (λ x. x.now) result reading.sized_at cursor.entry }
+    ensures { TakesFieldAs (λ x. x.now) result reading.sized_at cursor.entry }
 {
     let (len, after) = compact_at(cursor)?;
     bytes_at(len, after)
@@ -126,7 +126,7 @@ fn sized_at(cursor: Cursor) -> Result<(&[u8], Cursor), TxError>
 
 // The same, copied.
 fn blob_at(alloc: Global, cursor: Cursor) -> Result<(Blob, Cursor), TxError>
-    ensures { Takes result reading.sized_at cursor.entry }
+    ensures { TakesField result reading.sized_at cursor.entry }
 {
     let (bytes, after) = sized_at(cursor)?;
     let bytes = Blob::of(alloc, bytes)?;
@@ -134,7 +134,7 @@ fn blob_at(alloc: Global, cursor: Cursor) -> Result<(Blob, Cursor), TxError>
 }
 
 fn hash_at(cursor: Cursor) -> Result<([u8; 32], Cursor), TxError>
-    ensures { Takes result (reading.bytes_at 32) cursor.entry }
+    ensures { TakesField result (reading.bytes_at 32) cursor.entry }
 {
     let (field, after) = bytes_at(32, cursor)?;
     let mut hash = [0; 32];
@@ -144,7 +144,7 @@ fn hash_at(cursor: Cursor) -> Result<([u8; 32], Cursor), TxError>
 
 #[tactic(auto, unfolding(crate::specs::Reading::input_at))]
 fn input_at(alloc: Global, cursor: Cursor) -> Result<(TxIn, Cursor), TxError>
-    ensures { Takes result reading.input_at cursor.entry }
+    ensures { TakesField result reading.input_at cursor.entry }
 {
     let (previous, after) = hash_at(cursor)?;
     let (index, after) = u32_at(after)?;
@@ -161,7 +161,7 @@ fn input_at(alloc: Global, cursor: Cursor) -> Result<(TxIn, Cursor), TxError>
 
 #[tactic(auto, unfolding(crate::specs::Reading::output_at))]
 pub(crate) fn output_at(alloc: Global, cursor: Cursor) -> Result<(TxOut, Cursor), TxError>
-    ensures { Takes result reading.output_at cursor.entry }
+    ensures { TakesField result reading.output_at cursor.entry }
 {
     let (value, after) = u64_at(cursor)?;
     let (script, after) = blob_at(alloc, after)?;
@@ -176,7 +176,7 @@ trait Part: Drop {
     fn part_at(alloc: Global, cursor: Cursor) -> Result<(Self, Cursor), TxError>
     where
         Self: Sized,
-        ensures { Takes result part_at cursor.entry };
+        ensures { TakesField result part_at cursor.entry };
 }
 
 impl Part for TxIn {
@@ -214,7 +214,7 @@ impl Part for Stack {
 
 // So many parts.
 fn many_at<T: Part>(alloc: Global, count: u64, cursor: Cursor) -> Result<(Vec<T>, Cursor), TxError>
-    ensures { TakesAs (λ v. v.items) result (reading.many_at T.part_at count) cursor.entry }
+    ensures { TakesFieldAs (λ v. v.items) result (reading.many_at T.part_at count) cursor.entry }
 {
     let mut parts = Vec::new(alloc);
     let mut after = cursor;
@@ -229,7 +229,7 @@ fn many_at<T: Part>(alloc: Global, count: u64, cursor: Cursor) -> Result<(Vec<T>
 // A count, and so many parts.
 #[tactic(auto, unfolding(crate::specs::Reading::counted_at))]
 fn counted_at<T: Part>(alloc: Global, cursor: Cursor) -> Result<(Vec<T>, Cursor), TxError>
-    ensures { TakesAs (λ v. v.items) result (reading.counted_at T.part_at) cursor.entry }
+    ensures { TakesFieldAs (λ v. v.items) result (reading.counted_at T.part_at) cursor.entry }
 {
     let (count, after) = compact_at(cursor)?;
     many_at(alloc, count, after)
@@ -238,7 +238,7 @@ fn counted_at<T: Part>(alloc: Global, cursor: Cursor) -> Result<(Vec<T>, Cursor)
 // The count of inputs behind marker and flag.
 #[tactic(auto, unfolding(crate::specs::Reading::flagged_count_at))]
 fn flagged_count_at(cursor: Cursor) -> Result<(u64, Cursor), TxError>
-    ensures { Takes result reading.flagged_count_at cursor.entry }
+    ensures { TakesField result reading.flagged_count_at cursor.entry }
 {
     let (count, after) = compact_at(cursor)?;
     if count == 0 {
@@ -250,7 +250,7 @@ fn flagged_count_at(cursor: Cursor) -> Result<(u64, Cursor), TxError>
 // The flag, and that count.
 #[tactic(auto, unfolding(crate::specs::Reading::flagged_at))]
 fn flagged_at(cursor: Cursor) -> Result<(u64, Cursor), TxError>
-    ensures { Takes result reading.flagged_at cursor.entry }
+    ensures { TakesField result reading.flagged_at cursor.entry }
 {
     let (flag, after) = u8_at(cursor)?;
     if flag != 1 {
@@ -262,7 +262,7 @@ fn flagged_at(cursor: Cursor) -> Result<(u64, Cursor), TxError>
 // Whether witnesses follow, and the count of inputs.
 #[tactic(auto, unfolding(crate::specs::Reading::opening_at))]
 fn opening_at(cursor: Cursor) -> Result<((bool, u64), Cursor), TxError>
-    ensures { Takes result reading.opening_at cursor.entry }
+    ensures { TakesField result reading.opening_at cursor.entry }
 {
     let (count, after) = compact_at(cursor)?;
     if count != 0 {
@@ -282,7 +282,7 @@ fn has_item(stacks: &[Stack]) -> bool
 // The witnesses of so many inputs.
 #[tactic(auto, unfolding(crate::specs::Reading::witnesses_at))]
 fn witnesses_at(alloc: Global, inputs: u64, cursor: Cursor) -> Result<(Vec<Stack>, Cursor), TxError>
-    ensures { TakesAs (λ v. v.items) result (reading.witnesses_at inputs) cursor.entry }
+    ensures { TakesFieldAs (λ v. v.items) result (reading.witnesses_at inputs) cursor.entry }
 {
     let (stacks, after) = many_at::<Stack>(alloc, inputs, cursor)?;
     if !has_item(&stacks) {
@@ -298,7 +298,7 @@ fn witnesses_if(
     inputs: u64,
     cursor: Cursor,
 ) -> Result<(Vec<Stack>, Cursor), TxError>
-    ensures { TakesAs (λ v. v.items) result (reading.witnesses_if follow inputs) cursor.entry }
+    ensures { TakesFieldAs (λ v. v.items) result (reading.witnesses_if follow inputs) cursor.entry }
 {
     if follow {
         witnesses_at(alloc, inputs, cursor)
@@ -309,7 +309,7 @@ fn witnesses_if(
 
 #[tactic(auto, unfolding(crate::specs::Reading::tx_at))]
 fn tx_at(alloc: Global, cursor: Cursor) -> Result<(Tx, Cursor), TxError>
-    ensures { Takes result reading.tx_at cursor.entry }
+    ensures { TakesField result reading.tx_at cursor.entry }
 {
     let (version, after) = u32_at(cursor)?;
     let ((marked, count), after) = opening_at(after)?;
@@ -330,7 +330,7 @@ fn tx_at(alloc: Global, cursor: Cursor) -> Result<(Tx, Cursor), TxError>
 // A transaction that is all of the bytes.
 #[tactic(auto, unfolding(crate::specs::Reading::tx_of))]
 pub(crate) fn tx_of(alloc: Global, bytes: &[u8]) -> Result<Tx, TxError>
-    ensures { Answers result (reading.tx_of bytes.now) }
+    ensures { ReadsTx result (reading.tx_of bytes.now) }
 {
     let (tx, after) = tx_at(alloc, Cursor::new(bytes))?;
     if !after.is_at_end() {

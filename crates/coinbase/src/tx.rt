@@ -187,24 +187,24 @@ impl Tx {
     ghost use Rattle.std.specs.Prelude.{◌≡◌, ◌++◌, IfOk, OnOk, OnErr, Ok};
     ghost use Rattle.coinbase.specs.declared.tx.Tx.{Tx};
     ghost use Rattle.coinbase.specs.Form as form;
-    ghost use Rattle.coinbase.specs.Form.{TxOf, written};
-    ghost use Rattle.coinbase.specs.Reading.{Answers, tx_of};
+    ghost use Rattle.coinbase.specs.Form.{TxOf, tx_bytes};
+    ghost use Rattle.coinbase.specs.Reading.{ReadsTx, tx_of};
 
     /// Reads a whole transaction. An error says the first defect, and where its field begins.
     pub fn read(alloc: Global, bytes: &[u8]) -> Result<Tx, TxError>
         // What is read is written so.
         ensures found { IfOk result (λ tx. TxOf tx bytes.now) }
         // What is written so is read, unless memory runs out.
-        ensures only { (tx : Tx) → TxOf tx bytes.now → Answers result (Ok tx) }
+        ensures only { (tx : Tx) → TxOf tx bytes.now → ReadsTx result (Ok tx) }
         // Which defect it is.
-        ensures exact { Answers result (tx_of bytes.now) }
+        ensures exact { ReadsTx result (tx_of bytes.now) }
     {
         reading::tx_of(alloc, bytes)
     }
 
     /// Appends the transaction, with its witnesses where it has some.
     pub fn write(&self, out: &mut Vec<u8>) -> Result<(), AllocError>
-        ensures ok { OnOk result (out.new.items ≡ out.old.items ++ written self.now) }
+        ensures ok { OnOk result (out.new.items ≡ out.old.items ++ tx_bytes self.now) }
         ensures err { OnErr result (out.new.items ≡ out.old.items) }
     {
         let mut text = Vec::new(self.inputs.allocator());

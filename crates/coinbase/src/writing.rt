@@ -1,8 +1,8 @@
 //! Transactions as bytes.
 
 ghost use Rattle.std.specs.Prelude.{◌≡◌, ℕ, List, ◌++◌, OnOk};
-ghost use Rattle.coinbase.specs.Compact.{compact, sized};
-ghost use Rattle.coinbase.specs.Form.{input_bytes, output_bytes, stack_bytes, counted, body, written, with_witness, without_witness};
+ghost use Rattle.coinbase.specs.Compact.{compact, sized_bytes};
+ghost use Rattle.coinbase.specs.Form.{input_bytes, output_bytes, stack_bytes, counted_bytes, body_bytes, tx_bytes, with_witness, without_witness};
 ghost use Rattle.std.specs.List.{flat_map};
 
 use crate::tx::{Stack, Tx, TxIn, TxOut};
@@ -31,7 +31,7 @@ pub(crate) fn put_compact(out: &mut Vec<u8>, size: usize) -> Result<(), AllocErr
 
 // Appends bytes behind their number.
 pub(crate) fn put_sized(out: &mut Vec<u8>, bytes: &[u8]) -> Result<(), AllocError>
-    ensures { OnOk result (out.new.items ≡ out.old.items ++ sized bytes.now) }
+    ensures { OnOk result (out.new.items ≡ out.old.items ++ sized_bytes bytes.now) }
 {
     put_compact(out, bytes.len())?;
     out.extend_from_slice(bytes)?;
@@ -69,7 +69,7 @@ impl Written for TxOut {
 }
 
 impl Written for Blob {
-    ghost text_of = { sized };
+    ghost text_of = { sized_bytes };
 
     fn put(&self, out: &mut Vec<u8>) -> Result<(), AllocError> {
         put_sized(out, self.bytes())
@@ -96,7 +96,7 @@ fn put_all<T: Written>(out: &mut Vec<u8>, parts: &[T]) -> Result<(), AllocError>
 
 // Appends how many there are, and each.
 fn put_counted<T: Written>(out: &mut Vec<u8>, parts: &[T]) -> Result<(), AllocError>
-    ensures { OnOk result (out.new.items ≡ out.old.items ++ counted T.text_of parts.now) }
+    ensures { OnOk result (out.new.items ≡ out.old.items ++ counted_bytes T.text_of parts.now) }
 {
     put_compact(out, parts.len())?;
     put_all(out, parts)?;
@@ -105,7 +105,7 @@ fn put_counted<T: Written>(out: &mut Vec<u8>, parts: &[T]) -> Result<(), AllocEr
 
 // Appends inputs and outputs.
 fn put_body(out: &mut Vec<u8>, tx: &Tx) -> Result<(), AllocError>
-    ensures { OnOk result (out.new.items ≡ out.old.items ++ body tx.now) }
+    ensures { OnOk result (out.new.items ≡ out.old.items ++ body_bytes tx.now) }
 {
     put_counted(out, tx.inputs.items())?;
     put_counted(out, tx.outputs.items())?;
@@ -136,7 +136,7 @@ fn put_with_witness(out: &mut Vec<u8>, tx: &Tx) -> Result<(), AllocError>
 
 // Appends the form that the transaction is written in.
 pub(crate) fn put_tx(out: &mut Vec<u8>, tx: &Tx) -> Result<(), AllocError>
-    ensures { OnOk result (out.new.items ≡ out.old.items ++ written tx.now) }
+    ensures { OnOk result (out.new.items ≡ out.old.items ++ tx_bytes tx.now) }
 {
     if tx.witnesses.items().is_empty() {
         put_without_witness(out, tx)

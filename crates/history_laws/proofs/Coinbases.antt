@@ -3,10 +3,10 @@ use Rattle.std.proofs.Common.{◌≡◌, ℕ, ◌+◌, ◌-◌, ◌<◌, ◌≤�
 use Rattle.std.proofs.lemmas.Bool.{ltb-false, ltb-true}
 use Rattle.std.proofs.lemmas.List.{take-append-drop}
 use Rattle.std.specs.Prelude.{position, nat_lt, replicate}
-use Rattle.coinbase.specs.Coin.{Terms, assembled, outputs_said, parts_of, with_reward, within_length}
-use Rattle.coinbase.specs.Parts.{Parts, marked, reserved_value, whole, whole_len, witnessed}
+use Rattle.coinbase.specs.Coin.{Terms, template_assembly, outputs_said, template_parts, with_reward, within_length}
+use Rattle.coinbase.specs.Parts.{Parts, marked_prefix, reserved_value, whole, whole_len, witnessed_suffix}
 use Rattle.coinbase.specs.declared.error.AssemblyError.TheVariants.{RewardTooLarge, ScriptTooLong, TooLong}
-use Rattle.coinbase.specs.Custom.{CustomTerms, assembled_of_outputs, custom_parts, is_foreign, paying_outputs, some_outputs, total, with_total, without_foreign}
+use Rattle.coinbase.specs.Custom.{CustomTerms, custom_assembly, custom_parts, is_foreign, paying_outputs, some_outputs, total, with_total, without_foreign}
 use Rattle.coinbase.specs.Outputs.{outputs_of}
 use Rattle.coinbase.specs.declared.tx.TxOut.{TxOut}
 use Rattle.coinbase.specs.declared.error.OutputsError.TheVariants as custom
@@ -21,19 +21,19 @@ length-three a b c = length-append (a ++ b) c ∙ ap (λ n. n + length c) (lengt
 pub length-cut : (n : ℕ) (xs : List ℕ) → length (take n xs) + length (drop n xs) ≡ length xs
 length-cut n xs = sym (length-append (take n xs) (drop n xs)) ∙ ap length (take-append-drop n xs)
 
-pub length-marked : (prefix : List ℕ) → length prefix ≤ length (marked prefix)
+pub length-marked : (prefix : List ℕ) → length prefix ≤ length (marked_prefix prefix)
 length-marked prefix =
-    let three : length (marked prefix) ≡ length (take 4 prefix) + 2 + length (drop 4 prefix) = length-three (take 4 prefix) (0 ∷ 1 ∷ []) (drop 4 prefix) in
+    let three : length (marked_prefix prefix) ≡ length (take 4 prefix) + 2 + length (drop 4 prefix) = length-three (take 4 prefix) (0 ∷ 1 ∷ []) (drop 4 prefix) in
     let cut : length (take 4 prefix) + length (drop 4 prefix) ≡ length prefix = length-cut 4 prefix in
     omega (arith, three, cut)
 
-pub length-witnessed : (suffix : List ℕ) → length suffix ≤ length (witnessed suffix)
+pub length-witnessed : (suffix : List ℕ) → length suffix ≤ length (witnessed_suffix suffix)
 length-witnessed suffix =
     let at : ℕ = length suffix - 4 in
-    let three : length (witnessed suffix) ≡ length (take at suffix) + length reserved_value + length (drop at suffix) =
+    let three : length (witnessed_suffix suffix) ≡ length (take at suffix) + length reserved_value + length (drop at suffix) =
     length-three (take at suffix) reserved_value (drop at suffix) in
     let cut : length (take at suffix) + length (drop at suffix) ≡ length suffix = length-cut at suffix in
-    longer (length (witnessed suffix)) (length (take at suffix)) (length reserved_value) (length (drop at suffix)) (length suffix) three cut where
+    longer (length (witnessed_suffix suffix)) (length (take at suffix)) (length reserved_value) (length (drop at suffix)) (length suffix) three cut where
       longer : (w a r d s : ℕ) → w ≡ a + r + d → a + d ≡ s → s ≤ w
       longer w a r d s p q = omega arith
 
@@ -47,18 +47,18 @@ pub record PartsFit (parts : Parts) : Type 0 where
 pub whole-alike : (witness : Bool) (prefix suffix a b : List ℕ) → length a ≡ length b
     → length (whole (record { prefix = prefix; suffix = suffix; witness = witness }) a) ≡ length (whole (record { prefix = prefix; suffix = suffix; witness = witness }) b)
 whole-alike true prefix suffix a b same =
-    length-three (marked prefix) a (witnessed suffix) ∙ ap (λ n. length (marked prefix) + n + length (witnessed suffix)) same
-    ∙ sym (length-three (marked prefix) b (witnessed suffix))
+    length-three (marked_prefix prefix) a (witnessed_suffix suffix) ∙ ap (λ n. length (marked_prefix prefix) + n + length (witnessed_suffix suffix)) same
+    ∙ sym (length-three (marked_prefix prefix) b (witnessed_suffix suffix))
 whole-alike false prefix suffix a b same =
     length-three prefix a suffix ∙ ap (λ n. length prefix + n + length suffix) same ∙ sym (length-three prefix b suffix)
 
 -- and is no shorter than the two parts
 pub whole-longer : (witness : Bool) (prefix suffix e : List ℕ) → length prefix + length suffix ≤ length (whole (record { prefix = prefix; suffix = suffix; witness = witness }) e)
 whole-longer true prefix suffix e =
-    let three : length (marked prefix ++ e ++ witnessed suffix) ≡ length (marked prefix) + length e + length (witnessed suffix) =
-    length-three (marked prefix) e (witnessed suffix) in
-    let p : length prefix ≤ length (marked prefix) = length-marked prefix in
-    let q : length suffix ≤ length (witnessed suffix) = length-witnessed suffix in
+    let three : length (marked_prefix prefix ++ e ++ witnessed_suffix suffix) ≡ length (marked_prefix prefix) + length e + length (witnessed_suffix suffix) =
+    length-three (marked_prefix prefix) e (witnessed_suffix suffix) in
+    let p : length prefix ≤ length (marked_prefix prefix) = length-marked prefix in
+    let q : length suffix ≤ length (witnessed_suffix suffix) = length-witnessed suffix in
     omega (arith, three, p, q)
 whole-longer false prefix suffix e =
     let three : length (prefix ++ e ++ suffix) ≡ length prefix + length e + length suffix = length-three prefix e suffix in
@@ -92,15 +92,15 @@ pub kept_ok : {X E : Type 0} (b : Bool) (e : E) (r : Result X E) (x : X) → con
 kept_ok true e r x h = (refl, h)
 kept_ok false e r x h = absurd (err-ok h)
 
-pub assembled-fits : (terms : Terms) (script : List ℕ) (parts : Parts) → assembled terms script ≡ Ok parts → PartsFit (parts_of terms script) × (terms.reward < 2 ^ 40)
+pub assembled-fits : (terms : Terms) (script : List ℕ) (parts : Parts) → template_assembly terms script ≡ Ok parts → PartsFit (template_parts terms script) × (terms.reward < 2 ^ 40)
 assembled-fits terms script parts h =
     let a : (nat_lt 88 (length terms.prefix) ≡ false) × ((outputs_said terms >>= λ outputs. with_reward terms script) ≡ Ok parts) =
     not_refused (nat_lt 88 (length terms.prefix)) (ScriptTooLong (length terms.prefix)) (outputs_said terms >>= λ outputs. with_reward terms script) parts h in
     let b = second-ok (outputs_said terms) (λ outputs. with_reward terms script) parts a.1 in
-    let c : (nat_lt terms.reward (2 ^ 40) ≡ true) × (within_length (parts_of terms script) ≡ Ok parts) =
-    kept_ok (nat_lt terms.reward (2 ^ 40)) (RewardTooLarge terms.reward) (within_length (parts_of terms script)) parts b.1 in
-    let d = not_refused (nat_lt 65535 (whole_len (parts_of terms script))) (TooLong (whole_len (parts_of terms script))) (Ok (parts_of terms script)) parts c.1 in
-    (parts-fit (parts_of terms script) (ltb-false 65535 (whole_len (parts_of terms script)) d.0), ltb-true terms.reward (2 ^ 40) c.0)
+    let c : (nat_lt terms.reward (2 ^ 40) ≡ true) × (within_length (template_parts terms script) ≡ Ok parts) =
+    kept_ok (nat_lt terms.reward (2 ^ 40)) (RewardTooLarge terms.reward) (within_length (template_parts terms script)) parts b.1 in
+    let d = not_refused (nat_lt 65535 (whole_len (template_parts terms script))) (TooLong (whole_len (template_parts terms script))) (Ok (template_parts terms script)) parts c.1 in
+    (parts-fit (template_parts terms script) (ltb-false 65535 (whole_len (template_parts terms script)) d.0), ltb-true terms.reward (2 ^ 40) c.0)
 
 -- a miner's own coinbase that isn't refused pays less than 2^40
 pub some_outputs-same : (r : Result (List TxOut) ℕ) (outputs : List TxOut) → some_outputs r ≡ Ok outputs → outputs_in r ≡ outputs
@@ -116,7 +116,7 @@ pub first-of : {X Y E : Type 0} (r : Result X E) (f : X → Result Y E) (y : Y) 
 first-of (Ok x) f y h = (x, refl, h)
 first-of (Err e) f y h = absurd (err-ok h)
 
-pub outputs-pay : (terms : CustomTerms) (script : List ℕ) (told : Parts × ℕ) → assembled_of_outputs terms script ≡ Ok told
+pub outputs-pay : (terms : CustomTerms) (script : List ℕ) (told : Parts × ℕ) → custom_assembly terms script ≡ Ok told
     → total (outputs_in (outputs_of terms.outputs)) < 2 ^ 40
 outputs-pay terms script told h =
     let a = not_refused (nat_lt 88 (length terms.prefix)) (custom.ScriptTooLong (length terms.prefix)) (paying_outputs terms script >>= λ outputs. with_total terms outputs) told h in

@@ -12,14 +12,14 @@ use Rattle.pool_history.specs.declared.settings.Rules.{Rules}
 use Rattle.pool_history.specs.declared.templates.CustomData.{CustomData}
 use Rattle.pool_history.specs.declared.templates.TemplateData.{TemplateData}
 use Rattle.pool_history.specs.declared.templates.TipData.{TipData}
-use Rattle.coinbase.specs.Coin.{assembled, parts_of}
+use Rattle.coinbase.specs.Coin.{template_assembly, template_parts}
 use Rattle.coinbase.specs.Parts.{Parts}
 use Rattle.coinbase.specs.declared.error.AssemblyError.{AssemblyError}
 use Rattle.pool_history.specs.Jobs.{FromMiner, FromTemplate, Job, Source, Standing, future_in, jobs_of, made_live, with_custom, with_template, with_tip}
 use Rattle.pool_history.specs.Judging.{template_terms, custom_terms}
 use Rattle.pool_history.specs.Crediting.{reward_of}
 use Rattle.pool_history.specs.Channels.{OpenChannel}
-use Rattle.coinbase.specs.Custom.{assembled_of_outputs}
+use Rattle.coinbase.specs.Custom.{custom_assembly}
 use Rattle.coinbase.specs.declared.error.OutputsError.{OutputsError}
 use Rattle.pool_history.specs.declared.refusals.CustomError.{CustomError}
 use Rattle.pool_history.specs.declared.refusals.CustomError.TheVariants as custom_error
@@ -34,7 +34,7 @@ use Rattle.history_laws.proofs.Living.{In, WasFuture, in-end, in-last, in-left, 
 
 -- a template's coinbase is short enough, and its reward small enough
 abbrev pub TemplateFits : List ℕ → Source → Type 0
-TemplateFits script (FromTemplate template) = PartsFit (parts_of (template_terms template) script) × (reward_of (FromTemplate template) < 2 ^ 40)
+TemplateFits script (FromTemplate template) = PartsFit (template_parts (template_terms template) script) × (reward_of (FromTemplate template) < 2 ^ 40)
 TemplateFits script (FromMiner custom) = ⊥
 
 -- a miner's own reward is, too
@@ -60,7 +60,7 @@ coinbase-ok (Err e) n = absurd (some-none n)
 pub accepted-fits : (script : List ℕ) (past : List Event) (template : TemplateData) → template_refusal script past template ≡ None
     → TemplateFits script (FromTemplate template)
 accepted-fits script past template n =
-    let last : Option JobError = coinbase_refusal (assembled (template_terms template) script) in
+    let last : Option JobError = coinbase_refusal (template_assembly (template_terms template) script) in
     let third : Option JobError = cond (not template.future_template && is_none (jobs_of past).tip) (Some job_error.NoTip) last in
     let second : Option JobError =
     cond (is_template_known (jobs_of past) template.template_id) (Some (job_error.TemplateKnown template.template_id)) third in
@@ -68,7 +68,7 @@ accepted-fits script past template n =
     let b : third ≡ None =
     dropped-both (is_template_known (jobs_of past) template.template_id) (job_error.TemplateKnown template.template_id) third a in
     let c : last ≡ None = dropped-both (not template.future_template && is_none (jobs_of past).tip) job_error.NoTip last b in
-    let p : (parts : Parts) × (assembled (template_terms template) script ≡ Ok parts) = coinbase-ok (assembled (template_terms template) script) c in
+    let p : (parts : Parts) × (template_assembly (template_terms template) script ≡ Ok parts) = coinbase-ok (template_assembly (template_terms template) script) c in
     assembled-fits (template_terms template) script p.0 p.1
 
 pub refused-none : {X : Type 0} (code : Cause) (o : Option X) → refused_as code o ≡ None → o ≡ None
@@ -94,14 +94,14 @@ pub tip-pays : (script : List ℕ) (granted : Granted) (offer : CustomData) (o :
     → IsMiners (FromMiner offer)
 tip-pays script granted offer None n = absurd (some-none n)
 tip-pays script granted offer (Some tip) n =
-    let last : Option CustomError = outputs_refusal (assembled_of_outputs (custom_terms offer) script) in
+    let last : Option CustomError = outputs_refusal (custom_assembly (custom_terms offer) script) in
     let third : Option CustomError = cond (is_bad_path granted offer.merkle_path) (Some (custom_error.BadPath (length offer.merkle_path))) last in
     let second : Option CustomError = cond (nat_lt offer.min_ntime tip.header_timestamp) (Some (custom_error.EarlyTime tip.header_timestamp)) third in
     let a : second ≡ None = dropped-both (is_other_tip tip offer) custom_error.StaleTip second n in
     let b : third ≡ None = dropped-both (nat_lt offer.min_ntime tip.header_timestamp) (custom_error.EarlyTime tip.header_timestamp) third a in
     let c : last ≡ None = dropped-both (is_bad_path granted offer.merkle_path) (custom_error.BadPath (length offer.merkle_path)) last b in
-    let p : (told : Parts × ℕ) × (assembled_of_outputs (custom_terms offer) script ≡ Ok told) =
-    assembled-ok (assembled_of_outputs (custom_terms offer) script) c in
+    let p : (told : Parts × ℕ) × (custom_assembly (custom_terms offer) script ≡ Ok told) =
+    assembled-ok (custom_assembly (custom_terms offer) script) c in
     outputs-pay (custom_terms offer) script p.0 p.1
 
 pub token-pays : (script : List ℕ) (past : List Event) (offer : CustomData) (o : Option Granted) → with_token script past offer o ≡ None → IsMiners (FromMiner offer)

@@ -8,8 +8,8 @@ use Rattle.std.specs.Prelude.{bit_and, is_none, nat_le, nat_lt, take}
 use Rattle.std.specs.List.{AllByRecursion}
 use Rattle.std.specs.Option.{option_to_list}
 use Rattle.std.specs.Str.{bytes_eq}
-use Rattle.coinbase.specs.Coin.{assembled, outputs_said, parts_of, with_reward, within_length}
-use Rattle.coinbase.specs.Custom.{assembled_of_outputs, paying_outputs, some_outputs, with_total, without_foreign}
+use Rattle.coinbase.specs.Coin.{template_assembly, outputs_said, template_parts, with_reward, within_length}
+use Rattle.coinbase.specs.Custom.{custom_assembly, paying_outputs, some_outputs, with_total, without_foreign}
 use Rattle.coinbase.specs.Parts.{Parts, whole_len}
 use Rattle.coinbase.specs.Steps.{◌>>=◌}
 use Rattle.coinbase.specs.declared.error.AssemblyError.{AssemblyError}
@@ -100,23 +100,23 @@ coinbase-ok : (r : Result Parts AssemblyError) → coinbase_refusal r ≡ None �
 coinbase-ok (Ok parts) n = (parts, refl)
 coinbase-ok (Err e) n = absurd (some-none n)
 
-template-fits : (script : List ℕ) (template : TemplateData) (parts : Parts) → assembled (template_terms template) script ≡ Ok parts → IsShortTemplate template
+template-fits : (script : List ℕ) (template : TemplateData) (parts : Parts) → template_assembly (template_terms template) script ≡ Ok parts → IsShortTemplate template
 template-fits script template parts is =
     let terms = template_terms template in
     let a = cond-ok (nat_lt 88 (length template.coinbase_prefix)) (assembly_error.ScriptTooLong (length template.coinbase_prefix))
     (outputs_said terms >>= λ outputs. with_reward terms script) parts is in
     let b = first-ok (outputs_said terms) (λ outputs. with_reward terms script) parts a.1 in
     let c = cond-kept (nat_lt template.coinbase_tx_value_remaining (2 ^ 40)) (assembly_error.RewardTooLarge template.coinbase_tx_value_remaining)
-    (within_length (parts_of terms script)) parts b.2 in
-    let d = cond-ok (nat_lt 65535 (whole_len (parts_of terms script))) (assembly_error.TooLong (whole_len (parts_of terms script))) (Ok (parts_of terms script)) parts c.1 in
+    (within_length (template_parts terms script)) parts b.2 in
+    let d = cond-ok (nat_lt 65535 (whole_len (template_parts terms script))) (assembly_error.TooLong (whole_len (template_parts terms script))) (Ok (template_parts terms script)) parts c.1 in
     record {
       prefix = ltb-false 88 (length template.coinbase_prefix) a.0;
-      outputs = within (length template.coinbase_tx_outputs) (length (parts_of terms script).suffix) (whole_len (parts_of terms script))
+      outputs = within (length template.coinbase_tx_outputs) (length (template_parts terms script).suffix) (whole_len (template_parts terms script))
           (suffix-holds template.coinbase_tx_input_sequence (1 + template.coinbase_tx_outputs_count)
           (Rattle.coinbase.specs.Form.output_bytes (Rattle.coinbase.specs.Coin.pool_output template.coinbase_tx_value_remaining script))
           template.coinbase_tx_outputs template.coinbase_tx_locktime)
-          (whole-holds (parts_of terms script).witness (parts_of terms script).prefix (parts_of terms script).suffix)
-          (ltb-false 65535 (whole_len (parts_of terms script)) d.0);
+          (whole-holds (template_parts terms script).witness (template_parts terms script).prefix (template_parts terms script).suffix)
+          (ltb-false 65535 (whole_len (template_parts terms script)) d.0);
     }
   where
     within : (a b c : ℕ) → a ≤ b → b ≤ c → c ≤ 65535 → a ≤ 65535
@@ -125,13 +125,13 @@ template-fits script template parts is =
 template-kept : (script : List ℕ) (past : List Event) (session : ℕ) (template : TemplateData) → IsU32 session → IsTemplate template
     → template_refusal script past template ≡ None → CanBeKept (event.Template session template)
 template-kept script past session template s is n =
-    let last : Option JobError = coinbase_refusal (assembled (template_terms template) script) in
+    let last : Option JobError = coinbase_refusal (template_assembly (template_terms template) script) in
     let third : Option JobError = cond (Rattle.std.specs.Prelude.◌&&◌ (not template.future_template) (is_none (jobs_of past).tip)) (Some job.NoTip) last in
     let second : Option JobError = cond (is_template_known (jobs_of past) template.template_id) (Some (job.TemplateKnown template.template_id)) third in
     let a = peel (nat_le most_templates (templates past)) (job.TooMany (templates past)) second n in
     let b = peel (is_template_known (jobs_of past) template.template_id) (job.TemplateKnown template.template_id) third a.1 in
     let c = peel (Rattle.std.specs.Prelude.◌&&◌ (not template.future_template) (is_none (jobs_of past).tip)) job.NoTip last b.1 in
-    let ok = coinbase-ok (assembled (template_terms template) script) c.1 in
+    let ok = coinbase-ok (template_assembly (template_terms template) script) c.1 in
     let short : IsShortTemplate template = template-fits script template ok.0 ok.1 in
     record {
       well_formed = record { session_fits = s; template_fits = is };
@@ -317,11 +317,11 @@ outputs-ok : (r : Result (Parts × ℕ) OutputsError) → outputs_refusal r ≡ 
 outputs-ok (Ok x) n = (x, refl)
 outputs-ok (Err e) n = absurd (some-none n)
 
-custom-fits : (script : List ℕ) (offer : CustomData) → length offer.token ≤ 8 → outputs_refusal (assembled_of_outputs (custom_terms offer) script) ≡ None
+custom-fits : (script : List ℕ) (offer : CustomData) → length offer.token ≤ 8 → outputs_refusal (custom_assembly (custom_terms offer) script) ≡ None
     → IsShortCustom offer
 custom-fits script offer t n =
     let terms = custom_terms offer in
-    let ok = outputs-ok (assembled_of_outputs terms script) n in
+    let ok = outputs-ok (custom_assembly terms script) n in
     let a = cond-ok (nat_lt 88 (length offer.coinbase_prefix)) (outputs_error.ScriptTooLong (length offer.coinbase_prefix))
     (paying_outputs terms script >>= λ outputs. with_total terms outputs) ok.0 ok.1 in
     let b = first-ok (paying_outputs terms script) (λ outputs. with_total terms outputs) ok.0 a.1 in
@@ -333,7 +333,7 @@ custom-fits script offer t n =
 over-tip : (script : List ℕ) (g : Granted) (offer : CustomData) (o : Option TipData) → length offer.token ≤ 8 → over_tip script g offer o ≡ None → IsShortCustom offer
 over-tip script g offer None t n = absurd (some-none n)
 over-tip script g offer (Some tip) t n =
-    let last : Option CustomError = outputs_refusal (assembled_of_outputs (custom_terms offer) script) in
+    let last : Option CustomError = outputs_refusal (custom_assembly (custom_terms offer) script) in
     let third : Option CustomError = cond (is_bad_path g offer.merkle_path) (Some (custom.BadPath (length offer.merkle_path))) last in
     let second : Option CustomError = cond (nat_lt offer.min_ntime tip.header_timestamp) (Some (custom.EarlyTime tip.header_timestamp)) third in
     let a = peel (is_other_tip tip offer) custom.StaleTip second n in

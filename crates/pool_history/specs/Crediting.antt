@@ -3,7 +3,7 @@ use Rattle.std.specs.Prelude.{ℕ, ◌^◌, Bool, if◌then◌else◌, Option, N
 use Rattle.std.specs.List.{list_any}
 use Rattle.std.specs.Str.{bytes_eq}
 use Rattle.block_header.specs.Hash.{dsha, meets}
-use Rattle.block_header.specs.Target.{at_most}
+use Rattle.block_header.specs.Target.{is_at_most}
 use Rattle.coinbase.specs.Custom.{total}
 use Rattle.coinbase.specs.Outputs.{outputs_of}
 use Rattle.coinbase.specs.Steps.{◌>>=◌}
@@ -85,7 +85,7 @@ reward_of (FromMiner custom) = total (outputs_in (outputs_of custom.coinbase_tx_
 
 -- a credit is a block where its hash is at most the target of the last tip
 abbrev pub is_block : List ℕ → Admitted → Share → Bool
-is_block script with share = at_most (dsha (rebuilt script with share)) with.tip.target
+is_block script with share = is_at_most (dsha (rebuilt script with share)) with.tip.target
 
 -- a credit: the account, the work, and the reward where it is a block
 pub record Booked : Type 0 where

@@ -1,6 +1,6 @@
 -- How a share is judged (Stratum V2, "SubmitShares.Error"; the nine conditions and their order are this project's own).
 use Rattle.std.specs.Prelude.{ℕ, ◌+◌, ◌-◌, ◌==◌, ◌&&◌, Bool, true, false, not, if◌then◌else◌, Option, None, Some, Result, Ok, Err, List, [], length, take, nat_lt, nat_le, bit_and}
-use Rattle.coinbase.specs.Coin.{Terms, parts_of}
+use Rattle.coinbase.specs.Coin.{Terms, template_parts}
 use Rattle.coinbase.specs.Custom.{CustomTerms, custom_parts}
 use Rattle.coinbase.specs.Outputs.{outputs_of}
 use Rattle.coinbase.specs.Parts.{Parts}
@@ -79,7 +79,7 @@ outputs_in (Err at) = []
 
 -- the coinbase of a job, round its extranonce
 abbrev pub job_parts : Source → List ℕ → Parts
-job_parts (FromTemplate template) script = parts_of (template_terms template) script
+job_parts (FromTemplate template) script = template_parts (template_terms template) script
 job_parts (FromMiner custom) script = custom_parts (custom_terms custom) (length (outputs_in (outputs_of custom.coinbase_tx_outputs)))
 
 -- a job's merkle path

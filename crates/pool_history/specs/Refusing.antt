@@ -5,8 +5,8 @@ use Rattle.std.specs.Int.{w64, to_le_bytes}
 use Rattle.std.specs.List.{list_any}
 use Rattle.std.specs.Str.{bytes_eq}
 use Rattle.block_header.specs.Target as target
-use Rattle.coinbase.specs.Coin.{assembled}
-use Rattle.coinbase.specs.Custom.{assembled_of_outputs}
+use Rattle.coinbase.specs.Coin.{template_assembly}
+use Rattle.coinbase.specs.Custom.{custom_assembly}
 use Rattle.coinbase.specs.Parts.{Parts}
 use Rattle.coinbase.specs.declared.error.AssemblyError.{AssemblyError}
 use Rattle.coinbase.specs.declared.error.OutputsError.{OutputsError}
@@ -72,7 +72,7 @@ template_refusal script past template =
     if nat_le most_templates (templates past) then Some (job.TooMany (templates past))
     else if is_template_known (jobs_of past) template.template_id then Some (job.TemplateKnown template.template_id)
     else if not template.future_template && is_none (jobs_of past).tip then Some job.NoTip
-    else coinbase_refusal (assembled (template_terms template) script)
+    else coinbase_refusal (template_assembly (template_terms template) script)
 
 -- why a tip is refused: no future job has its template
 abbrev pub tip_refusal : List Event → TipData → Option JobError
@@ -86,7 +86,7 @@ may_open rules kind.V1 account = true
 
 -- the class of a target
 abbrev pub class_of_target : List ℕ → ℕ
-class_of_target bytes = target.class_of (target.number bytes)
+class_of_target bytes = target.class_of_number (target.number bytes)
 
 -- the class that a target gets: not below the least
 abbrev pub class_for : Rules → List ℕ → ℕ
@@ -203,7 +203,7 @@ is_bad_path granted path = nat_lt most_entries (length path) || (granted.fixed &
 
 -- a miner's job whose coinbase is refused
 abbrev pub outputs_refusal : Result (Parts × ℕ) OutputsError → Option CustomError
-outputs_refusal (Ok assembled) = None
+outputs_refusal (Ok assembly) = None
 outputs_refusal (Err error) = Some (custom.Coinbase error)
 
 -- a tip of another block
@@ -217,7 +217,7 @@ over_tip script granted offer (Some tip) =
     if is_other_tip tip offer then Some custom.StaleTip
     else if nat_lt offer.min_ntime tip.header_timestamp then Some (custom.EarlyTime tip.header_timestamp)
     else if is_bad_path granted offer.merkle_path then Some (custom.BadPath (length offer.merkle_path))
-    else outputs_refusal (assembled_of_outputs (custom_terms offer) script)
+    else outputs_refusal (custom_assembly (custom_terms offer) script)
 
 -- the same by its token
 abbrev pub with_token : List ℕ → List Event → CustomData → Option Granted → Option CustomError

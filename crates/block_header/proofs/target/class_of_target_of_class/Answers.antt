@@ -1,5 +1,5 @@
-use Rattle.block_header.proofs.Targets.{class_of-target}
+use Rattle.block_header.proofs.Targets.{class_of_number-target}
 use Rattle.block_header.proofs.target.class_of_target_of_class.Goals as goal
 
 pub returns : goal.returns
-returns c = class_of-target
+returns c = class_of_number-target

@@ -1,5 +1,5 @@
-use Rattle.block_header.proofs.Targets.{Meets-AtMost}
+use Rattle.block_header.proofs.Targets.{Meets-IsAtMost}
 use Rattle.block_header.proofs.target.meets_class_is_meets_target.Goals as goal
 
 pub returns : goal.returns
-returns c = Meets-AtMost
+returns c = Meets-IsAtMost

@@ -1,8 +1,0 @@
-use Rattle.std.proofs.Common.{◌≡◌, ◌-◌, ◌^◌, ◌++◌, length, take}
-use Rattle.block_header.specs.Target.{bytes_of, target}
-use Rattle.block_header.proofs.target.top_of.Given as goal
-
-abbrev pub invariant-loop-byte : goal.invariant-loop-byte
-invariant-loop-byte l =
-    (length l.byte-items ≡ 32) ×
-    (take l.byte-index l.byte-items ++ bytes_of (32 - l.byte-index) (2 ^ l.ones - 1) ≡ target l.fn.class)
