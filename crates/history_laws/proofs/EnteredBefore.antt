@@ -14,7 +14,7 @@ use Rattle.pool_history.specs.declared.events.Role.{Role}
 use Rattle.pool_history.specs.declared.replies.Reply.{Reply}
 use Rattle.pool_history.specs.declared.replies.Reply.TheVariants as reply
 use Rattle.pool_history.specs.declared.settings.Rules.{Rules}
-use Rattle.pool_history.specs.Answering.{Answer, Step, entering, kept, step_under, told}
+use Rattle.pool_history.specs.Answering.{Answer, Effect, entering, with_event, step_under, without_event}
 use Rattle.pool_history.specs.Calls.{IsGoodPoolCall, PoolCall, wants_memory}
 use Rattle.pool_history.specs.Legal.{allowed_flags}
 use Rattle.pool_history.specs.Refusing.{most_enters}
@@ -31,7 +31,7 @@ said (reply.PoolFull most) = None
 said answer = None
 
 -- a step that answers so made the Enter of that session
-record MadeEnter (past : List Event) (worker : ℕ) (role : Role) (session : ℕ) (step : Step) : Type 0 where
+record MadeEnter (past : List Event) (worker : ℕ) (role : Role) (session : ℕ) (step : Effect) : Type 0 where
   flags : ℕ
   event_is : step.event ≡ Some (event.Enter worker role flags)
   number : enters past ≡ session
@@ -43,8 +43,8 @@ step-made past worker role flags session None is =
     let no : ◌≡◌ {A = Option ℕ} None (Some session) = ap said is in
     absurd (none-some no)
 step-made past worker role flags session (Some rules) was =
-    cond_both (nat_lt (enters past) most_enters) (kept (event.Enter worker role (bit_and flags (allowed_flags rules))) (reply.Entered (enters past)))
-    (told (reply.PoolFull most_enters)) (λ s. s.reply ≡ reply.Entered session → MadeEnter past worker role session s)
+    cond_both (nat_lt (enters past) most_enters) (with_event (event.Enter worker role (bit_and flags (allowed_flags rules))) (reply.Entered (enters past)))
+    (without_event (reply.PoolFull most_enters)) (λ s. s.reply ≡ reply.Entered session → MadeEnter past worker role session s)
     (λ few is. record { flags = bit_and flags (allowed_flags rules); event_is = refl; number = some-same (ap said is) })
     (λ full is. absurd (none-some (ap said is))) was
 

@@ -23,7 +23,7 @@ use Rattle.pool_history.specs.Sessions.{opens, rules_of}
 use Rattle.pool_history.specs.Telling.{NoteFits}
 use Rattle.history_laws.proofs.Answering.{first-ok, found-some, provided-ok}
 use Rattle.history_laws.proofs.ChannelsFit.{lead-few, open-has_lead}
-use Rattle.history_laws.proofs.Crediting.{IsGoodCredit, admitted-booked, booked-channel, good_credit, judged_share}
+use Rattle.history_laws.proofs.Crediting.{IsGoodCredit, admitted-booked, booked-channel, booked-found, good_credit, judged_share}
 use Rattle.history_laws.proofs.Entrances.{none-some, some-same}
 use Rattle.history_laws.proofs.JobsFit.{IsMiners, JobsFit, TemplateFits, jobs-fit, legal-template}
 use Rattle.history_laws.proofs.Judged.{ok-same}
@@ -109,12 +109,8 @@ admitted-rolls rules past session share with h =
     ∙ ap (λ w. rolled w.channel.kind w.channel.lead) (ok-same k.2)
 
 -- its job is alive
-pub booked-job : (past : List Event) (channel job : ℕ) (with : Admitted) → booked_with past channel job ≡ Ok with → live_job (jobs_of past) job ≡ Some with.job
-booked-job past channel job with h =
-    let a = first-ok (found failed.Channel (channel_in (channels_of past) channel)) _ with h in
-    let b = first-ok (found failed.Stale (live_job (jobs_of past) job)) _ with a.2 in
-    let c = first-ok (found failed.Stale (jobs_of past).tip) _ with b.2 in
-    found-some failed.Stale (live_job (jobs_of past) job) b.0 b.1 ∙ ap (λ w. Some w.job) (ok-same c.2)
+pub booked-job : (past : List Event) (channel job : ℕ) (with : Admitted) → booked_with past channel job ≡ Some with → live_job (jobs_of past) job ≡ Some with.job
+booked-job past channel job with h = (booked-found past channel job with h).job_is
 
 -- twelve bytes of extranonce
 pub twelve-bytes : (k : Kind) (lead extranonce : List ℕ) → is_lead_length k (length lead) ≡ true → length extranonce ≡ rolled k lead
@@ -166,7 +162,7 @@ credit-fits rules past told session channel job nonce ntime version extranonce l
     let share : Share = judged_share past channel job nonce ntime version extranonce in
     let g : IsGoodCredit past session share = good_credit past session channel job nonce ntime version extranonce n in
     let with : Admitted = g.good.with in
-    let is : booked_with past channel job ≡ Ok with = admitted-booked g.rules past session share with g.good.is_admitted in
+    let is : booked_with past channel job ≡ Some with = admitted-booked g.rules past session share with g.good.is_admitted in
     let lead : is_lead_length with.channel.kind (length with.channel.lead) ≡ true = open-has_lead past channel with.channel l (booked-channel past channel job with is) in
     let rolls : length extranonce ≡ rolled with.channel.kind with.channel.lead = admitted-rolls g.rules past session share with g.good.is_admitted in
     let alive : In with.job ((jobs_of past).live ++ (jobs_of past).custom) =

@@ -13,8 +13,8 @@ use Rattle.pool_history.specs.declared.replies.Reply.{Reply}
 use Rattle.pool_history.specs.declared.replies.Reply.TheVariants as reply
 use Rattle.pool_history.specs.declared.settings.Rules.{Rules}
 use Rattle.pool_history.specs.Accounts.{account_of, is_empty}
-use Rattle.pool_history.specs.Answering.{Step, briefing, classing, closing, committing, crediting, granting, kept, naming, number_of, opening, permits, step_as, step_by, step_for, step_in, step_under, told, unless_refused}
-use Rattle.pool_history.specs.Channels.{OpenChannel, class_of}
+use Rattle.pool_history.specs.Answering.{Effect, briefing, classing, closing, committing, crediting, granting, with_event, naming, number_of, opening, permits, step_as, step_by, step_for, step_in, step_under, without_event, unless_refused}
+use Rattle.pool_history.specs.Channels.{OpenChannel, present_class}
 use Rattle.pool_history.specs.Crediting.{last_failed}
 use Rattle.pool_history.specs.Jobs.{future_of, jobs_of}
 use Rattle.pool_history.specs.Judging.{Admitted, Share, admitted, share_of}
@@ -30,7 +30,7 @@ use Rattle.history_laws.proofs.NotesFit.{news-fit}
 use Rattle.history_laws.proofs.Ranges.{class-fits, least-range, legal-rules, script-range}
 
 -- a request that isn't refused, and one that is
-pub unless-reply : {X : Type 0} (P : Reply → Type 0) (refuse : X → Reply) (r : Option X) (made : Step) → ((x : X) → P (refuse x)) → (r ≡ None → P made.reply)
+pub unless-reply : {X : Type 0} (P : Reply → Type 0) (refuse : X → Reply) (r : Option X) (made : Effect) → ((x : X) → P (refuse x)) → (r ≡ None → P made.reply)
     → P (unless_refused refuse r made).reply
 unless-reply P refuse None made refused made-fits = made-fits refl
 unless-reply P refuse (Some x) made refused made-fits = refused x
@@ -60,13 +60,13 @@ classing-fits rules past session id target l are (Some c) n =
     let few : class ≤ 60 =
     class-few rules past target l are
     (ltb-false 60 (class_of_target target) (peel (nat_lt 60 (class_of_target target)) (update.TargetOutOfRange (class_of_target target)) None n).0) in
-    cond_both (nat_eq class (class_of c)) (told (reply.Target id class)) (kept (event.Class session id class) (reply.Target id class)) (λ s. ReplyFits s.reply)
+    cond_both (nat_eq class (present_class c)) (without_event (reply.Target id class)) (with_event (event.Class session id class) (reply.Target id class)) (λ s. ReplyFits s.reply)
     (λ same. few) (λ other. few)
 
 pub naming-fits : (session id : ℕ) (account : List ℕ) (o : Option OpenChannel) → ReplyFits (naming session id account o).reply
 naming-fits session id account None = tt
 naming-fits session id account (Some c) =
-    cond_both (is_empty c.account) (kept (event.Name session id account) reply.Named) (told reply.Named) (λ s. ReplyFits s.reply) (λ t. tt) (λ f. tt)
+    cond_both (is_empty c.account) (with_event (event.Name session id account) reply.Named) (without_event reply.Named) (λ s. ReplyFits s.reply) (λ t. tt) (λ f. tt)
 
 pub closing-fits : (session id : ℕ) (o : Option OpenChannel) → ReplyFits (closing session id o).reply
 closing-fits session id None = tt
@@ -95,10 +95,10 @@ granting-fits rules past session account path l are = by_path path where
   by_path : (path : Option (List (List ℕ))) → ReplyFits (granting rules past session account path).reply
   by_path None =
       unless-reply ReplyFits reply.GrantRefused (grant_refusal rules past account [])
-      (kept (event.Grant session account false []) (reply.Granted (grants past + 1) rules.pool_script)) (λ x. tt) (λ n. fits)
+      (with_event (event.Grant session account false []) (reply.Granted (grants past + 1) rules.pool_script)) (λ x. tt) (λ n. fits)
   by_path (Some path) =
       unless-reply ReplyFits reply.GrantRefused (grant_refusal rules past account path)
-      (kept (event.Grant session account true path) (reply.Granted (grants past + 1) rules.pool_script)) (λ x. tt) (λ n. fits)
+      (with_event (event.Grant session account true path) (reply.Granted (grants past + 1) rules.pool_script)) (λ x. tt) (λ n. fits)
 
 -- a permitted request
 pub step_in-fits : (rules : Rules) (past : List Event) (session : ℕ) (asked : Request) → LegalPast past → rules_of past ≡ Some rules
@@ -107,10 +107,10 @@ step_in-fits rules past session (request.Enter role flags) l are = tt
 step_in-fits rules past session request.Leave l are = tt
 step_in-fits rules past session (request.Template template) l are =
     unless-reply ReplyFits reply.TemplateRefused (template_refusal rules.pool_script past template)
-    (kept (event.Template session template) (reply.Job (length (jobs_of past).all + 1))) (λ x. tt) (λ n. tt)
+    (with_event (event.Template session template) (reply.Job (length (jobs_of past).all + 1))) (λ x. tt) (λ n. tt)
 step_in-fits rules past session (request.Tip tip) l are =
     unless-reply ReplyFits reply.TemplateRefused (tip_refusal past tip)
-    (kept (event.Tip session tip) (reply.Job (number_of (future_of (jobs_of past) tip.template_id)))) (λ x. tt) (λ n. tt)
+    (with_event (event.Tip session tip) (reply.Job (number_of (future_of (jobs_of past) tip.template_id)))) (λ x. tt) (λ n. tt)
 step_in-fits rules past session (request.Open ask) l are =
     unless-reply ReplyFits reply.OpenRefused (open_refusal rules past session ask) (opening rules past session ask (lead_for past ask)) (λ x. tt)
     (λ n. opening-fits rules past session ask l are (open-conditions rules past session ask n) (lead_for past ask) refl)
@@ -131,7 +131,7 @@ step_in-fits rules past session (request.Poll from) l are = news-fit (min from (
 step_in-fits rules past session (request.Grant identity path) l are = granting-fits rules past session (account_of identity) path l are
 step_in-fits rules past session (request.Custom custom) l are =
     unless-reply ReplyFits reply.CustomRefused (custom_refusal rules.pool_script past session custom)
-    (kept (event.Custom session custom) (reply.CustomJob (length (jobs_of past).all + 1))) (λ x. tt) (λ n. tt)
+    (with_event (event.Custom session custom) (reply.CustomJob (length (jobs_of past).all + 1))) (λ x. tt) (λ n. tt)
 
 pub step_for-fits : (rules : Rules) (past : List Event) (asked : Request) → LegalPast past → rules_of past ≡ Some rules → (o : Option ℕ)
     → ReplyFits (step_for rules past asked o).reply
@@ -140,14 +140,14 @@ step_for-fits rules past asked l are (Some session) = by_entrance (entrance past
   by_entrance : (o : Option Entrance) → ReplyFits (step_as rules past asked session o).reply
   by_entrance None = tt
   by_entrance (Some entered) =
-      cond_both (permits asked entered) (step_in rules past session asked) (told reply.NoSession) (λ s. ReplyFits s.reply)
+      cond_both (permits asked entered) (step_in rules past session asked) (without_event reply.NoSession) (λ s. ReplyFits s.reply)
       (λ t. step_in-fits rules past session asked l are) (λ f. tt)
 
 pub step_by-fits : (rules : Rules) (past : List Event) (worker : ℕ) (asked : Request) → LegalPast past → rules_of past ≡ Some rules
     → ReplyFits (step_by rules past worker asked).reply
 step_by-fits rules past worker (request.Enter role flags) l are =
-    cond_both (nat_lt (enters past) most_enters) (kept (event.Enter worker role (bit_and flags (allowed_flags rules))) (reply.Entered (enters past)))
-    (told (reply.PoolFull most_enters)) (λ s. ReplyFits s.reply) (λ few. ltb-true (enters past) most_enters few) (λ full. tt)
+    cond_both (nat_lt (enters past) most_enters) (with_event (event.Enter worker role (bit_and flags (allowed_flags rules))) (reply.Entered (enters past)))
+    (without_event (reply.PoolFull most_enters)) (λ s. ReplyFits s.reply) (λ few. ltb-true (enters past) most_enters few) (λ full. tt)
 step_by-fits rules past worker asked l are = step_for-fits rules past asked l are (present past worker)
 
 pub step-fits : (past : List Event) (worker : ℕ) (asked : Request) → LegalPast past → (o : Option Rules) → rules_of past ≡ o

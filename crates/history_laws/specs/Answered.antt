@@ -12,9 +12,9 @@ use Rattle.pool_history.specs.declared.settings.Rules.{Rules}
 use Rattle.pool_history.specs.declared.shares.Checked.{Checked}
 use Rattle.pool_history.specs.declared.shares.Submission.{Submission}
 use Rattle.pool_history.specs.Answering.{Answer}
-use Rattle.pool_history.specs.Crediting.{first_failed, work_of}
+use Rattle.pool_history.specs.Crediting.{first_failed, admitted_work}
 use Rattle.pool_history.specs.Judging.{Admitted, Share, admitted, briefing_of, share_of}
-use Rattle.pool_history.specs.Legal.{Legal, mining}
+use Rattle.pool_history.specs.Legal.{Legal, may_mine}
 use Rattle.pool_history.specs.Sessions.{Entrance, entrance, past_of, present, rules_of}
 
 -- the events of an answer keep a legal history legal
@@ -31,7 +31,7 @@ pub record MaySubmit (history : List Event) (worker : ℕ) : Type 0 where
   pub are_rules : rules_of (past_of history) ≡ Some rules
   pub is_present : present (past_of history) worker ≡ Some session
   pub is_entered : entrance (past_of history) session ≡ Some entered
-  pub mines : IsTrue (mining entered)
+  pub mines : IsTrue (may_mine entered)
 
 -- the event of a share that is booked
 abbrev pub credit_of : ℕ → Share → Event
@@ -42,7 +42,7 @@ credit_of session share = event.Credit session share.channel share.job share.non
 pub record IsJudged (history : List Event) (worker : ℕ) (may : MaySubmit history worker) (share : Share) (events : List Event) (answer : Reply) : Type 0 where
   pub credited : (events ≡ credit_of may.session share ∷ []) ↔ (first_failed may.rules (past_of history) may.session share ≡ None)
   pub work : first_failed may.rules (past_of history) may.session share ≡ None
-      → (with : Admitted) × (admitted may.rules (past_of history) may.session share ≡ Ok with) × (answer ≡ reply.Credited (work_of with))
+      → (with : Admitted) × (admitted may.rules (past_of history) may.session share ≡ Ok with) × (answer ≡ reply.Credited (admitted_work with))
   pub refused : (code : Failed) → first_failed may.rules (past_of history) may.session share ≡ Some code
       → (events ≡ []) × (answer ≡ reply.Refused code)
 

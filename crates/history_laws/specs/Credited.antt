@@ -7,7 +7,7 @@ use Rattle.pool_history.specs.declared.events.Event.TheVariants as event
 use Rattle.pool_history.specs.declared.settings.Rules.{Rules}
 use Rattle.pool_history.specs.Accounts.{are_distinct}
 use Rattle.pool_history.specs.Channels.{channel_in, channels_of}
-use Rattle.pool_history.specs.Crediting.{Booked, booked, booked_with, booking, class_of_share, headers}
+use Rattle.pool_history.specs.Crediting.{Booked, booked, booked_with, booking, admitted_class, headers}
 use Rattle.pool_history.specs.Judging.{Admitted, Share, admitted, rebuilt}
 use Rattle.pool_history.specs.Legal.{Legal, is_standard_in}
 use Rattle.pool_history.specs.Sessions.{credits, past_of, rules_of}
@@ -31,8 +31,8 @@ pub record IsBookedAfter (history : List Event) (session : ℕ) (share : Share) 
   pub with : Admitted
   pub are_rules : rules_of (past_of history) ≡ Some rules
   pub is_admitted : admitted rules (past_of history) session share ≡ Ok with
-  pub is_booked : booked_with (past_of history) share.channel share.job ≡ Ok with
-  pub meets_its_class : IsTrue (meets (dsha (rebuilt rules.pool_script with share)) (class_of_share with))
+  pub is_booked : booked_with (past_of history) share.channel share.job ≡ Some with
+  pub meets_its_class : IsTrue (meets (dsha (rebuilt rules.pool_script with share)) (admitted_class with))
   pub header : headers (past_of (history ++ credit ∷ [])) ≡ rebuilt rules.pool_script with share ∷ headers (past_of history)
   pub counts : booked (past_of (history ++ credit ∷ [])) ≡ booking rules.pool_script share with ∷ booked (past_of history)
 

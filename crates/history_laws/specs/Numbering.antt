@@ -11,14 +11,14 @@ AreRising [] = Unit {0}
 AreRising (job ∷ later) = AllByRecursion (λ other. job.number < other.number) later × AreRising later
 
 -- a number that is one of 1 to so many
-pub record IsWithin (count : ℕ) (job : Job) : Type 0 where
+pub record IsNumberWithin (count : ℕ) (job : Job) : Type 0 where
   pub some : 1 ≤ job.number
   pub most : job.number ≤ count
 
 -- jobs whose numbers rise, from 1 to so many at most
 pub record RiseTo (count : ℕ) (jobs : List Job) : Type 0 where
   pub rising : AreRising jobs
-  pub within : AllByRecursion (IsWithin count) jobs
+  pub within : AllByRecursion (IsNumberWithin count) jobs
 
 -- so they do in each list, up to the number of all jobs; no number is both of the future and alive, and none is both
 -- of a template's live job and of a miner's own

@@ -6,7 +6,7 @@ use Rattle.pool_history.specs.declared.events.Event.TheVariants as event
 use Rattle.pool_history.specs.declared.events.Kind.{Kind}
 use Rattle.pool_history.specs.declared.settings.Rules.{Rules}
 use Rattle.pool_history.specs.Accounts.{is_known}
-use Rattle.pool_history.specs.Channels.{OpenChannel, channels_of, class_at, class_of}
+use Rattle.pool_history.specs.Channels.{OpenChannel, channels_of, class_at, present_class}
 use Rattle.pool_history.specs.Legal.{Legal, is_class, is_lead_length, is_nameless}
 use Rattle.pool_history.specs.Refusing.{held_leads}
 use Rattle.pool_history.specs.Sessions.{past_of, rules_of}
@@ -18,7 +18,7 @@ use Rattle.history_laws.specs.Lowest.{IsLowestFree}
 pub record IsAllowed (rules : Rules) (channel : OpenChannel) : Type 0 where
   pub lead : IsTrue (is_lead_length channel.kind (length channel.lead))
   pub bytes : AllByRecursion (λ byte. byte < 256) channel.lead
-  pub class : IsTrue (is_class rules (class_of channel))
+  pub class : IsTrue (is_class rules (present_class channel))
   pub classes : (at : ℕ) → IsTrue (is_class rules (class_at channel at))
   pub account : IsTrue (is_known rules channel.account) ⊎ IsTrue (is_nameless channel.kind channel.account)
 

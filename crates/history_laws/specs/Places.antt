@@ -53,10 +53,10 @@ ends_channel id session (event.Leave leaving) = session == leaving
 ends_channel id session event = false
 
 -- the account of the first Name of a channel that says one
-abbrev pub name_in : ℕ → List Event → List ℕ
-name_in id [] = []
-name_in id (event.Name session channel account ∷ more) = if id == channel then account_or account (name_in id more) else name_in id more
-name_in id (event ∷ more) = name_in id more
+abbrev pub account_named : ℕ → List Event → List ℕ
+account_named id [] = []
+account_named id (event.Name session channel account ∷ more) = if id == channel then account_or account (account_named id more) else account_named id more
+account_named id (event ∷ more) = account_named id more
 
 -- a channel as its Open says, with the account of its Name where the Open has none, and its classes
 abbrev pub channel_from : ℕ → ℕ → Event → List Event → List OpenChannel
@@ -67,7 +67,7 @@ channel_from at opened (event.Open session kind account class lead) more =
       id = opened + 1;
       session = session;
       kind = kind;
-      account = account_or account (name_in (opened + 1) more);
+      account = account_or account (account_named (opened + 1) more);
       lead = lead;
       opening_class = class;
       sets = reverse (sets_from (at + 1) (opened + 1) (opened + 1) more);

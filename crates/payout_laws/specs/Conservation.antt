@@ -8,7 +8,7 @@ use Rattle.pool_history.specs.Accounts.{are_distinct}
 use Rattle.pool_history.specs.Crediting.{Booked, booked}
 use Rattle.pool_history.specs.Legal.{Legal}
 use Rattle.pool_history.specs.Sessions.{past_of, rules_of}
-use Rattle.pool_history.specs.Settling.{Part, Payment, Settled, all_weights, fee_of, parts_of, settlement, weight}
+use Rattle.pool_history.specs.Settling.{Part, Payment, Settled, all_weights, fee_of, parts_in_block, settlement, weight}
 
 -- an amount is the exact share of its weight, rounded down
 pub record IsRoundedDown (paid_out all : ℕ) (paid : Payment) : Type 0 where
@@ -44,4 +44,4 @@ abbrev pub RewardsAreConserved : Type 0
 RewardsAreConserved =
     (history : List Event) (rules : Rules) (credit : Booked) (older : List Booked) (reward : ℕ)
     → Legal history → IsBlockOf history rules credit older reward
-    → IsConserved rules.fee reward (parts_of rules.window (credit ∷ older)) (settlement rules.window rules.fee reward (credit ∷ older))
+    → IsConserved rules.fee reward (parts_in_block rules.window (credit ∷ older)) (settlement rules.window rules.fee reward (credit ∷ older))

@@ -14,7 +14,7 @@ use Rattle.pool_history.specs.declared.refusals.Failed.TheVariants as failed
 use Rattle.pool_history.specs.declared.refusals.JobError.TheVariants as job
 use Rattle.pool_history.specs.declared.refusals.OpenError.TheVariants as open_error
 use Rattle.coinbase.specs.declared.error.AssemblyError.TheVariants as assembly
-use Rattle.pool_history.specs.Channels.{OpenChannel, channel_in, channels_of, class_at, class_of}
+use Rattle.pool_history.specs.Channels.{OpenChannel, channel_in, channels_of, class_at, present_class}
 use Rattle.pool_history.specs.Crediting.{booked, first_failed}
 use Rattle.pool_history.specs.Jobs.{Job, jobs_of, live_job, state_of}
 use Rattle.pool_history.specs.Judging.{Admitted, admitted}
@@ -103,8 +103,8 @@ class_with channel job = None
 abbrev pub class_for : List Event → ℕ → Option ℕ
 class_for past number = class_with (channel_in (channels_of past) 1) (live_job (jobs_of past) number)
 
-pub present_class : option_map class_of (channel_in (channels_of next_job) 1) ≡ Some 60
-present_class = refl
+pub class-present : option_map present_class (channel_in (channels_of next_job) 1) ≡ Some 60
+class-present = refl
 
 pub class_at_old_job : class_for next_job 1 ≡ Some 0
 class_at_old_job = refl

@@ -83,8 +83,8 @@ abbrev pub last_class : List ClassSet → ℕ → ℕ
 last_class [] opening = opening
 last_class (set ∷ older) opening = set.class
 
-abbrev pub class_of : OpenChannel → ℕ
-class_of channel = last_class channel.sets channel.opening_class
+abbrev pub present_class : OpenChannel → ℕ
+present_class channel = last_class channel.sets channel.opening_class
 
 -- the last class that was set before a place, or else that of the opening
 abbrev pub class_before : ℕ → List ClassSet → ℕ → ℕ

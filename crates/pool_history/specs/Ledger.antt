@@ -164,7 +164,12 @@ EventFits (event.Open session kind account class lead) = length lead ≤ 32
 EventFits (event.Credit session channel job nonce ntime version extranonce) = length extranonce ≤ 32
 EventFits (event.Grant session account fixed path) = GrantFits fixed path
 EventFits (event.Custom session custom) = CustomFits custom
-EventFits event = Unit {0}
+EventFits (event.Enter worker role flags) = Unit {0}
+EventFits (event.Tip session tip) = Unit {0}
+EventFits (event.Name session channel account) = Unit {0}
+EventFits (event.Class session channel class) = Unit {0}
+EventFits (event.Close session channel) = Unit {0}
+EventFits (event.Leave session) = Unit {0}
 
 -- the texts of an event are UTF-8
 abbrev pub TextsFit : Event → Type 0
@@ -172,7 +177,14 @@ TextsFit (event.Start rules) = AllByRecursion IsUtf8 rules.users
 TextsFit (event.Open session kind account class lead) = IsUtf8 account
 TextsFit (event.Name session channel account) = IsUtf8 account
 TextsFit (event.Grant session account fixed path) = IsUtf8 account
-TextsFit event = Unit {0}
+TextsFit (event.Enter worker role flags) = Unit {0}
+TextsFit (event.Template session template) = Unit {0}
+TextsFit (event.Tip session tip) = Unit {0}
+TextsFit (event.Class session channel class) = Unit {0}
+TextsFit (event.Close session channel) = Unit {0}
+TextsFit (event.Leave session) = Unit {0}
+TextsFit (event.Credit session channel job nonce ntime version extranonce) = Unit {0}
+TextsFit (event.Custom session custom) = Unit {0}
 
 -- an event has a record: its lists fit, its texts are UTF-8, and its body has at most 300,000 bytes
 pub record HasRecord (event : Event) : Type 0 where

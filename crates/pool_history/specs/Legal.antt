@@ -15,7 +15,8 @@ use Rattle.pool_history.specs.declared.refusals.GrantError.{GrantError}
 use Rattle.pool_history.specs.declared.refusals.GrantError.TheVariants as grant
 use Rattle.pool_history.specs.declared.settings.Rules.{Rules}
 use Rattle.pool_history.specs.Accounts.{are_in_range, is_empty, is_known}
-use Rattle.pool_history.specs.Channels.{OpenChannel, channel_in, channels_of, class_of}
+use Rattle.pool_history.specs.Channels.{OpenChannel, channel_in, channels_of, present_class}
+use Rattle.pool_history.specs.Conditions.{first_false}
 use Rattle.pool_history.specs.Crediting.{first_failed}
 use Rattle.pool_history.specs.Judging.{is_standard}
 use Rattle.pool_history.specs.Refusing.{custom_refusal, grant_refusal, has_too_many, held_leads, most_enters, own_channel, template_refusal, tip_refusal}
@@ -33,11 +34,6 @@ are_acceptable rules flags = bit_and flags (allowed_flags rules) == flags
 -- a session may bring jobs of its own: REQUIRES_WORK_SELECTION
 abbrev pub selects_work : ℕ → Bool
 selects_work flags = bit_at flags 1 == 1
-
--- a condition, its cause, and what comes next where it holds
-abbrev pub provided : Bool → Cause → Option Cause → Option Cause
-provided true code next = next
-provided false code next = Some code
 
 -- a refusal is a cause
 abbrev pub refused_as : {X : Type 0} → Cause → Option X → Option Cause
@@ -105,7 +101,7 @@ may_get rules account (Some channel) = is_nameless channel.kind channel.account 
 -- a channel's class may become this one
 abbrev pub may_become : Rules → ℕ → Option OpenChannel → Bool
 may_become rules class None = false
-may_become rules class (Some channel) = is_class rules class && not (class == class_of channel)
+may_become rules class (Some channel) = is_class rules class && not (class == present_class channel)
 
 -- a credit counts as standard where its channel is
 abbrev pub is_standard_in : Option OpenChannel → Bool
@@ -117,47 +113,59 @@ abbrev pub entered_with : (Entrance → Bool) → Option Entrance → Bool
 entered_with may None = false
 entered_with may (Some entered) = may entered
 
--- the session is present, and may have the event; then what comes next
-abbrev pub within : (Entrance → Bool) → List Event → ℕ → Option Cause → Option Cause
-within may past session next =
-    provided (is_present past session) cause.NoSession (provided (entered_with may (entrance past session)) cause.BadRole next)
-
 -- any session, one that sends templates, one that submits shares, and one that brings jobs of its own
-abbrev pub any_role : Entrance → Bool
-any_role entered = true
+abbrev pub may_anything : Entrance → Bool
+may_anything entered = true
 
-abbrev pub feeding : Entrance → Bool
-feeding entered = feeds entered.role
+abbrev pub may_feed : Entrance → Bool
+may_feed entered = feeds entered.role
 
-abbrev pub mining : Entrance → Bool
-mining entered = mines entered.role
+abbrev pub may_mine : Entrance → Bool
+may_mine entered = mines entered.role
 
-abbrev pub selecting : Entrance → Bool
-selecting entered = mines entered.role && selects_work entered.flags
+abbrev pub may_select_work : Entrance → Bool
+may_select_work entered = mines entered.role && selects_work entered.flags
 
--- the cause of an event after the events before it, whose rules these are
+-- the session is present, and may have the event; then the event's own conditions
+abbrev pub within : (Entrance → Bool) → List Event → ℕ → Option Cause → Option Cause
+within may past session own =
+    first_false
+    ((is_present past session, cause.NoSession)
+    ∷ (entered_with may (entrance past session), cause.BadRole)
+    ∷ []) own
+
+-- the cause of an event after the events before it, whose rules these are: that of the first condition that is false
 abbrev pub cause_by : Rules → List Event → Event → Option Cause
 cause_by rules past (event.Start other) = Some cause.BadStart
 cause_by rules past (event.Enter worker role flags) =
-    provided (nat_lt (enters past) most_enters) cause.PoolFull (provided (are_acceptable rules flags) cause.BadFlags None)
-cause_by rules past (event.Leave session) = within any_role past session None
+    first_false
+    ((nat_lt (enters past) most_enters, cause.PoolFull)
+    ∷ (are_acceptable rules flags, cause.BadFlags)
+    ∷ []) None
+cause_by rules past (event.Leave session) = within may_anything past session None
 cause_by rules past (event.Template session template) =
-    within feeding past session (refused_as cause.BadTemplate (template_refusal rules.pool_script past template))
-cause_by rules past (event.Tip session tip) = within feeding past session (refused_as cause.BadTip (tip_refusal past tip))
+    within may_feed past session (refused_as cause.BadTemplate (template_refusal rules.pool_script past template))
+cause_by rules past (event.Tip session tip) =
+    within may_feed past session (refused_as cause.BadTip (tip_refusal past tip))
 cause_by rules past (event.Open session kind account class lead) =
-    within mining past session
-    (provided (is_opening_account rules kind account) cause.UnknownUser
-    (provided (is_class rules class) cause.BadClass
-    (provided (not (has_too_many past session)) cause.TooManyChannels
-    (provided (is_next_lead past kind lead) cause.BadLead None))))
+    within may_mine past session
+    (first_false
+    ((is_opening_account rules kind account, cause.UnknownUser)
+    ∷ (is_class rules class, cause.BadClass)
+    ∷ (not (has_too_many past session), cause.TooManyChannels)
+    ∷ (is_next_lead past kind lead, cause.BadLead)
+    ∷ []) None)
 cause_by rules past (event.Name session channel account) =
-    within mining past session (provided (may_get rules account (own_channel past session channel)) cause.BadName None)
+    within may_mine past session
+    (first_false ((may_get rules account (own_channel past session channel), cause.BadName) ∷ []) None)
 cause_by rules past (event.Class session channel class) =
-    within mining past session (provided (may_become rules class (own_channel past session channel)) cause.BadClass None)
+    within may_mine past session
+    (first_false ((may_become rules class (own_channel past session channel), cause.BadClass) ∷ []) None)
 cause_by rules past (event.Close session channel) =
-    within mining past session (provided (is_some (own_channel past session channel)) cause.NotOpen None)
+    within may_mine past session
+    (first_false ((is_some (own_channel past session channel), cause.NotOpen) ∷ []) None)
 cause_by rules past (event.Credit session channel job nonce ntime version extranonce) =
-    within mining past session (failed_as (first_failed rules past session (record {
+    within may_mine past session (failed_as (first_failed rules past session (record {
       is_standard = is_standard_in (channel_in (channels_of past) channel);
       channel = channel;
       job = job;
@@ -167,9 +175,9 @@ cause_by rules past (event.Credit session channel job nonce ntime version extran
       extranonce = extranonce;
     })))
 cause_by rules past (event.Grant session account fixed path) =
-    within selecting past session (grant_cause (grant_refusal rules past account path))
+    within may_select_work past session (grant_cause (grant_refusal rules past account path))
 cause_by rules past (event.Custom session offer) =
-    within selecting past session (custom_cause (custom_refusal rules.pool_script past session offer))
+    within may_select_work past session (custom_cause (custom_refusal rules.pool_script past session offer))
 
 -- the cause where a Start stands first, or doesn't
 abbrev pub cause_in : Option Rules → List Event → Event → Option Cause

@@ -128,7 +128,14 @@ owed_by rules (event.Credit crediting channel job nonce ntime version extranonce
     flat_map (λ notes. notes)
     (listed (λ with. solution_notes rules.pool_script session (credit_share with channel job nonce ntime version extranonce) with)
     (booked_with older channel job))
-owed_by rules event older session = []
+owed_by rules (event.Start other) older session = []
+owed_by rules (event.Enter worker role flags) older session = []
+owed_by rules (event.Name naming channel account) older session = []
+owed_by rules (event.Class setting channel class) older session = []
+owed_by rules (event.Close closing channel) older session = []
+owed_by rules (event.Leave leaving) older session = []
+owed_by rules (event.Grant asking account fixed path) older session = []
+owed_by rules (event.Custom bringing custom) older session = []
 
 -- the same by the rules of the history
 abbrev pub owed : Option Rules → Event → List Event → ℕ → List Note

@@ -31,9 +31,9 @@ last_work window later (credit ∷ older) =
     record { account = credit.account; weight = min credit.work (window - min window later) } ∷ last_work window (later + credit.work) older
 
 -- the parts in a block, whose credit stands first; without a window by the proportional rule
-abbrev pub parts_of : Option ℕ → List Booked → List Part
-parts_of None credits = proportional credits
-parts_of (Some window) credits = last_work window 0 credits
+abbrev pub parts_in_block : Option ℕ → List Booked → List Part
+parts_in_block None credits = proportional credits
+parts_in_block (Some window) credits = last_work window 0 credits
 
 -- an account's weight
 abbrev pub weight : List ℕ → List Part → ℕ
@@ -86,7 +86,7 @@ settled_with reward fee payments =
 abbrev pub settlement : Option ℕ → ℕ → ℕ → List Booked → Settled
 settlement window basis_points reward credits =
     settled_with reward (fee_of reward basis_points)
-    (payments_of (reward - fee_of reward basis_points) (parts_of window credits) (accounts_of credits))
+    (payments_of (reward - fee_of reward basis_points) (parts_in_block window credits) (accounts_of credits))
 
 -- the settlement of the last credit, where it is a block
 abbrev pub settled_at : Option ℕ → ℕ → Option ℕ → List Booked → List Settled
