@@ -1,6 +1,6 @@
 -- What answers do to a legal history.
-use Rattle.std.proofs.Common.{◌≡◌, ◌^◌, ℕ, ◌+◌, ◌≤◌, Bool, true, false, cond, ◌&&◌, not, Option, None, Some, Result, Ok, Err, List, [], ◌∷◌, ◌++◌, length, refl, ap, subst, sym, ◌∙◌}
-use Rattle.std.proofs.lemmas.Bool.{and_from, and_parts, cond_both, eq-eqb, false≢true, ltb-false, not-false, not_from_false}
+use Rattle.std.proofs.Common.{nat_le, ◌≡◌, ◌^◌, ℕ, ◌+◌, ◌≤◌, Bool, true, false, cond, ◌&&◌, not, Option, None, Some, Result, Ok, Err, List, [], ◌∷◌, ◌++◌, length, refl, ap, subst, sym, ◌∙◌}
+use Rattle.std.proofs.lemmas.Bool.{and_from, and_parts, cond_both, eq-eqb, false≢true, ltb-false, not-false, not_from_false, leb-true, not-true}
 use Rattle.std.proofs.lemmas.Nat.{and_assoc}
 use Rattle.std.specs.Int.Bits.{and_self}
 use Rattle.std.proofs.lemmas.List.{append-nil}
@@ -18,6 +18,7 @@ use Rattle.pool_history.specs.declared.events.Kind.TheVariants as kind
 use Rattle.pool_history.specs.declared.events.Role.{Role}
 use Rattle.pool_history.specs.declared.refusals.Failed.{Failed}
 use Rattle.pool_history.specs.declared.refusals.Failed.TheVariants as failed
+use Rattle.pool_history.specs.declared.refusals.NameError.{NameError}
 use Rattle.pool_history.specs.declared.refusals.NameError.TheVariants as name
 use Rattle.pool_history.specs.declared.refusals.OpenError.{OpenError}
 use Rattle.pool_history.specs.declared.refusals.OpenError.TheVariants as open_error
@@ -26,13 +27,13 @@ use Rattle.pool_history.specs.declared.replies.Reply.{Reply}
 use Rattle.pool_history.specs.declared.replies.Reply.TheVariants as reply
 use Rattle.pool_history.specs.declared.settings.Rules.{Rules}
 use Rattle.pool_history.specs.Accounts.{account_of, is_empty, is_known}
-use Rattle.pool_history.specs.Answering.{Effect, account_for, classing, closing, committing, crediting, entering, with_event, naming, opening, permits, step, step_as, step_by, step_for, step_in, step_under, without_event, unless_refused, briefing, granting, number_of}
+use Rattle.pool_history.specs.Answering.{Effect, account_for, classing, closing, committing, crediting, entering, with_event, naming, opening, permits, step, step_as, step_by, step_for, step_in, step_under, without_event, unless_refused, briefing, granting, with_found}
 use Rattle.pool_history.specs.Channels.{OpenChannel, present_class, channel_in, channels_of}
 use Rattle.pool_history.specs.Crediting.{first_failed, last_failed}
-use Rattle.pool_history.specs.Judging.{provided, Admitted, Share, admitted, share_of, agree, found, has_account, is_standard, serves}
-use Rattle.pool_history.specs.Conditions.{or_code}
-use Rattle.pool_history.specs.Legal.{Legal, LegalPast, allowed_flags, are_acceptable, cause_by, cause_in, cause_of, custom_cause, failed_as, may_feed, grant_cause, is_class, is_next_lead, is_opening_account, may_become, may_get, may_mine, refused_as, may_select_work, within, may_anything, is_just, is_lead_length, is_nameless, is_standard_in}
-use Rattle.pool_history.specs.Refusing.{class_for, class_of_target, custom_refusal, grant_refusal, has_other, has_too_many, held_leads, lead_for, lead_length, may_open, most_enters, name_refusal, open_refusal, own_channel, template_refusal, tip_refusal, update_refusal, open_count}
+use Rattle.pool_history.specs.Judging.{Admitted, Share, admitted, share_of, agree, has_account, is_standard, serves}
+use Rattle.pool_history.specs.Conditions.{or_code, first_false, found, provided, unless_refusal}
+use Rattle.pool_history.specs.Legal.{Legal, LegalPast, allowed_flags, are_acceptable, cause_by, cause_in, cause_of, custom_cause, failed_as, may_feed, grant_cause, is_class, is_next_lead, is_opening_account, may_become, may_get, may_mine, refused_as, may_select_work, within, may_anything, is_just, is_lead_length, is_nameless, is_standard_in, unfound_as}
+use Rattle.pool_history.specs.Refusing.{class_for, class_of_target, custom_refusal, grant_refusal, has_other, has_too_many, held_leads, lead_for, lead_length, may_open, most_enters, own_channel, template_refusal, open_count, openable, nameable, updatable, tippable, open_conditions, lead_unless}
 use Rattle.pool_history.specs.Sessions.{Entrance, enters, entrance, past_of, present, rules_of, grants, opens}
 use Rattle.pool_history.specs.Spaces.{lowest}
 use Rattle.history_laws.specs.Answered.{AnswersKeepLegality}
@@ -77,6 +78,28 @@ permitted {past = past} {worker = worker} {session = session} {entered = entered
 pub provided-so : (b : Bool) (code : Cause) (next : Option Cause) → b ≡ true → or_code b code next ≡ next
 provided-so b code next h = ap (λ t. or_code t code next) h
 
+-- a condition whose code isn't told holds
+pub code-none : {C : Type 0} (b : Bool) (code : C) (next : Option C) → or_code b code next ≡ None → (b ≡ true) × (next ≡ None)
+code-none true code next n = (refl, n)
+code-none false code next n = absurd (some-none n)
+
+-- results
+pub err-not_ok : {X C : Type 0} {e : C} {y : X} → ◌≡◌ {A = Result X C} (Err e) (Ok y) → ⊥
+err-not_ok h = cc
+
+pub ok-ok : {X C : Type 0} {x y : X} → ◌≡◌ {A = Result X C} (Ok x) (Ok y) → x ≡ y
+ok-ok h = cc
+
+pub was-found : {X C : Type 0} (code : C) (o : Option X) (x : X) → found code o ≡ Ok x → o ≡ Some x
+was-found code None x h = absurd (err-not_ok h)
+was-found code (Some y) x h = ap Some (ok-ok h)
+
+-- what a fact of events says of an effect with what was found
+pub found-event : {X C : Type 0} (P : Option Event → Type 0) (refuse : C → Reply) (make : X → Effect) (r : Result X C) → P None
+    → ((x : X) → r ≡ Ok x → P (make x).event) → P (with_found refuse make r).event
+found-event P refuse make (Err refusal) none some = none
+found-event P refuse make (Ok x) none some = some x refl
+
 -- why an opening isn't refused
 pub record IsOpen (rules : Rules) (past : List Event) (session : ℕ) (ask : OpenAsk) : Type 0 where
   pub account : may_open rules ask.kind (account_of ask.identity) ≡ true
@@ -84,29 +107,55 @@ pub record IsOpen (rules : Rules) (past : List Event) (session : ℕ) (ask : Ope
   pub size : ask.min_size ≤ 11
   pub few : has_too_many past session ≡ false
 
-pub open-conditions : (rules : Rules) (past : List Event) (session : ℕ) (ask : OpenAsk) → open_refusal rules past session ask ≡ None → IsOpen rules past session ask
+pub open-conditions : (rules : Rules) (past : List Event) (session : ℕ) (ask : OpenAsk) → first_false (open_conditions rules past session ask) None ≡ None
+    → IsOpen rules past session ask
 open-conditions rules past session ask n =
-    let last : Option OpenError = cond (is_none (lead_for past ask)) (Some open_error.NoSpace) None in
     let fourth : Option OpenError =
-    cond (has_too_many past session)
-    (Some (open_error.TooManyChannels (open_count past session) (opens past))) last in
-    let third : Option OpenError = cond (nat_lt 11 ask.min_size) (Some (open_error.SizeTooLarge ask.min_size)) fourth in
+    or_code (not (has_too_many past session)) (open_error.TooManyChannels (open_count past session) (opens past)) None in
+    let third : Option OpenError = or_code (nat_le ask.min_size 11) (open_error.SizeTooLarge ask.min_size) fourth in
     let second : Option OpenError =
-    cond (nat_lt 60 (class_of_target ask.max_target)) (Some (open_error.TargetOutOfRange (class_of_target ask.max_target))) third in
-    let a : (not (may_open rules ask.kind (account_of ask.identity)) ≡ false) × (second ≡ None) =
-    peel (not (may_open rules ask.kind (account_of ask.identity))) open_error.UnknownUser second n in
-    let b : (nat_lt 60 (class_of_target ask.max_target) ≡ false) × (third ≡ None) =
-    peel (nat_lt 60 (class_of_target ask.max_target)) (open_error.TargetOutOfRange (class_of_target ask.max_target)) third a.1 in
-    let c : (nat_lt 11 ask.min_size ≡ false) × (fourth ≡ None) = peel (nat_lt 11 ask.min_size) (open_error.SizeTooLarge ask.min_size) fourth b.1 in
-    let d : (has_too_many past session ≡ false) × (last ≡ None) =
-    peel (has_too_many past session)
-    (open_error.TooManyChannels (open_count past session) (opens past)) last c.1 in
+    or_code (nat_le (class_of_target ask.max_target) 60) (open_error.TargetOutOfRange (class_of_target ask.max_target)) third in
+    let a = code-none (may_open rules ask.kind (account_of ask.identity)) open_error.UnknownUser second n in
+    let b = code-none (nat_le (class_of_target ask.max_target) 60) (open_error.TargetOutOfRange (class_of_target ask.max_target)) third a.1 in
+    let c = code-none (nat_le ask.min_size 11) (open_error.SizeTooLarge ask.min_size) fourth b.1 in
+    let d = code-none (not (has_too_many past session)) (open_error.TooManyChannels (open_count past session) (opens past)) None c.1 in
     record {
-      account = not-false (may_open rules ask.kind (account_of ask.identity)) a.0;
-      class = ltb-false 60 (class_of_target ask.max_target) b.0;
-      size = ltb-false 11 ask.min_size c.0;
-      few = d.0;
+      account = a.0;
+      class = leb-true (class_of_target ask.max_target) 60 b.0;
+      size = leb-true ask.min_size 11 c.0;
+      few = not-true (has_too_many past session) d.0;
     }
+
+-- what an opening that isn't refused was found to have
+pub record WasOpenable (rules : Rules) (past : List Event) (session : ℕ) (ask : OpenAsk) (lead : List ℕ) : Type 0 where
+  pub is : IsOpen rules past session ask
+  pub lead_is : lead_for past ask ≡ Some lead
+
+pub was-openable : (rules : Rules) (past : List Event) (session : ℕ) (ask : OpenAsk) (lead : List ℕ) → openable rules past session ask ≡ Ok lead
+    → WasOpenable rules past session ask lead
+was-openable rules past session ask lead = by (first_false (open_conditions rules past session ask) None) refl where
+  by : (o : Option OpenError) → first_false (open_conditions rules past session ask) None ≡ o → lead_unless o (lead_for past ask) ≡ Ok lead
+      → WasOpenable rules past session ask lead
+  by (Some refusal) is h = absurd (err-not_ok h)
+  by None is h = record { is = open-conditions rules past session ask is; lead_is = was-found open_error.NoSpace (lead_for past ask) lead h }
+
+-- so of a channel that is named, and of one whose class is set
+pub was-nameable : (rules : Rules) (account : List ℕ) (o : Option OpenChannel) (c : OpenChannel) → nameable rules account o ≡ Ok c
+    → (o ≡ Some c) × (is_known rules account ≡ true)
+was-nameable rules account None c h = absurd (err-not_ok h)
+was-nameable rules account (Some d) c h = by (first_false ((is_known rules account, name.UnknownUser) ∷ (not (has_other account d), name.OtherAccount) ∷ []) None) refl h where
+  by : (o : Option NameError) → first_false ((is_known rules account, name.UnknownUser) ∷ (not (has_other account d), name.OtherAccount) ∷ []) None ≡ o
+      → unless_refusal o d ≡ Ok c → (◌≡◌ {A = Option OpenChannel} (Some d) (Some c)) × (is_known rules account ≡ true)
+  by (Some refusal) is g = absurd (err-not_ok g)
+  by None is g = (ap Some (ok-ok g), (code-none (is_known rules account) name.UnknownUser (or_code (not (has_other account d)) name.OtherAccount None) is).0)
+
+pub was-updatable : (target : List ℕ) (o : Option OpenChannel) (c : OpenChannel) → updatable target o ≡ Ok c → (o ≡ Some c) × (class_of_target target ≤ 60)
+was-updatable target None c h = absurd (err-not_ok h)
+was-updatable target (Some d) c h = by (nat_le (class_of_target target) 60) refl h where
+  by : (b : Bool) → nat_le (class_of_target target) 60 ≡ b → provided b (update.TargetOutOfRange (class_of_target target)) d ≡ Ok c
+      → (◌≡◌ {A = Option OpenChannel} (Some d) (Some c)) × (class_of_target target ≤ 60)
+  by true is g = (ap Some (ok-ok g), leb-true (class_of_target target) 60 is)
+  by false is g = absurd (err-not_ok g)
 
 -- the account that an opening says
 pub account-said : (rules : Rules) (k : Kind) (identity : List ℕ) → may_open rules k (account_of identity) ≡ true
@@ -128,10 +177,9 @@ lead-next past ask lead size found =
 
 -- a channel is opened
 pub open-legal : (rules : Rules) (past : List Event) (worker session : ℕ) (entered : Entrance) (ask : OpenAsk) → Present rules past worker session entered
-    → may_mine entered ≡ true → IsOpen rules past session ask → (o : Option (List ℕ)) → lead_for past ask ≡ o
-    → NoCause rules past (opening rules past session ask o).event
-open-legal rules past worker session entered ask p may is None found = tt
-open-legal rules past worker session entered ask p may is (Some lead) found =
+    → may_mine entered ≡ true → IsOpen rules past session ask → (lead : List ℕ) → lead_for past ask ≡ Some lead
+    → NoCause rules past (opening rules past session ask lead).event
+open-legal rules past worker session entered ask p may is lead found =
     let least : rules.least_class ≤ 60 = least-range rules (legal-rules past rules p.legal p.are_rules) in
     permitted may_mine
     (or_code (is_opening_account rules ask.kind (account_for ask.kind ask.identity)) cause.UnknownUser
@@ -154,13 +202,9 @@ pub nameless : (c : OpenChannel) → IsServed c → is_empty c.account ≡ true 
 nameless c s e = ap (λ k. is_nameless k c.account) (s e) ∙ e
 
 pub name-legal : (rules : Rules) (past : List Event) (worker session : ℕ) (entered : Entrance) (id : ℕ) (account : List ℕ)
-    → Present rules past worker session entered → may_mine entered ≡ true → (o : Option OpenChannel) → own_channel past session id ≡ o
-    → name_refusal rules account o ≡ None → NoCause rules past (naming session id account o).event
-name-legal rules past worker session entered id account p may None found n = tt
-name-legal rules past worker session entered id account p may (Some c) found n =
-    let known : is_known rules account ≡ true =
-    not-false (is_known rules account)
-    (peel (not (is_known rules account)) name.UnknownUser (cond (has_other account c) (Some name.OtherAccount) None) n).0 in
+    → Present rules past worker session entered → may_mine entered ≡ true → (c : OpenChannel) → own_channel past session id ≡ Some c
+    → is_known rules account ≡ true → NoCause rules past (naming session id account c).event
+name-legal rules past worker session entered id account p may c found known =
     cond_both (is_empty c.account) (with_event (event.Name session id account) reply.Named) (without_event reply.Named) (λ s. NoCause rules past s.event)
     (λ empty.
     permitted may_mine (or_code (may_get rules account (own_channel past session id)) cause.BadName None) p may
@@ -172,14 +216,10 @@ name-legal rules past worker session entered id account p may (Some c) found n =
 
 -- a channel gets its class
 pub class-legal : (rules : Rules) (past : List Event) (worker session : ℕ) (entered : Entrance) (id : ℕ) (target : List ℕ)
-    → Present rules past worker session entered → may_mine entered ≡ true → (o : Option OpenChannel) → own_channel past session id ≡ o
-    → update_refusal target o ≡ None → NoCause rules past (classing session id (class_for rules target) o).event
-class-legal rules past worker session entered id target p may None found n = tt
-class-legal rules past worker session entered id target p may (Some c) found n =
+    → Present rules past worker session entered → may_mine entered ≡ true → (c : OpenChannel) → own_channel past session id ≡ Some c
+    → class_of_target target ≤ 60 → NoCause rules past (classing session id (class_for rules target) c).event
+class-legal rules past worker session entered id target p may c found few =
     let class : ℕ = class_for rules target in
-    let few : class_of_target target ≤ 60 =
-    ltb-false 60 (class_of_target target)
-    (peel (nat_lt 60 (class_of_target target)) (update.TargetOutOfRange (class_of_target target)) None n).0 in
     let least : rules.least_class ≤ 60 = least-range rules (legal-rules past rules p.legal p.are_rules) in
     cond_both (nat_eq class (present_class c)) (without_event (reply.Target id class)) (with_event (event.Class session id class) (reply.Target id class))
     (λ s. NoCause rules past s.event)
@@ -288,21 +328,20 @@ step_in-legal rules past worker session entered (request.Template template) p ma
     (with_event (event.Template session template) (reply.Job (length (jobs_of past).all + 1))) tt
     (λ n. permitted may_feed (refused_as cause.BadTemplate (template_refusal rules.pool_script past template)) p may ∙ ap (refused_as cause.BadTemplate) n)
 step_in-legal rules past worker session entered (request.Tip tip) p may =
-    unless-event (NoCause rules past) reply.TemplateRefused (tip_refusal past tip)
-    (with_event (event.Tip session tip)
-    (reply.Job (number_of (future_of (jobs_of past) tip.template_id)))) tt
-    (λ n. permitted may_feed (refused_as cause.BadTip (tip_refusal past tip)) p may ∙ ap (refused_as cause.BadTip) n)
+    found-event (NoCause rules past) reply.TemplateRefused (λ job. with_event (event.Tip session tip) (reply.Job job.number)) (tippable past tip) tt
+    (λ job is. permitted may_feed (unfound_as cause.BadTip (tippable past tip)) p may ∙ ap (unfound_as cause.BadTip) is)
 step_in-legal rules past worker session entered (request.Open ask) p may =
-    unless-event (NoCause rules past) reply.OpenRefused (open_refusal rules past session ask) (opening rules past session ask (lead_for past ask)) tt
-    (λ n. open-legal rules past worker session entered ask p may (open-conditions rules past session ask n) (lead_for past ask) refl)
+    found-event (NoCause rules past) reply.OpenRefused (opening rules past session ask) (openable rules past session ask) tt
+    (λ lead is. let w = was-openable rules past session ask lead is in open-legal rules past worker session entered ask p may w.is lead w.lead_is)
 step_in-legal rules past worker session entered (request.Name id identity) p may =
-    unless-event (NoCause rules past) reply.NameRefused (name_refusal rules (account_of identity) (own_channel past session id))
-    (naming session id (account_of identity) (own_channel past session id)) tt
-    (λ n. name-legal rules past worker session entered id (account_of identity) p may (own_channel past session id) refl n)
+    found-event (NoCause rules past) reply.NameRefused (naming session id (account_of identity))
+    (nameable rules (account_of identity) (own_channel past session id)) tt
+    (λ c is. let w = was-nameable rules (account_of identity) (own_channel past session id) c is in
+    name-legal rules past worker session entered id (account_of identity) p may c w.0 w.1)
 step_in-legal rules past worker session entered (request.Update id target) p may =
-    unless-event (NoCause rules past) reply.UpdateRefused (update_refusal target (own_channel past session id))
-    (classing session id (class_for rules target) (own_channel past session id)) tt
-    (λ n. class-legal rules past worker session entered id target p may (own_channel past session id) refl n)
+    found-event (NoCause rules past) reply.UpdateRefused (classing session id (class_for rules target)) (updatable target (own_channel past session id)) tt
+    (λ c is. let w = was-updatable target (own_channel past session id) c is in
+    class-legal rules past worker session entered id target p may c w.0 w.1)
 step_in-legal rules past worker session entered (request.Close id) p may =
     close-legal rules past worker session entered id p may (own_channel past session id) refl
 step_in-legal rules past worker session entered (request.Brief sub) p may = no_event (admitted rules past session (share_of sub)) where

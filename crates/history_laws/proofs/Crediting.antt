@@ -14,12 +14,12 @@ use Rattle.pool_history.specs.declared.refusals.Failed.TheVariants as failed
 use Rattle.pool_history.specs.declared.settings.Rules.{Rules}
 use Rattle.pool_history.specs.Accounts.{are_distinct}
 use Rattle.pool_history.specs.Channels.{OpenChannel, channel_in, channels_of}
-use Rattle.pool_history.specs.Conditions.{or_code}
+use Rattle.pool_history.specs.Conditions.{or_code, found, provided}
 use Rattle.pool_history.specs.Crediting.{Booked, booked, booked_with, booking, admitted_class, credit_share, first_failed, headers, last_failed, listed}
 use Rattle.pool_history.specs.Headers.{rolled}
 use Rattle.pool_history.specs.declared.templates.TipData.{TipData}
 use Rattle.pool_history.specs.Jobs.{Job, jobs_of, live_job}
-use Rattle.pool_history.specs.Judging.{Admitted, Share, admitted, found, is_in_time, is_known_job, is_version, provided, rebuilt, serves}
+use Rattle.pool_history.specs.Judging.{Admitted, Share, admitted, is_in_time, is_known_job, is_version, rebuilt, serves}
 use Rattle.pool_history.specs.Legal.{LegalPast, cause_of, failed_as, is_standard_in, may_mine}
 use Rattle.pool_history.specs.Sessions.{credits, past_of, rules_of, script_of, script_in}
 use Rattle.history_laws.specs.Credited.{CreditsAreBooked, NoShareTwice}

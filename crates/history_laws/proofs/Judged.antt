@@ -19,14 +19,14 @@ use Rattle.pool_history.specs.declared.settings.Rules.{Rules}
 use Rattle.pool_history.specs.declared.shares.Checked.{Checked}
 use Rattle.pool_history.specs.declared.shares.Submission.{Submission}
 use Rattle.pool_history.specs.Accounts.{account_of, is_empty}
-use Rattle.pool_history.specs.Answering.{Answer, Effect, briefing, classing, closing, committing, crediting, with_event, naming, opening, permits, step, step_as, step_by, step_for, step_in, step_under, without_event, unless_refused, number_of}
+use Rattle.pool_history.specs.Answering.{Answer, Effect, briefing, classing, closing, committing, crediting, with_event, naming, opening, permits, step, step_as, step_by, step_for, step_in, step_under, without_event, unless_refused, with_found}
 use Rattle.pool_history.specs.Channels.{OpenChannel, channel_in, channels_of, present_class}
-use Rattle.pool_history.specs.Conditions.{or_code}
+use Rattle.pool_history.specs.Conditions.{or_code, found, provided}
 use Rattle.pool_history.specs.Crediting.{admitted_class, first_failed, headers, last_failed}
 use Rattle.pool_history.specs.Jobs.{future_of, jobs_of, live_job}
-use Rattle.pool_history.specs.Judging.{Admitted, Share, admitted, briefing_of, found, is_in_time, is_known_job, is_version, provided, rebuilt, serves, share_of}
+use Rattle.pool_history.specs.Judging.{Admitted, Share, admitted, briefing_of, is_in_time, is_known_job, is_version, rebuilt, serves, share_of}
 use Rattle.pool_history.specs.Legal.{allowed_flags, may_mine}
-use Rattle.pool_history.specs.Refusing.{class_for, custom_refusal, grant_refusal, lead_for, most_enters, name_refusal, open_refusal, own_channel, template_refusal, tip_refusal, update_refusal}
+use Rattle.pool_history.specs.Refusing.{class_for, custom_refusal, grant_refusal, lead_for, most_enters, own_channel, template_refusal, openable, nameable, updatable, tippable}
 use Rattle.pool_history.specs.Sessions.{Entrance, credits, enters, entrance, past_of, present, rules_of, grants}
 use Rattle.std.specs.Prelude.{bit_and, nat_eq, nat_lt}
 use Rattle.history_laws.specs.Answered.{fails_early, is_early, CreditsAreCommitted, IsCommitted, IsJudged, MayNotSubmit, MaySubmit, SharesAreBriefed, SharesAreJudged, SharesNeedASession, credit_of}
@@ -214,6 +214,11 @@ pub not-credited : {X : Type 0} (refuse : X → Reply) (r : Option X) (made : Ef
 not-credited refuse None made n = n
 not-credited refuse (Some x) made n = tt
 
+pub not-credited_found : {X C : Type 0} (refuse : C → Reply) (make : X → Effect) (r : Result X C) → ((x : X) → NoCredit (make x).event)
+    → NoCredit (with_found refuse make r).event
+not-credited_found refuse make (Ok x) n = n x
+not-credited_found refuse make (Err e) n = tt
+
 pub step_in-credits : (rules : Rules) (past : List Event) (session : ℕ) (asked : Request) → OnlyByCommit asked (step_in rules past session asked)
 step_in-credits rules past session (request.Enter role flags) = inr tt
 step_in-credits rules past session request.Leave = inr tt
@@ -221,30 +226,17 @@ step_in-credits rules past session (request.Template template) =
     inr (not-credited reply.TemplateRefused (template_refusal rules.pool_script past template)
     (with_event (event.Template session template) (reply.Job (length (jobs_of past).all + 1))) tt)
 step_in-credits rules past session (request.Tip tip) =
-    inr (not-credited reply.TemplateRefused (tip_refusal past tip)
-    (with_event (event.Tip session tip)
-    (reply.Job (number_of (future_of (jobs_of past) tip.template_id)))) tt)
+    inr (not-credited_found reply.TemplateRefused (λ job. with_event (event.Tip session tip) (reply.Job job.number)) (tippable past tip) (λ job. tt))
 step_in-credits rules past session (request.Open ask) =
-    inr (not-credited reply.OpenRefused (open_refusal rules past session ask) (opening rules past session ask (lead_for past ask)) (by_lead (lead_for past ask))) where
-      by_lead : (o : Option (List ℕ)) → NoCredit (opening rules past session ask o).event
-      by_lead None = tt
-      by_lead (Some lead) = tt
+    inr (not-credited_found reply.OpenRefused (opening rules past session ask) (openable rules past session ask) (λ lead. tt))
 step_in-credits rules past session (request.Name id identity) =
-    inr (not-credited reply.NameRefused (name_refusal rules (account_of identity) (own_channel past session id))
-    (naming session id (account_of identity) (own_channel past session id)) (by_channel (own_channel past session id))) where
-      by_channel : (o : Option OpenChannel) → NoCredit (naming session id (account_of identity) o).event
-      by_channel None = tt
-      by_channel (Some c) =
-          cond_both (is_empty c.account) (with_event (event.Name session id (account_of identity)) reply.Named) (without_event reply.Named) (λ s. NoCredit s.event)
-          (λ t. tt) (λ f. tt)
+    inr (not-credited_found reply.NameRefused (naming session id (account_of identity)) (nameable rules (account_of identity) (own_channel past session id))
+    (λ c. cond_both (is_empty c.account) (with_event (event.Name session id (account_of identity)) reply.Named) (without_event reply.Named) (λ s. NoCredit s.event)
+    (λ t. tt) (λ f. tt)))
 step_in-credits rules past session (request.Update id target) =
-    inr (not-credited reply.UpdateRefused (update_refusal target (own_channel past session id))
-    (classing session id (class_for rules target) (own_channel past session id)) (by_channel (own_channel past session id))) where
-      by_channel : (o : Option OpenChannel) → NoCredit (classing session id (class_for rules target) o).event
-      by_channel None = tt
-      by_channel (Some c) =
-          cond_both (nat_eq (class_for rules target) (present_class c)) (without_event (reply.Target id (class_for rules target)))
-          (with_event (event.Class session id (class_for rules target)) (reply.Target id (class_for rules target))) (λ s. NoCredit s.event) (λ t. tt) (λ f. tt)
+    inr (not-credited_found reply.UpdateRefused (classing session id (class_for rules target)) (updatable target (own_channel past session id))
+    (λ c. cond_both (nat_eq (class_for rules target) (present_class c)) (without_event (reply.Target id (class_for rules target)))
+    (with_event (event.Class session id (class_for rules target)) (reply.Target id (class_for rules target))) (λ s. NoCredit s.event) (λ t. tt) (λ f. tt)))
 step_in-credits rules past session (request.Close id) = inr (by_channel (own_channel past session id)) where
   by_channel : (o : Option OpenChannel) → NoCredit (closing session id o).event
   by_channel None = tt

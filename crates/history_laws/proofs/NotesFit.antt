@@ -1,4 +1,5 @@
 -- The notes that a legal history owes fit their messages.
+use Rattle.pool_history.specs.Conditions.{found, provided}
 use Rattle.std.proofs.Common.{◌⊎◌, inl, inr, ◌≡◌, ℕ, ◌+◌, ◌<◌, ◌≤◌, ◌^◌, Bool, true, false, ◌&&◌, Option, None, Some, Ok, List, [], ◌∷◌, ◌++◌, length, map, refl, ap, subst, sym, ◌∙◌, arith, length-append}
 use Rattle.std.proofs.Math.Dec.{eqb}
 use Rattle.std.proofs.lemmas.Bool.{cond_both, eqb-true}
@@ -16,7 +17,7 @@ use Rattle.pool_history.specs.Channels.{OpenChannel, channel_in, channels_of}
 use Rattle.pool_history.specs.Crediting.{booked_with, credit_share, is_block, listed}
 use Rattle.pool_history.specs.Headers.{extranonce_prefix, rolled}
 use Rattle.pool_history.specs.Jobs.{FromMiner, FromTemplate, Job, Source, Standing, jobs_of, last_of, live_job, newest, with_template}
-use Rattle.pool_history.specs.Judging.{Admitted, Share, admitted, found, is_known_job, job_parts, provided, serves, is_in_time, is_version}
+use Rattle.pool_history.specs.Judging.{Admitted, Share, admitted, is_known_job, job_parts, serves, is_in_time, is_version}
 use Rattle.pool_history.specs.Legal.{LegalPast, cause_of, is_lead_length}
 use Rattle.pool_history.specs.News.{Audience, Group, Rolling, Single, alone, audience, job_note, live_ntime, news, opening_notes, owed, owed_by, present_notes, solution, solution_by, solution_notes, tip_note, tip_notes, told_of}
 use Rattle.pool_history.specs.Sessions.{opens, rules_of}

@@ -18,7 +18,7 @@ use Rattle.pool_history.specs.Channels.{OpenChannel, channel_in, channels_of, cl
 use Rattle.pool_history.specs.Crediting.{booked, first_failed}
 use Rattle.pool_history.specs.Jobs.{Job, jobs_of, live_job, state_of}
 use Rattle.pool_history.specs.Judging.{Admitted, admitted}
-use Rattle.pool_history.specs.Refusing.{class_of_target, lead_for, open_refusal, template_refusal}
+use Rattle.pool_history.specs.Refusing.{class_of_target, lead_for, openable, template_refusal}
 use Rattle.pool_history.specs.Spaces.{first_free, lowest}
 use Rattle.pool_history.proofs.Given.{extended_rolls, credits, tips, rules, template_of, tip_of, opened, templated, tipped, share}
 
@@ -62,7 +62,7 @@ pub lead_of_size_11 : lead_for opened (asks 11) ≡ Some (1 ∷ [])
 unfolding first_free
 lead_of_size_11 = refl
 
-pub size_12_refused : open_refusal rules opened 0 (asks 12) ≡ Some (open_error.SizeTooLarge 12)
+pub size_12_refused : openable rules opened 0 (asks 12) ≡ Err (open_error.SizeTooLarge 12)
 unfolding first_class
 size_12_refused = refl
 
@@ -84,7 +84,7 @@ unfolding first_class
 class-of_zero = refl
 
 -- an opening whose target has class 61
-pub class_61_refused : open_refusal rules opened 0 (record (asks 8) { max_target = replicate 24 0xff ++ 7 ∷ replicate 7 0 }) ≡ Some (open_error.TargetOutOfRange 61)
+pub class_61_refused : openable rules opened 0 (record (asks 8) { max_target = replicate 24 0xff ++ 7 ∷ replicate 7 0 }) ≡ Err (open_error.TargetOutOfRange 61)
 unfolding first_class
 class_61_refused = refl
 

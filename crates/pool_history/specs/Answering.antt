@@ -10,18 +10,17 @@ use Rattle.pool_history.specs.declared.events.Kind.{Kind}
 use Rattle.pool_history.specs.declared.events.Kind.TheVariants as kind
 use Rattle.pool_history.specs.declared.events.Role.{Role}
 use Rattle.pool_history.specs.declared.refusals.Failed.{Failed}
-use Rattle.pool_history.specs.declared.refusals.OpenError.TheVariants as open_error
 use Rattle.pool_history.specs.declared.replies.Reply.{Reply}
 use Rattle.pool_history.specs.declared.replies.Reply.TheVariants as reply
 use Rattle.pool_history.specs.declared.settings.Rules.{Rules}
 use Rattle.pool_history.specs.Accounts.{account_of, is_empty}
 use Rattle.pool_history.specs.Channels.{OpenChannel, present_class}
 use Rattle.pool_history.specs.Crediting.{last_failed, admitted_work}
-use Rattle.pool_history.specs.Jobs.{Job, future_of, jobs_of}
+use Rattle.pool_history.specs.Jobs.{jobs_of}
 use Rattle.pool_history.specs.Judging.{Admitted, Share, admitted, briefing_of, share_of}
 use Rattle.pool_history.specs.Legal.{allowed_flags, may_feed, may_mine, may_select_work}
 use Rattle.pool_history.specs.News.{news}
-use Rattle.pool_history.specs.Refusing.{class_for, custom_refusal, grant_refusal, lead_for, most_enters, name_refusal, open_refusal, own_channel, template_refusal, tip_refusal, update_refusal}
+use Rattle.pool_history.specs.Refusing.{class_for, custom_refusal, grant_refusal, most_enters, nameable, openable, own_channel, template_refusal, tippable, updatable}
 use Rattle.pool_history.specs.Sessions.{Entrance, enters, entrance, grants, opens, past_of, present, rules_of}
 
 -- one step of a history: the event that a request makes, if any, and its reply
@@ -42,10 +41,10 @@ abbrev pub unless_refused : {X : Type 0} → (X → Reply) → Option X → Effe
 unless_refused refuse (Some refusal) step = without_event (refuse refusal)
 unless_refused refuse None step = step
 
--- the number of the job that a tip makes live
-abbrev pub number_of : Option Job → ℕ
-number_of None = 0
-number_of (Some job) = job.number
+-- what was found makes the effect, and a refusal its reply
+abbrev pub with_found : {X C : Type 0} → (C → Reply) → (X → Effect) → Result X C → Effect
+with_found refuse make (Err refusal) = without_event (refuse refusal)
+with_found refuse make (Ok found) = make found
 
 -- the account that an opening says: none for V1
 abbrev pub account_for : Kind → List ℕ → List ℕ
@@ -54,23 +53,22 @@ account_for kind.Extended identity = account_of identity
 account_for kind.V1 identity = []
 
 -- a channel is opened with the lowest free lead
-abbrev pub opening : Rules → List Event → ℕ → OpenAsk → Option (List ℕ) → Effect
-opening rules past session ask None = without_event (reply.OpenRefused open_error.NoSpace)
-opening rules past session ask (Some lead) =
+abbrev pub opening : Rules → List Event → ℕ → OpenAsk → List ℕ → Effect
+opening rules past session ask lead =
     with_event (event.Open session ask.kind (account_for ask.kind ask.identity) (class_for rules ask.max_target) lead)
     (reply.Opened (record { channel = opens past + 1; class = class_for rules ask.max_target; lead = lead }))
 
 -- a channel gets its account, where it has none
-abbrev pub naming : ℕ → ℕ → List ℕ → Option OpenChannel → Effect
-naming session channel account None = without_event reply.NoSession
-naming session id account (Some channel) =
+abbrev pub naming : ℕ → ℕ → List ℕ → OpenChannel → Effect
+naming session id account channel =
     if is_empty channel.account then with_event (event.Name session id account) reply.Named else without_event reply.Named
 
 -- a channel gets its class, where it has another
-abbrev pub classing : ℕ → ℕ → ℕ → Option OpenChannel → Effect
-classing session id class None = without_event reply.NoSession
-classing session id class (Some channel) =
-    if class == present_class channel then without_event (reply.Target id class) else with_event (event.Class session id class) (reply.Target id class)
+abbrev pub classing : ℕ → ℕ → ℕ → OpenChannel → Effect
+classing session id class channel =
+    if class == present_class channel
+    then without_event (reply.Target id class)
+    else with_event (event.Class session id class) (reply.Target id class)
 
 -- a channel is closed
 abbrev pub closing : ℕ → ℕ → Option OpenChannel → Effect
@@ -132,16 +130,15 @@ step_in rules past session (request.Template template) =
     unless_refused reply.TemplateRefused (template_refusal rules.pool_script past template)
     (with_event (event.Template session template) (reply.Job (length (jobs_of past).all + 1)))
 step_in rules past session (request.Tip tip) =
-    unless_refused reply.TemplateRefused (tip_refusal past tip)
-    (with_event (event.Tip session tip) (reply.Job (number_of (future_of (jobs_of past) tip.template_id))))
+    with_found reply.TemplateRefused (λ job. with_event (event.Tip session tip) (reply.Job job.number)) (tippable past tip)
 step_in rules past session (request.Open ask) =
-    unless_refused reply.OpenRefused (open_refusal rules past session ask) (opening rules past session ask (lead_for past ask))
+    with_found reply.OpenRefused (opening rules past session ask) (openable rules past session ask)
 step_in rules past session (request.Name channel identity) =
-    unless_refused reply.NameRefused (name_refusal rules (account_of identity) (own_channel past session channel))
-    (naming session channel (account_of identity) (own_channel past session channel))
+    with_found reply.NameRefused (naming session channel (account_of identity))
+    (nameable rules (account_of identity) (own_channel past session channel))
 step_in rules past session (request.Update channel target) =
-    unless_refused reply.UpdateRefused (update_refusal target (own_channel past session channel))
-    (classing session channel (class_for rules target) (own_channel past session channel))
+    with_found reply.UpdateRefused (classing session channel (class_for rules target))
+    (updatable target (own_channel past session channel))
 step_in rules past session (request.Close channel) = closing session channel (own_channel past session channel)
 step_in rules past session (request.Brief sub) = briefing rules (admitted rules past session (share_of sub))
 step_in rules past session (request.Commit checked) =

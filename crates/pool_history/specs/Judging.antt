@@ -19,6 +19,7 @@ use Rattle.pool_history.specs.declared.templates.CustomData.{CustomData}
 use Rattle.pool_history.specs.declared.templates.TemplateData.{TemplateData}
 use Rattle.pool_history.specs.declared.templates.TipData.{TipData}
 use Rattle.pool_history.specs.Channels.{OpenChannel, channel_in, channels_of}
+use Rattle.pool_history.specs.Conditions.{found, provided}
 use Rattle.pool_history.specs.Headers.{Briefing, header_by, rolled}
 use Rattle.pool_history.specs.Jobs.{Source, FromTemplate, FromMiner, Job, Standing, is_open_to, jobs_of, live_job, numbered, state_of}
 
@@ -119,16 +120,6 @@ pub record Admitted : Type 0 where
 abbrev pub rebuilt : List ℕ → Admitted → Share → List ℕ
 rebuilt script admitted share =
     header_by (briefing_of script admitted.channel admitted.job.source admitted.tip) share.version share.ntime share.nonce share.extranonce
-
--- a value where a condition holds, and else the code of the condition
-abbrev pub provided : {X : Type 0} → Bool → Failed → X → Result X Failed
-provided true code x = Ok x
-provided false code x = Err code
-
--- a value that was found, and else the code
-abbrev pub found : {X : Type 0} → Failed → Option X → Result X Failed
-found code None = Err code
-found code (Some x) = Ok x
 
 -- two truths are the same
 abbrev pub agree : Bool → Bool → Bool

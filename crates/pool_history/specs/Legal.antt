@@ -1,5 +1,5 @@
 -- Which events are legal after others (this project's own). A condition is told by the cause that its failure has.
-use Rattle.std.specs.Prelude.{◌≡◌, ℕ, ◌==◌, ◌&&◌, Bool, true, false, not, if◌then◌else◌, Option, None, Some, is_some, List, [], ◌∷◌, length, bit_and, nat_le, nat_lt}
+use Rattle.std.specs.Prelude.{◌≡◌, ℕ, ◌==◌, ◌&&◌, Bool, true, false, not, if◌then◌else◌, Option, None, Some, is_some, Result, Ok, Err, List, [], ◌∷◌, length, bit_and, nat_le, nat_lt}
 use Rattle.std.specs.Int.{bit_at}
 use Rattle.std.specs.Str.{bytes_eq}
 use Rattle.pool_history.specs.declared.causes.Cause.{Cause}
@@ -19,7 +19,7 @@ use Rattle.pool_history.specs.Channels.{OpenChannel, channel_in, channels_of, pr
 use Rattle.pool_history.specs.Conditions.{first_false}
 use Rattle.pool_history.specs.Crediting.{first_failed}
 use Rattle.pool_history.specs.Judging.{is_standard}
-use Rattle.pool_history.specs.Refusing.{custom_refusal, grant_refusal, has_too_many, held_leads, most_enters, own_channel, template_refusal, tip_refusal}
+use Rattle.pool_history.specs.Refusing.{custom_refusal, grant_refusal, has_too_many, held_leads, most_enters, own_channel, template_refusal, tippable}
 use Rattle.pool_history.specs.Sessions.{Entrance, enters, entrance, feeds, is_present, mines, past_of, rules_of}
 use Rattle.pool_history.specs.Spaces.{lowest}
 
@@ -39,6 +39,11 @@ selects_work flags = bit_at flags 1 == 1
 abbrev pub refused_as : {X : Type 0} → Cause → Option X → Option Cause
 refused_as code None = None
 refused_as code (Some refusal) = Some code
+
+-- so is one in place of what was to be found
+abbrev pub unfound_as : {X C : Type 0} → Cause → Result X C → Option Cause
+unfound_as code (Ok x) = None
+unfound_as code (Err refusal) = Some code
 
 -- a share's failed condition is its cause
 abbrev pub failed_as : Option Failed → Option Cause
@@ -146,7 +151,7 @@ cause_by rules past (event.Leave session) = within may_anything past session Non
 cause_by rules past (event.Template session template) =
     within may_feed past session (refused_as cause.BadTemplate (template_refusal rules.pool_script past template))
 cause_by rules past (event.Tip session tip) =
-    within may_feed past session (refused_as cause.BadTip (tip_refusal past tip))
+    within may_feed past session (unfound_as cause.BadTip (tippable past tip))
 cause_by rules past (event.Open session kind account class lead) =
     within may_mine past session
     (first_false

@@ -33,7 +33,8 @@ use Rattle.pool_history.specs.declared.templates.TemplateData.{TemplateData}
 use Rattle.pool_history.specs.declared.templates.TipData.{TipData}
 use Rattle.pool_history.specs.Accounts.{account_of, is_empty, is_known}
 use Rattle.pool_history.specs.Channels.{OpenChannel, channel_in, channels_in, channels_of}
-use Rattle.pool_history.specs.Jobs.{Standing, future_of, has_template, jobs_of}
+use Rattle.pool_history.specs.Conditions.{first_false, found, provided, unless_refusal}
+use Rattle.pool_history.specs.Jobs.{Job, Standing, future_of, has_template, jobs_of}
 use Rattle.pool_history.specs.Judging.{custom_terms, template_terms}
 use Rattle.pool_history.specs.Sessions.{grants, opens, templates}
 use Rattle.pool_history.specs.Spaces.{lowest}
@@ -74,9 +75,9 @@ template_refusal script past template =
     else if not template.future_template && is_none (jobs_of past).tip then Some job.NoTip
     else coinbase_refusal (template_assembly (template_terms template) script)
 
--- why a tip is refused: no future job has its template
-abbrev pub tip_refusal : List Event → TipData → Option JobError
-tip_refusal past tip = if is_none (future_of (jobs_of past) tip.template_id) then Some (job.UnknownTemplate tip.template_id) else None
+-- the job that a tip makes live, or why the tip is refused: no future job has its template
+abbrev pub tippable : List Event → TipData → Result Job JobError
+tippable past tip = found (job.UnknownTemplate tip.template_id) (future_of (jobs_of past) tip.template_id)
 
 -- whether a channel of a kind is opened for a known account; a V1 channel is opened without one
 abbrev pub may_open : Rules → Kind → List ℕ → Bool
@@ -114,15 +115,24 @@ has_too_many past session = nat_le most_channels (open_count past session) || na
 abbrev pub lead_for : List Event → OpenAsk → Option (List ℕ)
 lead_for past ask = lowest (lead_length ask.kind ask.min_size) (held_leads past)
 
--- why a channel isn't opened
-abbrev pub open_refusal : Rules → List Event → ℕ → OpenAsk → Option OpenError
-open_refusal rules past session ask =
-    if not (may_open rules ask.kind (account_of ask.identity)) then Some open_error.UnknownUser
-    else if nat_lt 60 (class_of_target ask.max_target) then Some (open_error.TargetOutOfRange (class_of_target ask.max_target))
-    else if nat_lt 11 ask.min_size then Some (open_error.SizeTooLarge ask.min_size)
-    else if has_too_many past session then Some (open_error.TooManyChannels (open_count past session) (opens past))
-    else if is_none (lead_for past ask) then Some open_error.NoSpace
-    else None
+-- what an opening needs, and why it is refused where it hasn't it
+abbrev pub open_conditions : Rules → List Event → ℕ → OpenAsk → List (Bool × OpenError)
+open_conditions rules past session ask =
+    (may_open rules ask.kind (account_of ask.identity), open_error.UnknownUser)
+    ∷ (nat_le (class_of_target ask.max_target) 60, open_error.TargetOutOfRange (class_of_target ask.max_target))
+    ∷ (nat_le ask.min_size 11, open_error.SizeTooLarge ask.min_size)
+    ∷ (not (has_too_many past session), open_error.TooManyChannels (open_count past session) (opens past))
+    ∷ []
+
+-- the lead that an opening gets, where there is no refusal
+abbrev pub lead_unless : Option OpenError → Option (List ℕ) → Result (List ℕ) OpenError
+lead_unless (Some refusal) lead = Err refusal
+lead_unless None lead = found open_error.NoSpace lead
+
+-- the lead that an opening gets, or why it is refused; the last reason is that no lead is free
+abbrev pub openable : Rules → List Event → ℕ → OpenAsk → Result (List ℕ) OpenError
+openable rules past session ask =
+    lead_unless (first_false (open_conditions rules past session ask) None) (lead_for past ask)
 
 -- the open channel of a session
 abbrev pub own_channel : List Event → ℕ → ℕ → Option OpenChannel
@@ -132,17 +142,21 @@ own_channel past session id = channel_in (channels_in (channels_of past) session
 abbrev pub has_other : List ℕ → OpenChannel → Bool
 has_other account channel = not (is_empty channel.account) && not (bytes_eq channel.account account)
 
--- why a channel doesn't get an account
-abbrev pub name_refusal : Rules → List ℕ → Option OpenChannel → Option NameError
-name_refusal rules account None = Some name.NotOpen
-name_refusal rules account (Some channel) =
-    if not (is_known rules account) then Some name.UnknownUser else if has_other account channel then Some name.OtherAccount else None
+-- the channel that is named, or why it isn't
+abbrev pub nameable : Rules → List ℕ → Option OpenChannel → Result OpenChannel NameError
+nameable rules account None = Err name.NotOpen
+nameable rules account (Some channel) =
+    unless_refusal
+    (first_false
+    ((is_known rules account, name.UnknownUser)
+    ∷ (not (has_other account channel), name.OtherAccount)
+    ∷ []) None) channel
 
--- why a channel's class isn't set
-abbrev pub update_refusal : List ℕ → Option OpenChannel → Option UpdateError
-update_refusal target None = Some update.NotOpen
-update_refusal target (Some channel) =
-    if nat_lt 60 (class_of_target target) then Some (update.TargetOutOfRange (class_of_target target)) else None
+-- the channel whose class is set, or why it isn't
+abbrev pub updatable : List ℕ → Option OpenChannel → Result OpenChannel UpdateError
+updatable target None = Err update.NotOpen
+updatable target (Some channel) =
+    provided (nat_le (class_of_target target) 60) (update.TargetOutOfRange (class_of_target target)) channel
 
 -- why a token isn't granted for a path, none being no path
 abbrev pub grant_refusal : Rules → List Event → List ℕ → List (List ℕ) → Option GrantError
