@@ -151,7 +151,7 @@ credit-fits past session channel job nonce ntime version extranonce l g =
       some = subst (λ c. 1 ≤ length c.account) same (let few : 0 < length h.channel.account = ltb-true 0 (length h.channel.account) served in omega (arith, few));
       short = sized.account;
       least = work-least (admitted_class with);
-      most = work-most (admitted_class with) (sized.class with.job.live_at);
+      most = work-most (admitted_class with) (sized.class with.job.since);
       reward = λ reward told. block-pays (is_block g.rules.pool_script with share) (reward_of with.job.source) reward pays told;
     }
 

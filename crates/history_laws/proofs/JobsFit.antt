@@ -177,11 +177,11 @@ jobs-fit (event.Start first ∷ []) rules l are = record { future = λ j i. elim
 jobs-fit (event.Start first ∷ x ∷ older) rules l are = jobs-fit (x ∷ older) rules l.0 (sym (rules-older (event.Start first) x older) ∙ are)
 jobs-fit (event.Template session template ∷ older) rules l are =
     let s : Standing = jobs_of older in
-    fits-template rules.pool_script s (record { number = length s.all + 1; session = session; live_at = length older; source = FromTemplate template })
+    fits-template rules.pool_script s (record { number = length s.all + 1; session = session; since = length older; source = FromTemplate template })
     template.future_template (legal-template older rules session template are l.1) (jobs-fit older rules l.0 are)
 jobs-fit (event.Tip session tip ∷ older) rules l are = fits-tip rules.pool_script (jobs_of older) tip (length older) (jobs-fit older rules l.0 are)
 jobs-fit (event.Custom session custom ∷ older) rules l are =
     let s : Standing = jobs_of older in
-    fits-custom rules.pool_script s (record { number = length s.all + 1; session = 0; live_at = length older; source = FromMiner custom }) custom.channel_id (legal-custom older rules session custom are l.1)
+    fits-custom rules.pool_script s (record { number = length s.all + 1; session = 0; since = length older; source = FromMiner custom }) custom.channel_id (legal-custom older rules session custom are l.1)
     (jobs-fit older rules l.0 are)
 jobs-fit (e ∷ older) rules l are = jobs-fit older rules l.0 are

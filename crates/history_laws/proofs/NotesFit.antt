@@ -186,15 +186,15 @@ owed_by-fits rules (event.Open opening k account class lead) past told l are n =
     (λ t. opening_notes-fit rules (jobs_of past) (channel_in (channels_of (event.Open opening k account class lead ∷ past)) (opens past + 1)) (jobs-fit past rules l are))
     (λ f. tt)
 owed_by-fits rules (event.Template feed template) past told l are n =
-    let job : Job = record { number = length (jobs_of past).all + 1; session = feed; live_at = length past; source = FromTemplate template } in
+    let job : Job = record { number = length (jobs_of past).all + 1; session = feed; since = length past; source = FromTemplate template } in
     told_of-fit rules (live_ntime template.future_template (jobs_of past).tip) (audience past told)
     (last_of (jobs_of (event.Template feed template ∷ past)).all)
     (λ j is. subst (λ x. TemplateFits rules.pool_script x.source)
     (some-same (sym (all-of template.future_template) ∙ is)) (legal-template past rules feed template are n)) where
-      all-of : (future : Bool) → last_of (with_template (record { number = length (jobs_of past).all + 1; session = feed; live_at = length past; source = FromTemplate template }) future (jobs_of past)).all
-          ≡ Some (record { number = length (jobs_of past).all + 1; session = feed; live_at = length past; source = FromTemplate template })
-      all-of true = last-end (jobs_of past).all (record { number = length (jobs_of past).all + 1; session = feed; live_at = length past; source = FromTemplate template })
-      all-of false = last-end (jobs_of past).all (record { number = length (jobs_of past).all + 1; session = feed; live_at = length past; source = FromTemplate template })
+      all-of : (future : Bool) → last_of (with_template (record { number = length (jobs_of past).all + 1; session = feed; since = length past; source = FromTemplate template }) future (jobs_of past)).all
+          ≡ Some (record { number = length (jobs_of past).all + 1; session = feed; since = length past; source = FromTemplate template })
+      all-of true = last-end (jobs_of past).all (record { number = length (jobs_of past).all + 1; session = feed; since = length past; source = FromTemplate template })
+      all-of false = last-end (jobs_of past).all (record { number = length (jobs_of past).all + 1; session = feed; since = length past; source = FromTemplate template })
 owed_by-fits rules (event.Tip feed tip) past told l are n = tip_notes-fit tip (audience past told) (newest (jobs_of (event.Tip feed tip ∷ past)))
 owed_by-fits rules (event.Credit session channel job nonce ntime version extranonce) past told l are n =
     credit-fits rules past told session channel job nonce ntime version extranonce l are n

@@ -198,12 +198,12 @@ numbers-told [] = record {
 }
 numbers-told (Came at session template ∷ older) =
     let s : Standing = jobs_told older in
-    numbers-template s (record { number = length s.all + 1; session = session; live_at = at; source = FromTemplate template }) template.future_template refl
+    numbers-template s (record { number = length s.all + 1; session = session; since = at; source = FromTemplate template }) template.future_template refl
     (numbers-told older)
 numbers-told (Tipped at tip ∷ older) = numbers-tip (jobs_told older) at tip (numbers-told older)
 numbers-told (Brought at custom ∷ older) =
     let s : Standing = jobs_told older in
-    numbers-custom s (record { number = length s.all + 1; session = 0; live_at = at; source = FromMiner custom }) custom.channel_id refl
+    numbers-custom s (record { number = length s.all + 1; session = 0; since = at; source = FromMiner custom }) custom.channel_id refl
     (numbers-told older)
 
 -- a number that a list has is that of a job of it

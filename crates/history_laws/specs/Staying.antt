@@ -50,7 +50,7 @@ ClassesStay =
     (history more : List Event) (id number : ℕ) (before after : OpenChannel) (job later : Job)
     → channel_in (channels_of (past_of history)) id ≡ Some before → channel_in (channels_of (past_of (history ++ more))) id ≡ Some after
     → live_job (jobs_of (past_of history)) number ≡ Some job → live_job (jobs_of (past_of (history ++ more))) number ≡ Some later
-    → class_at after later.live_at ≡ class_at before job.live_at
+    → class_at after later.since ≡ class_at before job.since
 
 -- the rebuilt headers of the credits that stand never change, nor do their accounts, work and rewards
 pub record CreditsStand (history more : List Event) : Type 0 where

@@ -97,7 +97,7 @@ next_job = event.Template 0 (template_of 6 false) ∷ reclassed
 
 -- the class of channel 1 at a job
 abbrev pub class_with : Option OpenChannel → Option Job → Option ℕ
-class_with (Some channel) (Some job) = Some (class_at channel job.live_at)
+class_with (Some channel) (Some job) = Some (class_at channel job.since)
 class_with channel job = None
 
 abbrev pub class_for : List Event → ℕ → Option ℕ

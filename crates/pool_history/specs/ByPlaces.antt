@@ -16,9 +16,9 @@ use Rattle.pool_history.specs.Sessions.{past_of}
 abbrev pub jobs_from : ℕ → ℕ → List Event → List Job
 jobs_from at number [] = []
 jobs_from at number (event.Template session template ∷ more) =
-    record { number = number; session = session; live_at = at; source = FromTemplate template } ∷ jobs_from (at + 1) (number + 1) more
+    record { number = number; session = session; since = at; source = FromTemplate template } ∷ jobs_from (at + 1) (number + 1) more
 jobs_from at number (event.Custom session custom ∷ more) =
-    record { number = number; session = 0; live_at = at; source = FromMiner custom } ∷ jobs_from (at + 1) (number + 1) more
+    record { number = number; session = 0; since = at; source = FromMiner custom } ∷ jobs_from (at + 1) (number + 1) more
 jobs_from at number (event ∷ more) = jobs_from (at + 1) number more
 
 -- job j is the j-th Template or Custom event, counted from 1
@@ -43,7 +43,7 @@ tip_in history = last_tip 0 None history
 -- a job is late where it comes after the tip; all are where there is none
 abbrev pub is_late : Option TipAt → Job → Bool
 is_late None job = true
-is_late (Some tipped) job = nat_lt tipped.at job.live_at
+is_late (Some tipped) job = nat_lt tipped.at job.since
 
 -- the late jobs
 abbrev pub late : List Event → List Job
@@ -115,12 +115,12 @@ class_of_last (set ∷ more) opening = class_of_last more set.class
 
 -- the class of a channel before a place: that of its last Class event before it, or else of its opening
 abbrev pub class_at_place : List Event → ℕ → ℕ → ℕ → ℕ
-class_at_place history id live_at opening = class_of_last (filter (λ set. nat_lt set.at live_at) (sets_from 0 0 id history)) opening
+class_at_place history id since opening = class_of_last (filter (λ set. nat_lt set.at since) (sets_from 0 0 id history)) opening
 
 -- an open channel has the class of its opening, and at each place the class that the words say
 pub record HasClasses (history : List Event) (channel : OpenChannel) : Type 0 where
   pub opening : opening_class_from 0 channel.id history ≡ Some channel.opening_class
-  pub class : (live_at : ℕ) → class_at channel live_at ≡ class_at_place history channel.id live_at channel.opening_class
+  pub class : (since : ℕ) → class_at channel since ≡ class_at_place history channel.id since channel.opening_class
 
 -- so has each open channel of a history
 abbrev pub ClassesByPlaces : Type 0

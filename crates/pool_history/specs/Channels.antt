@@ -93,7 +93,7 @@ class_before place (set ∷ older) opening = if nat_lt set.at place then set.cla
 
 -- the class at a job: the channel's last class that was set before the job's place
 abbrev pub class_at : OpenChannel → ℕ → ℕ
-class_at channel live_at = class_before live_at channel.sets channel.opening_class
+class_at channel since = class_before since channel.sets channel.opening_class
 
 -- a session's group of channels
 abbrev pub group_id : ℕ → ℕ

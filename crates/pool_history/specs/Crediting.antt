@@ -20,7 +20,7 @@ use Rattle.pool_history.specs.Sessions.{credits, script_of}
 
 -- the class at the job of a share: a later class doesn't change it
 abbrev pub admitted_class : Admitted → ℕ
-admitted_class share = class_at share.channel share.job.live_at
+admitted_class share = class_at share.channel share.job.since
 
 -- the work of a share
 abbrev pub admitted_work : Admitted → ℕ

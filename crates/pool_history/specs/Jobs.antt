@@ -21,12 +21,12 @@ pub data Source : Type 0 where
   FromTemplate : TemplateData → Source
   FromMiner : CustomData → Source
 
--- a job: its number, the session that sent its template (0 for a miner's own), the place of the tip that made it live
--- or else of its own event, and what it is made from
+-- a job: its number, the session that sent its template (0 for a miner's own), the place since when it stands where it
+-- does, and what it is made from; that place is its own event's, and among the live jobs the tip's that made it live
 pub record Job : Type 0 where
   pub number : ℕ
   pub session : ℕ
-  pub live_at : ℕ
+  pub since : ℕ
   pub source : Source
 
 -- all jobs as they came, those of templates that are future or live, the miners' own that are live, and the last tip
@@ -63,7 +63,7 @@ future_in future id = find (λ job. has_template id job.source) future
 -- the job that a tip made live, if there was one
 abbrev pub made_live : ℕ → Option Job → List Job
 made_live at None = []
-made_live at (Some job) = record job { live_at = at } ∷ []
+made_live at (Some job) = record job { since = at } ∷ []
 
 -- without the first of a channel's own
 abbrev pub without_first : ℕ → List Job → List Job
@@ -92,10 +92,10 @@ with_custom job channel standing =
 -- one more move
 abbrev pub moved : JobMove → Standing → Standing
 moved (Came at session template) standing =
-    with_template (record { number = length standing.all + 1; session = session; live_at = at; source = FromTemplate template }) template.future_template standing
+    with_template (record { number = length standing.all + 1; session = session; since = at; source = FromTemplate template }) template.future_template standing
 moved (Tipped at tip) standing = with_tip at tip standing
 moved (Brought at custom) standing =
-    with_custom (record { number = length standing.all + 1; session = 0; live_at = at; source = FromMiner custom }) custom.channel_id standing
+    with_custom (record { number = length standing.all + 1; session = 0; since = at; source = FromMiner custom }) custom.channel_id standing
 
 -- the jobs after these moves, the last of which stands first
 abbrev pub jobs_told : List JobMove → Standing

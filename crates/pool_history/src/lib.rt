@@ -4,6 +4,7 @@
 
 mod asking;
 mod causes;
+mod codes;
 mod events;
 mod laws;
 mod leads;
