@@ -6,6 +6,7 @@ pub mod Causes
 pub mod ChannelsFit
 pub mod Coinbases
 pub mod Counted
+pub mod CreditedHeaders
 pub mod Crediting
 pub mod CreditsFit
 pub mod EnteredBefore
@@ -18,6 +19,7 @@ pub mod Keeping
 pub mod Legalities
 pub mod Living
 pub mod Lowest
+pub mod NineProved
 pub mod NotesFit
 pub mod Numbering
 pub mod Opening

@@ -4,6 +4,7 @@
 #![tactic(auto)]
 
 mod answers;
+mod conditions;
 mod credited;
 mod legality;
 mod limits;
@@ -18,6 +19,7 @@ pub use answers::{
     answers_fit, answers_keep_legality, credits_are_committed, shares_are_briefed,
     shares_are_judged, shares_need_a_session,
 };
+pub use conditions::{conditions_stand_by_themselves, headers_by_places};
 pub use credited::{credits_are_booked, credits_fit, no_share_twice};
 pub use legality::{
     empty_is_legal, first_illegal_is_one, legal_histories_start, legality_by_places,
