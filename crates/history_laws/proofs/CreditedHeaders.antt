@@ -9,12 +9,14 @@ use Rattle.std.specs.Str.{bytes_eq}
 use Rattle.pool_history.specs.declared.events.Event.{Event}
 use Rattle.pool_history.specs.declared.events.Event.TheVariants as event
 use Rattle.pool_history.specs.Crediting.{booked_with, credit_share, headers, listed}
-use Rattle.pool_history.specs.Judging.{Admitted, rebuilt}
+use Rattle.pool_history.specs.Judging.{Admitted, Share, rebuilt}
+use Rattle.pool_history.specs.Legal.{Legal}
 use Rattle.pool_history.specs.Sessions.{past_of, script_of}
+use Rattle.history_laws.specs.Credited.{CreditsHaveHeaders, IsBookedAfter, share_in}
 use Rattle.history_laws.specs.NineConditions.{HasCredited, HeadersByPlaces}
-use Rattle.history_laws.proofs.Crediting.{Added, added-later}
+use Rattle.history_laws.proofs.Crediting.{Added, added-later, credits-booked}
 use Rattle.history_laws.proofs.Holding.{bytes_eq-self}
-use Rattle.history_laws.proofs.Legalities.{past-append, past-one}
+use Rattle.history_laws.proofs.Legalities.{past-append, past-one, prefixes_legal}
 
 -- one event more
 further : (older : List Event) (e : Event) (header : List ℕ) → HasCredited (reverse older) header → HasCredited (reverse (e ∷ older)) header
@@ -102,3 +104,21 @@ headers-placed history header = (
   λ h. subst (λ l. HasCredited l header) (reverse-reverse history) (credited-there (past_of history) header h),
   λ c. among-headers history header c,
 )
+
+pub credits-have_headers : CreditsHaveHeaders
+credits-have_headers before after session channel job nonce ntime version extranonce l =
+    let c : Event = event.Credit session channel job nonce ntime version extranonce in
+    let share : Share = share_in before channel job nonce ntime version extranonce in
+    let front : Legal (before ++ c ∷ []) = prefixes_legal (before ++ c ∷ []) after (subst Legal (sym (append_assoc before (c ∷ []) after)) l) in
+    let was : IsBookedAfter before session share c = credits-booked before session channel job nonce ntime version extranonce front in
+    let header : List ℕ = rebuilt was.rules.pool_script was.with share in
+    let a : Added (past_of after) (past_of (before ++ c ∷ [])) = added-later (past_of after) (past_of (before ++ c ∷ [])) in
+    let all : headers (past_of (before ++ c ∷ after)) ≡ a.more_headers ++ header ∷ headers (past_of before) =
+    ap (λ h. headers (past_of h)) (sym (append_assoc before (c ∷ []) after)) ∙ ap headers (past-append (before ++ c ∷ []) after)
+    ∙ a.headers_are ∙ ap (λ l. a.more_headers ++ l) was.header in
+    record {
+      was = was;
+      among = ap (list_any (bytes_eq header)) all ∙ list_any-append (bytes_eq header) a.more_headers (header ∷ headers (past_of before))
+          ∙ or_right (list_any (bytes_eq header) a.more_headers) (list_any (bytes_eq header) (header ∷ headers (past_of before)))
+          (or_left (bytes_eq header header) (list_any (bytes_eq header) (headers (past_of before))) (bytes_eq-self header));
+    }

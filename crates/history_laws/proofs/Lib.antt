@@ -1,5 +1,6 @@
 pub mod Allowed
 pub mod Answering
+pub mod BriefsRoll
 pub mod Called
 pub mod CallsServed
 pub mod Causes
@@ -19,6 +20,7 @@ pub mod Keeping
 pub mod Legalities
 pub mod Living
 pub mod Lowest
+pub mod NewsPlaced
 pub mod NineProved
 pub mod NotesFit
 pub mod Numbering

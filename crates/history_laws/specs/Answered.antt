@@ -1,5 +1,5 @@
 -- Answers keep a history legal, and credit a share exactly where no condition fails (this project's own).
-use Rattle.std.specs.Prelude.{IsTrue, ◌≡◌, ◌↔◌, ◌⊎◌, ℕ, None, Some, Ok, List, [], ◌∷◌, ◌++◌, Bool, true, false, Option}
+use Rattle.std.specs.Prelude.{IsTrue, ◌≡◌, ◌↔◌, ◌⊎◌, ℕ, None, Some, Ok, List, [], ◌∷◌, ◌++◌, Bool, true, false, Option, length}
 use Rattle.pool_history.specs.declared.asking.Request.{Request}
 use Rattle.pool_history.specs.declared.asking.Request.TheVariants as request
 use Rattle.pool_history.specs.declared.events.Event.{Event}
@@ -13,6 +13,7 @@ use Rattle.pool_history.specs.declared.shares.Checked.{Checked}
 use Rattle.pool_history.specs.declared.shares.Submission.{Submission}
 use Rattle.pool_history.specs.Answering.{Answer}
 use Rattle.pool_history.specs.Crediting.{first_failed, admitted_work}
+use Rattle.pool_history.specs.Headers.{Briefing, rolled}
 use Rattle.pool_history.specs.Judging.{Admitted, Share, admitted, briefing_of, share_of}
 use Rattle.pool_history.specs.Legal.{Legal, may_mine}
 use Rattle.pool_history.specs.Sessions.{Entrance, entrance, past_of, present, rules_of}
@@ -110,3 +111,10 @@ abbrev pub CreditsAreCommitted : Type 0
 CreditsAreCommitted =
     (history : List Event) (worker : ℕ) (asked : Request) (answer : Reply) (session : ℕ) (share : Share)
     → Answer history worker asked (credit_of session share ∷ []) answer → IsCommitted history worker asked session share
+
+-- where a submission is answered by a Brief, it has just the bytes that the Brief's kind and lead roll
+abbrev pub BriefsRoll : Type 0
+BriefsRoll =
+    (history : List Event) (worker : ℕ) (sub : Submission) (events : List Event) (brief : Briefing)
+    → Answer history worker (request.Brief sub) events (reply.Brief brief)
+    → length (share_of sub).extranonce ≡ rolled brief.kind brief.lead

@@ -1,6 +1,7 @@
 -- What the credits of a legal history are (this project's own).
 use Rattle.std.specs.Prelude.{◌<◌, ◌≤◌, ◌^◌, ◌≡◌, ℕ, Some, Ok, List, [], ◌∷◌, ◌++◌, length, IsTrue}
-use Rattle.std.specs.List.{AllByRecursion}
+use Rattle.std.specs.List.{AllByRecursion, list_any}
+use Rattle.std.specs.Str.{bytes_eq}
 use Rattle.block_header.specs.Hash.{dsha, meets}
 use Rattle.pool_history.specs.declared.events.Event.{Event}
 use Rattle.pool_history.specs.declared.events.Event.TheVariants as event
@@ -42,6 +43,19 @@ CreditsAreBooked =
     (history : List Event) (session channel job nonce ntime version : ℕ) (extranonce : List ℕ)
     → Legal (history ++ event.Credit session channel job nonce ntime version extranonce ∷ [])
     → IsBookedAfter history session (share_in history channel job nonce ntime version extranonce) (event.Credit session channel job nonce ntime version extranonce)
+
+-- the header of a Credit, with what it was booked with, is among those that no later share may have
+pub record HasItsHeader (before after : List Event) (session : ℕ) (share : Share) (credit : Event) : Type 0 where
+  pub was : IsBookedAfter before session share credit
+  pub among : IsTrue (list_any (bytes_eq (rebuilt was.rules.pool_script was.with share)) (headers (past_of (before ++ credit ∷ after))))
+
+-- so is that of each Credit of a legal history
+abbrev pub CreditsHaveHeaders : Type 0
+CreditsHaveHeaders =
+    (before after : List Event) (session channel job nonce ntime version : ℕ) (extranonce : List ℕ)
+    → Legal (before ++ event.Credit session channel job nonce ntime version extranonce ∷ after)
+    → HasItsHeader before after session (share_in before channel job nonce ntime version extranonce)
+    (event.Credit session channel job nonce ntime version extranonce)
 
 -- in a legal history each credit has its header, its account, work and reward, and no header stands twice: a share is
 -- credited once

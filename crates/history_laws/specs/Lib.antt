@@ -5,6 +5,7 @@ pub mod Fitting
 pub mod Legality
 pub mod Limits
 pub mod Lowest
+pub mod News
 pub mod NineConditions
 pub mod Numbering
 pub mod OneMore

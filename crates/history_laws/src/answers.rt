@@ -1,6 +1,6 @@
 //! What answers do to a legal history.
 
-ghost use Rattle.history_laws.specs.Answered.{AnswersKeepLegality, CreditsAreCommitted, SharesAreBriefed, SharesAreJudged, SharesNeedASession};
+ghost use Rattle.history_laws.specs.Answered.{AnswersKeepLegality, BriefsRoll, CreditsAreCommitted, SharesAreBriefed, SharesAreJudged, SharesNeedASession};
 ghost use Rattle.history_laws.specs.Fitting.{AnswersFit};
 
 /// The events of an answer keep a legal history legal.
@@ -18,6 +18,11 @@ pub fn shares_are_judged()
 /// where that is one of the first six, and else told what its header is made of.
 pub fn shares_are_briefed()
     ensures { SharesAreBriefed }
+{}
+
+/// A submission that is answered by a Brief has just the bytes that the Brief's kind and lead roll.
+pub fn briefs_roll()
+    ensures { BriefsRoll }
 {}
 
 /// A worker may submit shares, or each of its shares is answered that it has no session, without event.

@@ -1,11 +1,16 @@
 //! What the credits of a legal history are.
 
-ghost use Rattle.history_laws.specs.Credited.{CreditsAreBooked, CreditsFit, NoShareTwice};
+ghost use Rattle.history_laws.specs.Credited.{CreditsAreBooked, CreditsFit, CreditsHaveHeaders, NoShareTwice};
 
 /// A credit was admitted with the channel, the job and the tip that it is booked with, its hash meets its class,
 /// and its header and its work are added to those of the earlier ones.
 pub fn credits_are_booked()
     ensures { CreditsAreBooked }
+{}
+
+/// The header of each Credit of a legal history is among those that no later share may have.
+pub fn credits_have_headers()
+    ensures { CreditsHaveHeaders }
 {}
 
 /// In a legal history no header is credited twice.

@@ -8,6 +8,7 @@ mod conditions;
 mod credited;
 mod legality;
 mod limits;
+mod news;
 mod one_more;
 mod openings;
 mod places;
@@ -16,16 +17,17 @@ mod spaces;
 mod staying;
 
 pub use answers::{
-    answers_fit, answers_keep_legality, credits_are_committed, shares_are_briefed,
+    answers_fit, answers_keep_legality, briefs_roll, credits_are_committed, shares_are_briefed,
     shares_are_judged, shares_need_a_session,
 };
 pub use conditions::{conditions_stand_by_themselves, headers_by_places};
-pub use credited::{credits_are_booked, credits_fit, no_share_twice};
+pub use credited::{credits_are_booked, credits_fit, credits_have_headers, no_share_twice};
 pub use legality::{
     empty_is_legal, first_illegal_is_one, legal_histories_start, legality_by_places,
     legality_is_decided, one_more_is_legal, prefixes_are_legal, start_is_legal,
 };
 pub use limits::{jobs_spend_tokens, legal_histories_keep_limits};
+pub use news::{news_by_places, news_go_on};
 pub use one_more::{
     channels_one_more, counts_one_more, credits_one_more, entrances_one_more, grants_one_more,
     headers_one_more, jobs_one_more, present_one_more, rules_one_more, spending_one_more,
