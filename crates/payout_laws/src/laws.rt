@@ -5,6 +5,7 @@ ghost use Rattle.payout_laws.specs.Conservation.{RewardsAreConserved};
 ghost use Rattle.payout_laws.specs.Payouts.{BalancesAreSums, PayoutsAreQuotients};
 ghost use Rattle.payout_laws.specs.Placed.{BlocksByPlaces};
 ghost use Rattle.payout_laws.specs.Summaries.{SummariesAreOfBlocks};
+ghost use Rattle.payout_laws.specs.Weights.{PayoutsByPlaces, WeightsByPlaces};
 
 /// Each block of a legal history: its reward is its payouts plus the pool's part. The part beyond the fee is
 /// less than one satoshi for each account with a weight, and each payout is its exact share, rounded down.
@@ -15,6 +16,18 @@ pub fn rewards_are_conserved()
 /// An account is paid the quotient of its weight by all weights, and nothing without a weight.
 pub fn payouts_are_quotients()
     ensures { PayoutsAreQuotients }
+{}
+
+/// An account's weight in a block is the sum of its credits' parts, each by its place: by the proportional rule its work
+/// where no block stands between, by PPLNS what the window has left after the work behind it. All weights are the sum
+/// of all parts.
+pub fn weights_by_places()
+    ensures { WeightsByPlaces }
+{}
+
+/// An account is paid the quotient of its weight by places by all weights by places, of the reward after the fee.
+pub fn payouts_by_places()
+    ensures { PayoutsByPlaces }
 {}
 
 /// The blocks are the credits with a reward, each with the credits up to it, and no others.
