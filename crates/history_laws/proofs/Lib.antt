@@ -15,6 +15,7 @@ pub mod Entrances
 pub mod Fronts
 pub mod Holding
 pub mod JobsFit
+pub mod JobsKept
 pub mod Judged
 pub mod Keeping
 pub mod Legalities

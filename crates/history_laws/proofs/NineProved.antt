@@ -186,8 +186,11 @@ new : (rules : Rules) (h : List Event) (session : ℕ) (share : Share) (with : A
     → FailsFirst (Holds rules h session share) (failed.Duplicate ∷ failed.Full ∷ [])
     (or_code (not b) failed.Duplicate (or_code (nat_lt (credits (past_of h)) rules.credit_limit) failed.Full None))
 new rules h session share with is true t =
-    inl (λ n. n.not_credited (subst (λ w. HasCredited h (rebuilt rules.pool_script w share)) (with-one h share with n.with is n.is_with)
-    ((headers-placed h (rebuilt rules.pool_script with share)).0 t)), refl)
+    inl (
+      λ n. n.not_credited (subst (λ w. HasCredited h (rebuilt rules.pool_script w share)) (with-one h share with n.with is n.is_with)
+          ((headers-placed h (rebuilt rules.pool_script with share)).0 t)),
+      refl,
+    )
 new rules h session share with is false f = inr (
   record {
     with = with;
@@ -213,8 +216,8 @@ hard rules h session share with is true t = inr (
 )
 hard rules h session share with is false f = inl (
   λ m.
-  let same : m.with ≡ with = with-one h share m.with with m.is_with is in
-  false≢true (sym f ∙ ap (meets (dsha (rebuilt rules.pool_script with share))) (class-placed h share with (channel-back h share.channel with.channel is.is_open))
+      let same : m.with ≡ with = with-one h share m.with with m.is_with is in
+      false≢true (sym f ∙ ap (meets (dsha (rebuilt rules.pool_script with share))) (class-placed h share with (channel-back h share.channel with.channel is.is_open))
       ∙ subst (λ w. meets (dsha (rebuilt rules.pool_script w share)) (class_at_place h w.channel.id w.job.since w.channel.opening_class) ≡ true) same m.meets_class),
   refl,
 )
@@ -246,12 +249,12 @@ in-time rules h session share with is true t =
     )
 in-time rules h session share with is false f = inl (
   λ w.
-  let jobs : w.job ≡ with.job = some-same (sym w.is_job ∙ is.is_job) in
-  let tips : w.tip ≡ with.tip = some-same (sym w.is_tip ∙ is.is_tip) in
-  let holds : is_in_time rules w.job.source w.tip share.ntime ≡ true =
-  and_from (nat_le (min_ntime_of w.job.source w.tip) share.ntime) (nat_le share.ntime (min_ntime_of w.job.source w.tip + rules.ntime_window))
-  (le-leb (min_ntime_of w.job.source w.tip) share.ntime w.least) (le-leb share.ntime (min_ntime_of w.job.source w.tip + rules.ntime_window) w.most) in
-  false≢true (sym f ∙ ap (λ j. is_in_time rules j.source with.tip share.ntime) (sym jobs) ∙ ap (λ u. is_in_time rules w.job.source u share.ntime) (sym tips) ∙ holds),
+      let jobs : w.job ≡ with.job = some-same (sym w.is_job ∙ is.is_job) in
+      let tips : w.tip ≡ with.tip = some-same (sym w.is_tip ∙ is.is_tip) in
+      let holds : is_in_time rules w.job.source w.tip share.ntime ≡ true =
+      and_from (nat_le (min_ntime_of w.job.source w.tip) share.ntime) (nat_le share.ntime (min_ntime_of w.job.source w.tip + rules.ntime_window))
+      (le-leb (min_ntime_of w.job.source w.tip) share.ntime w.least) (le-leb share.ntime (min_ntime_of w.job.source w.tip + rules.ntime_window) w.most) in
+      false≢true (sym f ∙ ap (λ j. is_in_time rules j.source with.tip share.ntime) (sym jobs) ∙ ap (λ u. is_in_time rules w.job.source u share.ntime) (sym tips) ∙ holds),
   refl,
 )
 
@@ -270,8 +273,8 @@ in-version rules h session share with is true t = inr (
 )
 in-version rules h session share with is false f = inl (
   λ v.
-  let jobs : v.job ≡ with.job = some-same (sym v.is_job ∙ is.is_job) in
-  false≢true (sym f ∙ eq-eqb (outside (rolling_mask rules) share.version) (outside (rolling_mask rules) (version_of with.job.source))
+      let jobs : v.job ≡ with.job = some-same (sym v.is_job ∙ is.is_job) in
+      false≢true (sym f ∙ eq-eqb (outside (rolling_mask rules) share.version) (outside (rolling_mask rules) (version_of with.job.source))
       (v.same ∙ ap (λ j. outside (rolling_mask rules) (version_of j.source)) jobs)),
   refl,
 )
@@ -292,7 +295,7 @@ by-tip rules h session share c job there live m (Some tip) is =
     inr (
       record { live = (λ f. m.not_future f, found-live h share.job job live); tip = tip; is_tip = is_tip },
       in-version rules h session share (record { channel = c; job = job; tip = tip }) (record { is_open = there; is_job = live; is_tip = is_tip })
-      (is_version rules job.source share.version) refl,
+          (is_version rules job.source share.version) refl,
     )
 
 by-job : (rules : Rules) (h : List Event) (session : ℕ) (share : Share) (c : OpenChannel) → NamesChannel h share c → IsMineable h share
@@ -327,8 +330,8 @@ by-size rules h session share c there true t = inr (
 )
 by-size rules h session share c there false f = inl (
   λ r.
-  let same : r.channel ≡ c = some-same (sym r.is_open ∙ there) in
-  false≢true (sym f ∙ eq-eqb (length share.extranonce) (rolled c.kind c.lead) (r.long ∙ ap (λ d. rolled d.kind d.lead) same)),
+      let same : r.channel ≡ c = some-same (sym r.is_open ∙ there) in
+      false≢true (sym f ∙ eq-eqb (length share.extranonce) (rolled c.kind c.lead) (r.long ∙ ap (λ d. rolled d.kind d.lead) same)),
   refl,
 )
 

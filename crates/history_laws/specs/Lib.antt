@@ -2,6 +2,7 @@ pub mod Answered
 pub mod Apart
 pub mod Credited
 pub mod Fitting
+pub mod KeptJobs
 pub mod Legality
 pub mod Limits
 pub mod Lowest

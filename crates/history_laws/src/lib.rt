@@ -6,6 +6,7 @@
 mod answers;
 mod conditions;
 mod credited;
+mod kept_jobs;
 mod legality;
 mod limits;
 mod news;
@@ -22,6 +23,7 @@ pub use answers::{
 };
 pub use conditions::{conditions_stand_by_themselves, headers_by_places};
 pub use credited::{credits_are_booked, credits_fit, credits_have_headers, no_share_twice};
+pub use kept_jobs::{kept_jobs_move, kept_jobs_suffice};
 pub use legality::{
     empty_is_legal, first_illegal_is_one, legal_histories_start, legality_by_places,
     legality_is_decided, one_more_is_legal, prefixes_are_legal, start_is_legal,
