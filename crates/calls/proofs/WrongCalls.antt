@@ -1,7 +1,8 @@
 -- What one might believe of calls and is false, each refuted by a few calls.
-use Rattle.std.proofs.Common.{◌≡◌, ℕ, ◌+◌, Bool, false, List, [], ◌∷◌, ◌++◌, length, take, refl, ap, ◌∙◌, arith}
+use Rattle.std.proofs.Common.{◌≡◌, ℕ, ◌+◌, Bool, false, List, [], ◌∷◌, ◌++◌, ◌^◌, ◌-◌, length, take, refl, ap, ◌∙◌, arith}
 use Rattle.std.proofs.lemmas.List.{length-append}
 use Rattle.std.proofs.lemmas.List.Sorted.{IsPermutation-refl, IsPermutation-swap}
+use Rattle.pool_base.specs.Counts.{Rose}
 use Rattle.calls.specs.Calls.{Call, IsOutcome, Outcome, Parted, PartsFrom, Replied, Faulted, RiseFrom}
 use Rattle.calls.specs.Standing.{StandInOrder, StandsBehind}
 
@@ -70,3 +71,10 @@ no-behind h =
 
 pub no-all_in_order : AllStandInOrder → ⊥
 no-all_in_order law = no-behind (law (9 ∷ []) (9 ∷ 10 ∷ 11 ∷ []) 0 1 (second ∷ first ∷ []) both-part_turned).0.0
+
+-- a count that stands at its last value meets that it rose, and no other that stands still does
+pub rose-at_end : Rose (2 ^ 64 - 1) (2 ^ 64 - 1)
+rose-at_end = omega arith
+
+pub no-rise : Rose 5 5 → ⊥
+no-rise rose = omega (arith, rose)
