@@ -21,6 +21,7 @@ pub mod Keeping
 pub mod Legalities
 pub mod Living
 pub mod Lowest
+pub mod MemoryFree
 pub mod NewsPlaced
 pub mod NineProved
 pub mod NotesFit

@@ -1,5 +1,5 @@
 -- The replies to requests on a legal history are of the types that keep them.
-use Rattle.std.proofs.Common.{◌≡◌, ℕ, ◌+◌, ◌≤◌, true, false, Option, None, Some, Result, Ok, Err, List, [], length, min, refl, subst, sym}
+use Rattle.std.proofs.Common.{◌≡◌, ℕ, ◌+◌, ◌≤◌, Bool, true, false, Option, None, Some, Result, Ok, Err, List, [], length, min, refl, subst, sym}
 use Rattle.std.proofs.lemmas.Bool.{and_parts, cond_both, leb-true, ltb-false, ltb-true}
 use Rattle.std.specs.Prelude.{bit_and, nat_eq, nat_le, nat_lt}
 use Rattle.pool_history.specs.declared.asking.OpenAsk.{OpenAsk}
@@ -22,7 +22,8 @@ use Rattle.pool_history.specs.Legal.{LegalPast, allowed_flags, is_just, is_lead_
 use Rattle.pool_history.specs.Refusing.{class_for, class_of_target, custom_refusal, grant_refusal, held_leads, lead_for, most_enters, nameable, openable, own_channel, template_refusal, tippable, updatable}
 use Rattle.pool_history.specs.Sessions.{Entrance, enters, entrance, grants, past_of, present, rules_of}
 use Rattle.pool_history.specs.Spaces.{lowest}
-use Rattle.history_laws.specs.Fitting.{AnswersFit, ReplyFits, ScriptFits}
+use Rattle.history_laws.specs.Fitting.{AnswersFit, ReplyFits, ScriptFits, custom_wants_memory, job_wants_memory, name_wants_memory, open_wants_memory}
+use Rattle.history_laws.proofs.MemoryFree.{Free, custom-free, free-err, name-free, open-free, template-free, tip-free}
 use Rattle.history_laws.proofs.Answering.{IsOpen, lead-next, was-openable, was-updatable}
 use Rattle.history_laws.proofs.ChannelsFit.{briefing-lead, lead-few, open-has_lead}
 use Rattle.history_laws.proofs.Crediting.{admitted-booked, booked-channel}
@@ -34,6 +35,12 @@ pub unless-reply : {X : Type 0} (P : Reply → Type 0) (refuse : X → Reply) (r
     → P (unless_refused refuse r made).reply
 unless-reply P refuse None made refused made-fits = made-fits refl
 unless-reply P refuse (Some x) made refused made-fits = refused x
+
+-- the same of a refusal that isn't want of memory
+pub unless-free_reply : {X : Type 0} (P : Reply → Type 0) (wants : X → Bool) (refuse : X → Reply) (r : Option X) (made : Effect) → Free wants r
+    → ((x : X) → wants x ≡ false → P (refuse x)) → P made.reply → P (unless_refused refuse r made).reply
+unless-free_reply P wants refuse None made free refused made-fits = made-fits
+unless-free_reply P wants refuse (Some x) made free refused made-fits = refused x free
 
 -- what was found, or a refusal
 pub found-reply : {X C : Type 0} (P : Reply → Type 0) (refuse : C → Reply) (make : X → Effect) (r : Result X C) → ((e : C) → r ≡ Err e → P (refuse e))
@@ -108,16 +115,20 @@ pub step_in-fits : (rules : Rules) (past : List Event) (session : ℕ) (asked : 
 step_in-fits rules past session (request.Enter role flags) l are = tt
 step_in-fits rules past session request.Leave l are = tt
 step_in-fits rules past session (request.Template template) l are =
-    unless-reply ReplyFits reply.TemplateRefused (template_refusal rules.pool_script past template)
-    (with_event (event.Template session template) (reply.Job (length (jobs_of past).all + 1))) (λ x. tt) (λ n. tt)
+    unless-free_reply ReplyFits job_wants_memory reply.TemplateRefused (template_refusal rules.pool_script past template)
+    (with_event (event.Template session template) (reply.Job (length (jobs_of past).all + 1))) (template-free rules.pool_script past template) (λ x free. free) tt
 step_in-fits rules past session (request.Tip tip) l are =
-    found-reply ReplyFits reply.TemplateRefused (λ job. with_event (event.Tip session tip) (reply.Job job.number)) (tippable past tip) (λ e is. tt) (λ job is. tt)
+    found-reply ReplyFits reply.TemplateRefused (λ job. with_event (event.Tip session tip) (reply.Job job.number)) (tippable past tip)
+    (λ e is. free-err job_wants_memory (tippable past tip) e (tip-free past tip) is) (λ job is. tt)
 step_in-fits rules past session (request.Open ask) l are =
-    found-reply ReplyFits reply.OpenRefused (opening rules past session ask) (openable rules past session ask) (λ e is. tt)
+    found-reply ReplyFits reply.OpenRefused (opening rules past session ask) (openable rules past session ask)
+    (λ e is. free-err open_wants_memory (openable rules past session ask) e (open-free rules past session ask) is)
     (λ lead is. let w = was-openable rules past session ask lead is in opening-fits rules past session ask l are w.is lead w.lead_is)
 step_in-fits rules past session (request.Name id identity) l are =
     found-reply ReplyFits reply.NameRefused (naming session id (account_of identity)) (nameable rules (account_of identity) (own_channel past session id))
-    (λ e is. tt) (λ c is. naming-fits session id (account_of identity) c)
+    (λ e is. free-err name_wants_memory (nameable rules (account_of identity) (own_channel past session id)) e
+    (name-free rules (account_of identity) (own_channel past session id)) is)
+    (λ c is. naming-fits session id (account_of identity) c)
 step_in-fits rules past session (request.Update id target) l are =
     found-reply ReplyFits reply.UpdateRefused (classing session id (class_for rules target)) (updatable target (own_channel past session id)) (λ e is. tt)
     (λ c is. classing-fits rules past session id target l are c (was-updatable target (own_channel past session id) c is).1)
@@ -129,8 +140,8 @@ step_in-fits rules past session (request.Commit checked) l are =
 step_in-fits rules past session (request.Poll from) l are = news-fit (min from (length past)) past session l
 step_in-fits rules past session (request.Grant identity path) l are = granting-fits rules past session (account_of identity) path l are
 step_in-fits rules past session (request.Custom custom) l are =
-    unless-reply ReplyFits reply.CustomRefused (custom_refusal rules.pool_script past session custom)
-    (with_event (event.Custom session custom) (reply.CustomJob (length (jobs_of past).all + 1))) (λ x. tt) (λ n. tt)
+    unless-free_reply ReplyFits custom_wants_memory reply.CustomRefused (custom_refusal rules.pool_script past session custom)
+    (with_event (event.Custom session custom) (reply.CustomJob (length (jobs_of past).all + 1))) (custom-free rules.pool_script past session custom) (λ x free. free) tt
 
 pub step_for-fits : (rules : Rules) (past : List Event) (asked : Request) → LegalPast past → rules_of past ≡ Some rules → (o : Option ℕ)
     → ReplyFits (step_for rules past asked o).reply
