@@ -1,5 +1,5 @@
 -- Legal histories that have a ledger, and that answers keep them so (this project's own).
-use Rattle.std.specs.Prelude.{IsTrue, ℕ, List, [], ◌∷◌, ◌++◌, take}
+use Rattle.std.specs.Prelude.{IsTrue, ◌≡◌, ℕ, List, [], ◌∷◌, ◌++◌, take}
 use Rattle.std.specs.List.{AllByRecursion}
 use Rattle.pool_history.specs.declared.asking.Request.{Request}
 use Rattle.pool_history.specs.declared.events.Event.{Event}
@@ -10,6 +10,7 @@ use Rattle.pool_history.specs.Accounts.{are_in_range}
 use Rattle.pool_history.specs.Answering.{Answer}
 use Rattle.calls.specs.Calls.{Parted}
 use Rattle.pool_history.specs.Calls.{GoodPoolCalls, PoolCall}
+use Rattle.pool_history.specs.Ledger.{ledger_text}
 use Rattle.pool_history.specs.Legal.{Legal}
 use Rattle.ledger_laws.specs.OneLedger.{AllCanBeKept}
 use Rattle.ledger_laws.specs.Requests.{IsWellFormedRequest}
@@ -19,6 +20,16 @@ use Rattle.ledger_laws.specs.WellFormed.{AreRules, IsU32}
 pub record IsKept (history : List Event) : Type 0 where
   pub legal : Legal history
   pub has_ledger : AllCanBeKept history
+
+-- the ledger of a history: the history is legal and has records, and these bytes are its text of format 2. Legality
+-- alone wouldn't do: its numbers have no end, and a worker of 2^32 has the bytes of worker 0
+pub record IsLedgerOf (history : List Event) (bytes : List ℕ) : Type 0 where
+  pub kept : IsKept history
+  pub text : bytes ≡ ledger_text history
+
+-- so bytes are the ledger of one history
+abbrev pub KeptLedgersAreOfOneHistory : Type 0
+KeptLedgersAreOfOneHistory = (one other : List Event) (bytes : List ℕ) → IsLedgerOf one bytes → IsLedgerOf other bytes → one ≡ other
 
 -- such a Start alone is kept: its fields are of their types and its rules are in their ranges
 abbrev pub StartsAreKept : Type 0

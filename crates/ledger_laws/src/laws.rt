@@ -1,7 +1,7 @@
 //! What the bytes of a ledger say, and how it grows.
 
 ghost use Rattle.ledger_laws.specs.Growing.{LedgersGrow, PiecesGrow};
-ghost use Rattle.ledger_laws.specs.Keeping.{AnswersCanBeKept, CallsCanBeKept, StartsAreKept};
+ghost use Rattle.ledger_laws.specs.Keeping.{AnswersCanBeKept, CallsCanBeKept, KeptLedgersAreOfOneHistory, StartsAreKept};
 ghost use Rattle.ledger_laws.specs.OneLedger.{FormatsDiffer, LedgersAreOfOneHistory, LedgersBeginAlike, NoRecordBeginsAnother, OldLedgersAreOfOneHistory, OldLedgersBeginAlike, RecordsAreOfOneEvent, RecordsAreReadBack};
 
 /// Bytes that begin with a record begin with that of no other event, and what follows it is the same.
@@ -22,6 +22,11 @@ pub fn no_record_begins_another()
 /// Two histories with the same ledger of format 2 are one.
 pub fn ledgers_are_of_one_history()
     ensures { LedgersAreOfOneHistory }
+{}
+
+/// Bytes are the ledger of one history at most that is legal and has records.
+pub fn kept_ledgers_are_of_one_history()
+    ensures { KeptLedgersAreOfOneHistory }
 {}
 
 /// Two histories with the same ledger of format 1 are one.
