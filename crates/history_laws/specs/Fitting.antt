@@ -1,5 +1,6 @@
--- What an answer on a legal history says is in the ranges that its types keep, where these are narrower than a number
--- (Stratum V2, "Data Types Mapping"; the limits of classes, sessions and scripts are this project's own).
+-- What an answer on a legal history says is in the ranges that its types keep, where these are
+-- narrower than a number (Stratum V2, "Data Types Mapping"; the limits of classes, sessions and
+-- scripts are this project's own).
 use Rattle.std.specs.Prelude.{◌≤◌, ◌<◌, ◌^◌, ℕ, List, length, ◌≡◌, Bool, true, false}
 use Rattle.coinbase.specs.declared.error.AssemblyError.{AssemblyError}
 use Rattle.coinbase.specs.declared.error.AssemblyError.TheVariants as assembly
@@ -111,5 +112,6 @@ ReplyFits (reply.CustomRefused error) = custom_wants_memory error ≡ false
 -- so it is of each answer on a legal history
 abbrev pub AnswersFit : Type 0
 AnswersFit =
-    (history : List Event) (worker : ℕ) (asked : Request) (events : List Event) (answer : Reply) → Legal history → Answer history worker asked events answer
+    (history : List Event) (worker : ℕ) (asked : Request) (events : List Event) (answer : Reply)
+    → Legal history → Answer history worker asked events answer
     → ReplyFits answer

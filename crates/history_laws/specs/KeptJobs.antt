@@ -1,6 +1,6 @@
--- What has to be kept of jobs (this project's own): how many there are, whose each miner's own job is, the future and
--- live ones whole, and the tip. Each move and each reader of the jobs goes through it, so stale templates needn't be
--- kept. Computed in `WrongLaws`.
+-- What has to be kept of jobs (this project's own): how many there are, whose each miner's own job
+-- is, the future and live ones whole, and the tip. Each move and each reader of the jobs goes
+-- through it, so stale templates needn't be kept. Computed in `WrongLaws`.
 use Rattle.std.specs.Prelude.{◌≡◌, ℕ, ◌+◌, ◌==◌, ◌&&◌, ◌||◌, Bool, true, false, not, if◌then◌else◌, Option, Some, List, [], ◌∷◌, ◌++◌, length, nat_le}
 use Rattle.std.specs.List.{flat_map, list_any}
 use Rattle.pool_history.specs.declared.events.Event.{Event}
@@ -45,26 +45,44 @@ kept_of standing = record {
 
 -- a template's job, which is future or live at once
 abbrev pub keeping_template : Job → Bool → KeptJobs → KeptJobs
-keeping_template job true kept = record kept { count = kept.count + 1; future = last 16 (kept.future ++ job ∷ []) }
-keeping_template job false kept = record kept { count = kept.count + 1; live = last 64 (kept.live ++ job ∷ []) }
+keeping_template job true kept =
+    record kept { count = kept.count + 1; future = last 16 (kept.future ++ job ∷ []) }
+keeping_template job false kept =
+    record kept { count = kept.count + 1; live = last 64 (kept.live ++ job ∷ []) }
 
 -- one more move
 abbrev pub kept_after : JobMove → KeptJobs → KeptJobs
 kept_after (Came at session template) kept =
-    keeping_template (record { number = kept.count + 1; session = session; since = at; source = FromTemplate template })
+    keeping_template
+    (record {
+      number = kept.count + 1;
+      session = session;
+      since = at;
+      source = FromTemplate template;
+    })
     template.future_template kept
 kept_after (Tipped at tip) kept =
-    record kept { future = []; live = made_live at (future_in kept.future tip.template_id); custom = []; tip = Some tip }
+    record kept {
+      future = [];
+      live = made_live at
+          (future_in kept.future tip.template_id);
+      custom = [];
+      tip = Some tip;
+    }
 kept_after (Brought at custom) kept = record kept {
   count = kept.count + 1;
   own = kept.own ++ record { number = kept.count + 1; channel = custom.channel_id } ∷ [];
   custom = at_most_sixteen custom.channel_id
-      (kept.custom ++ record { number = kept.count + 1; session = 0; since = at; source = FromMiner custom } ∷ []);
+      (kept.custom
+      ++ record { number = kept.count + 1; session = 0; since = at; source = FromMiner custom }
+      ∷ []);
 }
 
 -- what is kept after a move is told by what was kept before it
 abbrev pub KeptJobsMove : Type 0
-KeptJobsMove = (move : JobMove) (standing : Standing) → kept_of (moved move standing) ≡ kept_after move (kept_of standing)
+KeptJobsMove =
+    (move : JobMove) (standing : Standing)
+    → kept_of (moved move standing) ≡ kept_after move (kept_of standing)
 
 -- a number is that of a job
 abbrev pub is_number_of : KeptJobs → ℕ → Bool
@@ -84,14 +102,16 @@ is_others channel number own = own.number == number && not (own.channel == chann
 
 -- a channel may mine on the job with a number: there is one, and it is no other channel's own
 abbrev pub is_mineable_by : KeptJobs → ℕ → ℕ → Bool
-is_mineable_by kept channel number = is_number_of kept number && not (list_any (is_others channel number) kept.own)
+is_mineable_by kept channel number =
+    is_number_of kept number && not (list_any (is_others channel number) kept.own)
 
--- what is read of the jobs is read of what is kept; what is read besides these is one of the lists that are kept whole,
--- the tip or the count
+-- what is read of the jobs is read of what is kept; what is read besides these is one of the lists
+-- that are kept whole, the tip or the count
 pub record ReadsTheKept (history : List Event) (standing : Standing) : Type 0 where
   pub state : (number : ℕ) → state_of standing number ≡ state_by (kept_of standing) number
   pub mineable : (channel number : ℕ)
-      → is_mineable channel (numbered number standing.all) ≡ is_mineable_by (kept_of standing) channel number
+      → is_mineable channel (numbered number standing.all)
+      ≡ is_mineable_by (kept_of standing) channel number
   pub known : (share : Share)
       → is_known_job standing share
       ≡ (is_known_state (state_by (kept_of standing) share.job)

@@ -1,6 +1,7 @@
--- The nine conditions of a share, each by itself (Stratum V2, "SubmitShares.Error"; their order is this project's own).
--- Channels, states and headers are those by places over the history from its front; the live job is the one of
--- `jobs_by_places`. A code is told exactly where its condition fails and all before it hold. Computed in `Rows`.
+-- The nine conditions of a share, each by itself (Stratum V2, "SubmitShares.Error"; their order is
+-- this project's own). Channels, states and headers are those by places over the history from its
+-- front; the live job is the one of `jobs_by_places`. A code is told exactly where its condition
+-- fails and all before it hold. Computed in `Rows`.
 use Rattle.std.specs.Prelude.{IsTrue, ◌≡◌, ◌↔◌, ◌⊎◌, ℕ, ◌+◌, ◌≤◌, ◌<◌, Bool, true, Option, None, Some, List, [], ◌∷◌, ◌++◌, length}
 use Rattle.std.specs.List.{list_any}
 use Rattle.std.specs.Option.{option_map}
@@ -25,7 +26,8 @@ use Rattle.history_laws.specs.Places.{channels_from}
 
 -- the open channel that a share names
 abbrev pub NamesChannel : List Event → Share → OpenChannel → Type 0
-NamesChannel history share channel = channel_in (channels_from 0 0 history) share.channel ≡ Some channel
+NamesChannel history share channel =
+    channel_in (channels_from 0 0 history) share.channel ≡ Some channel
 
 -- the live job that a share names
 abbrev pub NamesJob : List Event → Share → Job → Type 0
@@ -35,7 +37,8 @@ NamesJob history share job = live_job (jobs_of (past_of history)) share.job ≡ 
 abbrev pub IsTip : List Event → TipData → Type 0
 IsTip history tip = option_map (λ tipped. tipped.tip) (tip_in history) ≡ Some tip
 
--- first: the channel is open, is the session's, has an account, and is standard exactly where the message is
+-- first: the channel is open, is the session's, has an account, and is standard exactly where the
+-- message is
 pub record IsItsChannel (history : List Event) (session : ℕ) (share : Share) : Type 0 where
   pub channel : OpenChannel
   pub is_open : NamesChannel history share channel
@@ -67,7 +70,8 @@ pub record IsLiveOverTip (history : List Event) (share : Share) : Type 0 where
 pub record HasVersion (rules : Rules) (history : List Event) (share : Share) : Type 0 where
   pub job : Job
   pub is_job : NamesJob history share job
-  pub same : outside (rolling_mask rules) share.version ≡ outside (rolling_mask rules) (version_of job.source)
+  pub same : outside (rolling_mask rules) share.version
+      ≡ outside (rolling_mask rules) (version_of job.source)
 
 -- sixth: the time is in the window from the least one that the job allows on, without wrapping
 pub record IsInWindow (rules : Rules) (history : List Event) (share : Share) : Type 0 where
@@ -84,7 +88,8 @@ pub record IsRebuiltWith (history : List Event) (share : Share) (with : Admitted
   pub is_job : NamesJob history share with.job
   pub is_tip : IsTip history with.tip
 
--- seventh: the hash of the rebuilt header meets the class that the channel had at the place since which the job is live
+-- seventh: the hash of the rebuilt header meets the class that the channel had at the place since
+-- which the job is live
 pub record MeetsItsClass (rules : Rules) (history : List Event) (share : Share) : Type 0 where
   pub with : Admitted
   pub is_with : IsRebuiltWith history share with
@@ -102,10 +107,12 @@ pub record HasCredited (history : List Event) (header : List ℕ) : Type 0 where
   pub version : ℕ
   pub extranonce : List ℕ
   pub after : List Event
-  pub parts : history ≡ before ++ event.Credit session channel job nonce ntime version extranonce ∷ after
+  pub parts : history
+      ≡ before ++ event.Credit session channel job nonce ntime version extranonce ∷ after
   pub with : Admitted
   pub is_with : booked_with (past_of before) channel job ≡ Some with
-  pub is_header : rebuilt (script_of (past_of before)) with (credit_share with channel job nonce ntime version extranonce) ≡ header
+  pub is_header : rebuilt (script_of (past_of before)) with
+      (credit_share with channel job nonce ntime version extranonce) ≡ header
 
 -- eighth: no Credit of the history has the rebuilt header
 pub record IsNewHeader (rules : Rules) (history : List Event) (share : Share) : Type 0 where
@@ -128,14 +135,16 @@ Holds rules history session share failed.Full = credits (past_of history) < rule
 -- the nine in their order
 abbrev pub nine_codes : List Failed
 nine_codes =
-    failed.Channel ∷ failed.ExtranonceSize ∷ failed.Job ∷ failed.Stale ∷ failed.Version ∷ failed.Ntime
+    failed.Channel ∷ failed.ExtranonceSize ∷ failed.Job ∷ failed.Stale ∷ failed.Version
+    ∷ failed.Ntime
     ∷ failed.Difficulty ∷ failed.Duplicate ∷ failed.Full ∷ []
 
 -- none fails, or this one does and all before it hold
 abbrev pub FailsFirst : (Failed → Type 0) → List Failed → Option Failed → Type 0
 FailsFirst holds [] None = Unit {0}
 FailsFirst holds [] (Some code) = ⊥
-FailsFirst holds (next ∷ more) told = (¬ holds next × (told ≡ Some next)) ⊎ (holds next × FailsFirst holds more told)
+FailsFirst holds (next ∷ more) told =
+    (¬ holds next × (told ≡ Some next)) ⊎ (holds next × FailsFirst holds more told)
 
 -- what is told is the first of the nine conditions that fails, and nothing exactly where all hold
 abbrev pub ConditionsStandByThemselves : Type 0
@@ -144,7 +153,8 @@ ConditionsStandByThemselves =
     → (first_failed rules (past_of history) session share ≡ told)
     ↔ FailsFirst (Holds rules history session share) nine_codes told
 
--- the headers that no later share may have are those of the Credits, each rebuilt by the events before it
+-- the headers that no later share may have are those of the Credits, each rebuilt by the events
+-- before it
 abbrev pub HeadersByPlaces : Type 0
 HeadersByPlaces =
     (history : List Event) (header : List ℕ)

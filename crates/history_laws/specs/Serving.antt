@@ -16,11 +16,12 @@ use Rattle.pool_history.specs.Legal.{Legal}
 use Rattle.history_laws.specs.Answered.{IsCommitted, IsJudged, MaySubmit, credit_of}
 use Rattle.history_laws.specs.Places.{HasEntered}
 
--- good calls that part a history from its first events on leave it legal where those are, whatever was asked, in
--- whatever order, and whatever failed
+-- good calls that part a history from its first events on leave it legal where those are, whatever
+-- was asked, in whatever order, and whatever failed
 abbrev pub CallsKeepLegality : Type 0
 CallsKeepLegality =
-    (start history : List Event) (least most : ℕ) (calls : List PoolCall) → Parted start history least most calls
+    (start history : List Event) (least most : ℕ) (calls : List PoolCall)
+    → Parted start history least most calls
     → GoodPoolCalls history calls → Legal start → Legal history
 
 -- a call that was answered was answered by the history before it
@@ -30,7 +31,8 @@ CallsAreAnswered =
     → call.outcome ≡ Replied answer
     → Answer (take call.front history) call.worker call.asked call.added answer
 
--- a share that such a call was to book, and that was answered, is judged by the history before the call
+-- a share that such a call was to book, and that was answered, is judged by the history before the
+-- call
 abbrev pub CallsAreJudged : Type 0
 CallsAreJudged =
     (history : List Event) (call : PoolCall) (checked : Checked) (answer : Reply)
@@ -38,8 +40,10 @@ CallsAreJudged =
     → call.asked ≡ request.Commit checked → call.outcome ≡ Replied answer
     → IsJudged (take call.front history) call.worker may (share_of checked.sub) call.added answer
 
--- a Credit was booked by one of the calls: its worker asked for it at the history before it, and no condition failed
-pub record IsCalled (calls : List PoolCall) (history before : List Event) (session : ℕ) (share : Share) : Type 0 where
+-- a Credit was booked by one of the calls: its worker asked for it at the history before it, and no
+-- condition failed
+pub record IsCalled (calls : List PoolCall) (history before : List Event) (session : ℕ)
+    (share : Share) : Type 0 where
   pub earlier : List PoolCall
   pub call : PoolCall
   pub later : List PoolCall
@@ -54,7 +58,8 @@ abbrev pub CreditsAreCalled : Type 0
 CreditsAreCalled =
     (start history : List Event) (least most : ℕ) (calls : List PoolCall)
     → (parted : Parted start history least most calls) → GoodPoolCalls history calls
-    → (before after : List Event) (session : ℕ) (share : Share) → history ≡ before ++ credit_of session share ∷ after
+    → (before after : List Event) (session : ℕ) (share : Share)
+    → history ≡ before ++ credit_of session share ∷ after
     → length start ≤ length before → IsCalled parted.ordered history before session share
 
 -- a call that entered a session
@@ -63,16 +68,19 @@ pub record Enters (call : PoolCall) (role : Role) (flags session : ℕ) : Type 0
   pub entered : call.outcome ≡ Replied (reply.Entered session)
 
 -- a call finds the session entered, with those of its flags that were kept
-pub record FindsEntered (history : List Event) (worker : ℕ) (role : Role) (session : ℕ) (call : PoolCall) : Type 0 where
+pub record FindsEntered (history : List Event) (worker : ℕ) (role : Role) (session : ℕ)
+    (call : PoolCall) : Type 0 where
   pub kept_flags : ℕ
   pub has_entered : HasEntered (take call.front history) worker role kept_flags session
 
--- all that one caller asks behind the call that entered its session finds it entered, whatever others called: none of
--- its requests stands before its Enter
+-- all that one caller asks behind the call that entered its session finds it entered, whatever
+-- others called: none of its requests stands before its Enter
 abbrev pub SessionsAskBehindTheirEnter : Type 0
 SessionsAskBehindTheirEnter =
-    (start history : List Event) (least most known now : ℕ) (earlier later others : List PoolCall) (enter : PoolCall)
+    (start history : List Event) (least most known now : ℕ) (earlier later others : List PoolCall)
+    (enter : PoolCall)
     (role : Role) (flags session : ℕ)
-    → Parted start history least most ((earlier ++ enter ∷ later) ++ others) → RiseFrom known (earlier ++ enter ∷ later) now
+    → Parted start history least most ((earlier ++ enter ∷ later) ++ others)
+    → RiseFrom known (earlier ++ enter ∷ later) now
     → IsGoodPoolCall history enter → Enters enter role flags session
     → AllByRecursion (FindsEntered history enter.worker role session) later

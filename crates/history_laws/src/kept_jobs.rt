@@ -2,7 +2,8 @@
 
 ghost use Rattle.history_laws.specs.KeptJobs.{KeptJobsMove, KeptJobsSuffice};
 
-/// What is kept of jobs after a template, a tip or a miner's own job is told by what was kept before it.
+/// What is kept of jobs after a template, a tip or a miner's own job is told by what was kept
+/// before it.
 pub fn kept_jobs_move()
     ensures { KeptJobsMove }
 {}

@@ -1,6 +1,6 @@
-//! Laws of the pool's histories: what legality is, what one more event does, what stays as it is, that open
-//! extranonce spaces are disjoint, and that answers keep a history legal. Each is the contract of a function that
-//! computes nothing; the layers above call it to have its statement.
+//! Laws of the pool's histories: what legality is, what one more event does, what stays as it is,
+//! that open extranonce spaces are disjoint, and that answers keep a history legal. Each is the
+//! contract of a function that computes nothing; the layers above call it to have its statement.
 #![tactic(auto)]
 
 mod answers;

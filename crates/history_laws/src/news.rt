@@ -2,8 +2,8 @@
 
 ghost use Rattle.history_laws.specs.News.{NewsByPlaces, NewsGoOn};
 
-/// The news since a place are what is owed for each event from there on, once and in order, by the history up to and
-/// with that event.
+/// The news since a place are what is owed for each event from there on, once and in order, by the
+/// history up to and with that event.
 pub fn news_by_places()
     ensures { NewsByPlaces }
 {}

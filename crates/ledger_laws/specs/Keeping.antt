@@ -21,19 +21,23 @@ pub record IsKept (history : List Event) : Type 0 where
   pub legal : Legal history
   pub has_ledger : AllCanBeKept history
 
--- the ledger of a history: the history is legal and has records, and these bytes are its text of format 2. Legality
--- alone wouldn't do: its numbers have no end, and a worker of 2^32 has the bytes of worker 0
+-- the ledger of a history: the history is legal and has records, and these bytes are its text of
+-- format 2. Legality alone wouldn't do: its numbers have no end, and a worker of 2^32 has the bytes
+-- of worker 0
 pub record IsLedgerOf (history : List Event) (bytes : List ℕ) : Type 0 where
   pub kept : IsKept history
   pub text : bytes ≡ ledger_text history
 
 -- so bytes are the ledger of one history
 abbrev pub KeptLedgersAreOfOneHistory : Type 0
-KeptLedgersAreOfOneHistory = (one other : List Event) (bytes : List ℕ) → IsLedgerOf one bytes → IsLedgerOf other bytes → one ≡ other
+KeptLedgersAreOfOneHistory =
+    (one other : List Event) (bytes : List ℕ) → IsLedgerOf one bytes → IsLedgerOf other bytes
+    → one ≡ other
 
 -- such a Start alone is kept: its fields are of their types and its rules are in their ranges
 abbrev pub StartsAreKept : Type 0
-StartsAreKept = (rules : Rules) → AreRules rules → IsTrue (are_in_range rules) → IsKept (event.Start rules ∷ [])
+StartsAreKept =
+    (rules : Rules) → AreRules rules → IsTrue (are_in_range rules) → IsKept (event.Start rules ∷ [])
 
 -- each of these events can be kept, and with them the history is legal and has a ledger
 pub record KeepsOn (history events : List Event) : Type 0 where
@@ -43,7 +47,8 @@ pub record KeepsOn (history events : List Event) : Type 0 where
 -- so do those of an answer to a request whose fields are of their types
 abbrev pub AnswersCanBeKept : Type 0
 AnswersCanBeKept =
-    (history : List Event) (worker : ℕ) (asked : Request) (events : List Event) (answer : Reply) → IsKept history → IsU32 worker → IsWellFormedRequest asked
+    (history : List Event) (worker : ℕ) (asked : Request) (events : List Event) (answer : Reply)
+    → IsKept history → IsU32 worker → IsWellFormedRequest asked
     → Answer history worker asked events answer → KeepsOn history events
 
 -- a call of a worker whose request's fields are of their types
@@ -51,8 +56,11 @@ pub record IsWellFormedCall (call : PoolCall) : Type 0 where
   pub worker_fits : IsU32 call.worker
   pub asked_fits : IsWellFormedRequest call.asked
 
--- so do calls that part a history from its first events on, whatever was asked, in whatever order, and whatever failed
+-- so do calls that part a history from its first events on, whatever was asked, in whatever order,
+-- and whatever failed
 abbrev pub CallsCanBeKept : Type 0
 CallsCanBeKept =
-    (start history : List Event) (least most : ℕ) (calls : List PoolCall) → Parted start history least most calls
-    → GoodPoolCalls history calls → AllByRecursion IsWellFormedCall calls → IsKept start → IsKept history
+    (start history : List Event) (least most : ℕ) (calls : List PoolCall)
+    → Parted start history least most calls
+    → GoodPoolCalls history calls → AllByRecursion IsWellFormedCall calls → IsKept start
+    → IsKept history

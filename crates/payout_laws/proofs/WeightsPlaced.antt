@@ -84,7 +84,7 @@ since-from t block between (credit ∷ older) none =
           ap₂ (λ x y. cond (not x && not y) credit.work 0) none is in
           ap (λ b. taken t (cond b [] (whole_part credit ∷ since_block older))) is
           ∙ sym (ap₂ (λ a b. a + b) (ap (λ n. cond (t credit.account) n 0) own ∙ same (t credit.account))
-              (none-count (of_account t) block (between ++ credit ∷ []) older (any-end between credit false true none is)))
+          (none-count (of_account t) block (between ++ credit ∷ []) older (any-end between credit false true none is)))
       by false is rest =
           let own : cond (not (list_any is_block_of between) && not (is_block_of credit)) credit.work 0 ≡ credit.work =
           ap₂ (λ x y. cond (not x && not y) credit.work 0) none is in

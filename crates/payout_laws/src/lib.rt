@@ -1,5 +1,6 @@
-//! The laws of payouts: what each legal history keeps of its rewards. It settles no block: the definitions
-//! of `pool_history` do, and each law is the contract of a function with nothing to compute.
+//! The laws of payouts: what each legal history keeps of its rewards. It settles no block: the
+//! definitions of `pool_history` do, and each law is the contract of a function with nothing to
+//! compute.
 #![tactic(auto)]
 
 mod fees;

@@ -55,13 +55,17 @@ account_for kind.V1 identity = []
 -- a channel is opened with the lowest free lead
 abbrev pub opening : Rules → List Event → ℕ → OpenAsk → List ℕ → Effect
 opening rules past session ask lead =
-    with_event (event.Open session ask.kind (account_for ask.kind ask.identity) (class_for rules ask.max_target) lead)
-    (reply.Opened (record { channel = opens past + 1; class = class_for rules ask.max_target; lead = lead }))
+    with_event
+    (event.Open session ask.kind (account_for ask.kind ask.identity)
+    (class_for rules ask.max_target) lead)
+    (reply.Opened
+    (record { channel = opens past + 1; class = class_for rules ask.max_target; lead = lead }))
 
 -- a channel gets its account, where it has none
 abbrev pub naming : ℕ → ℕ → List ℕ → OpenChannel → Effect
 naming session id account channel =
-    if is_empty channel.account then with_event (event.Name session id account) reply.Named else without_event reply.Named
+    if is_empty channel.account then with_event (event.Name session id account) reply.Named
+    else without_event reply.Named
 
 -- a channel gets its class, where it has another
 abbrev pub classing : ℕ → ℕ → ℕ → OpenChannel → Effect
@@ -78,32 +82,41 @@ closing session id (Some channel) = with_event (event.Close session id) reply.Cl
 -- what is needed to compute a share's header, where the first six conditions hold
 abbrev pub briefing : Rules → Result Admitted Failed → Effect
 briefing rules (Err failed) = without_event (reply.Refused failed)
-briefing rules (Ok with) = without_event (reply.Brief (briefing_of rules.pool_script with.channel with.job.source with.tip))
+briefing rules (Ok with) =
+    without_event
+    (reply.Brief (briefing_of rules.pool_script with.channel with.job.source with.tip))
 
 -- a share is booked where none of the nine conditions fails
 abbrev pub crediting : ℕ → Share → Admitted → Effect
 crediting session share with =
-    with_event (event.Credit session share.channel share.job share.nonce share.ntime share.version share.extranonce) (reply.Credited (admitted_work with))
+    with_event
+    (event.Credit session share.channel share.job share.nonce share.ntime share.version
+    share.extranonce)
+    (reply.Credited (admitted_work with))
 
 abbrev pub committing : Rules → List Event → ℕ → Share → Result Admitted Failed → Effect
 committing rules past session share (Err failed) = without_event (reply.Refused failed)
 committing rules past session share (Ok with) =
-    unless_refused reply.Refused (last_failed rules past share (Ok with)) (crediting session share with)
+    unless_refused reply.Refused (last_failed rules past share (Ok with))
+    (crediting session share with)
 
 -- a token for a path that is fixed, or for any
 abbrev pub granting : Rules → List Event → ℕ → List ℕ → Option (List (List ℕ)) → Effect
 granting rules past session account None =
     unless_refused reply.GrantRefused (grant_refusal rules past account [])
-    (with_event (event.Grant session account false []) (reply.Granted (grants past + 1) rules.pool_script))
+    (with_event (event.Grant session account false [])
+    (reply.Granted (grants past + 1) rules.pool_script))
 granting rules past session account (Some path) =
     unless_refused reply.GrantRefused (grant_refusal rules past account path)
-    (with_event (event.Grant session account true path) (reply.Granted (grants past + 1) rules.pool_script))
+    (with_event (event.Grant session account true path)
+    (reply.Granted (grants past + 1) rules.pool_script))
 
 -- a session begins, with the flags that the rules allow
 abbrev pub entering : Rules → List Event → ℕ → Role → ℕ → Effect
 entering rules past worker role flags =
     if nat_lt (enters past) most_enters
-    then with_event (event.Enter worker role (bit_and flags (allowed_flags rules))) (reply.Entered (enters past))
+    then with_event (event.Enter worker role (bit_and flags (allowed_flags rules)))
+    (reply.Entered (enters past))
     else without_event (reply.PoolFull most_enters)
 
 -- who may ask what: templates and tips, channels and shares, jobs of one's own, leaving and news
@@ -130,7 +143,8 @@ step_in rules past session (request.Template template) =
     unless_refused reply.TemplateRefused (template_refusal rules.pool_script past template)
     (with_event (event.Template session template) (reply.Job (length (jobs_of past).all + 1)))
 step_in rules past session (request.Tip tip) =
-    with_found reply.TemplateRefused (λ job. with_event (event.Tip session tip) (reply.Job job.number)) (tippable past tip)
+    with_found reply.TemplateRefused
+    (λ job. with_event (event.Tip session tip) (reply.Job job.number)) (tippable past tip)
 step_in rules past session (request.Open ask) =
     with_found reply.OpenRefused (opening rules past session ask) (openable rules past session ask)
 step_in rules past session (request.Name channel identity) =
@@ -139,12 +153,17 @@ step_in rules past session (request.Name channel identity) =
 step_in rules past session (request.Update channel target) =
     with_found reply.UpdateRefused (classing session channel (class_for rules target))
     (updatable target (own_channel past session channel))
-step_in rules past session (request.Close channel) = closing session channel (own_channel past session channel)
-step_in rules past session (request.Brief sub) = briefing rules (admitted rules past session (share_of sub))
+step_in rules past session (request.Close channel) =
+    closing session channel (own_channel past session channel)
+step_in rules past session (request.Brief sub) =
+    briefing rules (admitted rules past session (share_of sub))
 step_in rules past session (request.Commit checked) =
-    committing rules past session (share_of checked.sub) (admitted rules past session (share_of checked.sub))
-step_in rules past session (request.Poll from) = without_event (reply.News (length past) (news (min from (length past)) past session))
-step_in rules past session (request.Grant identity path) = granting rules past session (account_of identity) path
+    committing rules past session (share_of checked.sub)
+    (admitted rules past session (share_of checked.sub))
+step_in rules past session (request.Poll from) =
+    without_event (reply.News (length past) (news (min from (length past)) past session))
+step_in rules past session (request.Grant identity path) =
+    granting rules past session (account_of identity) path
 step_in rules past session (request.Custom custom) =
     unless_refused reply.CustomRefused (custom_refusal rules.pool_script past session custom)
     (with_event (event.Custom session custom) (reply.CustomJob (length (jobs_of past).all + 1)))
@@ -153,7 +172,8 @@ step_in rules past session (request.Custom custom) =
 abbrev pub step_as : Rules → List Event → Request → ℕ → Option Entrance → Effect
 step_as rules past asked session None = without_event reply.NoSession
 step_as rules past asked session (Some entered) =
-    if permits asked entered then step_in rules past session asked else without_event reply.NoSession
+    if permits asked entered then step_in rules past session asked
+    else without_event reply.NoSession
 
 -- a request of a worker's present session
 abbrev pub step_for : Rules → List Event → Request → Option ℕ → Effect
@@ -174,6 +194,7 @@ abbrev pub step : List Event → ℕ → Request → Effect
 step past worker asked = step_under (rules_of past) past worker asked
 
 -- the events and the reply of a worker's request on a history
-pub record Answer (history : List Event) (worker : ℕ) (asked : Request) (events : List Event) (answer : Reply) : Type 0 where
+pub record Answer (history : List Event) (worker : ℕ) (asked : Request) (events : List Event)
+    (answer : Reply) : Type 0 where
   pub events_are : events ≡ option_to_list (step (past_of history) worker asked).event
   pub reply_is : answer ≡ (step (past_of history) worker asked).reply

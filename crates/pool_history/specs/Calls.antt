@@ -1,4 +1,5 @@
--- The calls of a pool: those of any machine, over its histories, which answers as its history says (this project's own).
+-- The calls of a pool: those of any machine, over its histories, which answers as its history says
+-- (this project's own).
 use Rattle.std.specs.Prelude.{Bool, true, false, List}
 use Rattle.calls.specs.Calls.{Call, GoodCalls, IsGoodCall}
 use Rattle.pool_history.specs.declared.asking.Request.{Request}
@@ -17,7 +18,8 @@ wants_memory Memory = true
 abbrev pub PoolCall : Type 0
 PoolCall = Call Event Request Reply BookError
 
--- a good one: what it added and its reply are the answer to its request after the events before it, or it is a fault
+-- a good one: what it added and its reply are the answer to its request after the events before it,
+-- or it is a fault
 abbrev pub IsGoodPoolCall : List Event → PoolCall → Type 0
 IsGoodPoolCall history call = IsGoodCall Answer wants_memory history call
 

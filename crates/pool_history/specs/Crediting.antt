@@ -1,4 +1,5 @@
--- Shares and the credits before them: which condition fails first, and what a credit is worth (this project's own).
+-- Shares and the credits before them: which condition fails first, and what a credit is worth (this
+-- project's own).
 use Rattle.std.specs.Prelude.{ℕ, ◌^◌, Bool, not, if◌then◌else◌, Option, None, Some, Result, Ok, Err, List, [], ◌∷◌, ◌++◌, nat_lt}
 use Rattle.std.specs.Option.{option_and_then, option_map}
 use Rattle.std.specs.List.{list_any}
@@ -42,7 +43,8 @@ credit_share where_booked channel job nonce ntime version extranonce = record {
 abbrev pub booked_with : List Event → ℕ → ℕ → Option Admitted
 booked_with past channel job = option_and_then
     (λ there. option_and_then
-    (λ live. option_map (λ tip. record { channel = there; job = live; tip = tip }) (jobs_of past).tip)
+    (λ live. option_map (λ tip. record { channel = there; job = live; tip = tip })
+    (jobs_of past).tip)
     (live_job (jobs_of past) job)) (channel_in (channels_of past) channel)
 
 -- a list of what was found
@@ -54,11 +56,13 @@ listed f None = []
 abbrev pub headers : List Event → List (List ℕ)
 headers [] = []
 headers (event.Credit session channel job nonce ntime version extranonce ∷ older) =
-    listed (λ with. rebuilt (script_of older) with (credit_share with channel job nonce ntime version extranonce)) (booked_with older channel job) ++ headers older
+    listed (λ with. rebuilt (script_of older) with
+    (credit_share with channel job nonce ntime version extranonce)) (booked_with older channel job)
+    ++ headers older
 headers (event ∷ older) = headers older
 
--- the last three conditions of a share and their codes, in order: its header's hash meets the class at its job, no
--- earlier credit has the header, and there are fewer credits than the limit
+-- the last three conditions of a share and their codes, in order: its header's hash meets the class
+-- at its job, no earlier credit has the header, and there are fewer credits than the limit
 abbrev pub last_conditions : Rules → List Event → Admitted → List ℕ → List (Bool × Failed)
 last_conditions rules past with header =
     (meets (dsha header) (admitted_class with), failed.Difficulty)
@@ -74,7 +78,8 @@ last_failed rules past share (Ok with) =
 
 -- the first of the nine conditions that is false, or none
 abbrev pub first_failed : Rules → List Event → ℕ → Share → Option Failed
-first_failed rules past session share = last_failed rules past share (admitted rules past session share)
+first_failed rules past session share =
+    last_failed rules past share (admitted rules past session share)
 
 -- the reward of a job: what its template has left, or what its outputs pay
 abbrev pub reward_of : Source → ℕ
@@ -103,5 +108,7 @@ booking script share with = record {
 abbrev pub booked : List Event → List Booked
 booked [] = []
 booked (event.Credit session channel job nonce ntime version extranonce ∷ older) =
-    listed (λ with. booking (script_of older) (credit_share with channel job nonce ntime version extranonce) with) (booked_with older channel job) ++ booked older
+    listed (λ with. booking (script_of older)
+    (credit_share with channel job nonce ntime version extranonce) with)
+    (booked_with older channel job) ++ booked older
 booked (event ∷ older) = booked older

@@ -1,4 +1,5 @@
--- Which events are legal after others (this project's own). A condition is told by the cause that its failure has.
+-- Which events are legal after others (this project's own). A condition is told by the cause that
+-- its failure has.
 use Rattle.std.specs.Prelude.{◌≡◌, ℕ, ◌==◌, ◌&&◌, Bool, true, false, not, if◌then◌else◌, Option, None, Some, is_some, Result, Ok, Err, List, [], ◌∷◌, length, bit_and, nat_le, nat_lt}
 use Rattle.std.specs.Int.{bit_at}
 use Rattle.std.specs.Str.{bytes_eq}
@@ -23,7 +24,8 @@ use Rattle.pool_history.specs.Refusing.{custom_refusal, grant_refusal, has_too_m
 use Rattle.pool_history.specs.Sessions.{Entrance, enters, entrance, feeds, is_present, mines, past_of, rules_of}
 use Rattle.pool_history.specs.Spaces.{lowest}
 
--- the flags of a setup that are acceptable: bit 0, bit 1 and, with version rolling, bit 2 (Stratum V2, "SetupConnection")
+-- the flags of a setup that are acceptable: bit 0, bit 1 and, with version rolling, bit 2 (Stratum
+-- V2, "SetupConnection")
 abbrev pub allowed_flags : Rules → ℕ
 allowed_flags rules = if rules.version_rolling then 7 else 3
 
@@ -90,7 +92,8 @@ is_just bytes (Some others) = bytes_eq bytes others
 
 -- the lead has a length of its kind and is the lowest free one
 abbrev pub is_next_lead : List Event → Kind → List ℕ → Bool
-is_next_lead past kind lead = is_lead_length kind (length lead) && is_just lead (lowest (length lead) (held_leads past))
+is_next_lead past kind lead =
+    is_lead_length kind (length lead) && is_just lead (lowest (length lead) (held_leads past))
 
 -- a V1 channel without account
 abbrev pub is_nameless : Kind → List ℕ → Bool
@@ -101,7 +104,8 @@ is_nameless kind.V1 account = is_empty account
 -- a channel may get this account
 abbrev pub may_get : Rules → List ℕ → Option OpenChannel → Bool
 may_get rules account None = false
-may_get rules account (Some channel) = is_nameless channel.kind channel.account && is_known rules account
+may_get rules account (Some channel) =
+    is_nameless channel.kind channel.account && is_known rules account
 
 -- a channel's class may become this one
 abbrev pub may_become : Rules → ℕ → Option OpenChannel → Bool
@@ -118,7 +122,8 @@ abbrev pub entered_with : (Entrance → Bool) → Option Entrance → Bool
 entered_with may None = false
 entered_with may (Some entered) = may entered
 
--- any session, one that sends templates, one that submits shares, and one that brings jobs of its own
+-- any session, one that sends templates, one that submits shares, and one that brings jobs of its
+-- own
 abbrev pub may_anything : Entrance → Bool
 may_anything entered = true
 
@@ -139,7 +144,8 @@ within may past session own =
     ∷ (entered_with may (entrance past session), cause.BadRole)
     ∷ []) own
 
--- the cause of an event after the events before it, whose rules these are: that of the first condition that is false
+-- the cause of an event after the events before it, whose rules these are: that of the first
+-- condition that is false
 abbrev pub cause_by : Rules → List Event → Event → Option Cause
 cause_by rules past (event.Start other) = Some cause.BadStart
 cause_by rules past (event.Enter worker role flags) =
@@ -149,7 +155,8 @@ cause_by rules past (event.Enter worker role flags) =
     ∷ []) None
 cause_by rules past (event.Leave session) = within may_anything past session None
 cause_by rules past (event.Template session template) =
-    within may_feed past session (refused_as cause.BadTemplate (template_refusal rules.pool_script past template))
+    within may_feed past session
+    (refused_as cause.BadTemplate (template_refusal rules.pool_script past template))
 cause_by rules past (event.Tip session tip) =
     within may_feed past session (unfound_as cause.BadTip (tippable past tip))
 cause_by rules past (event.Open session kind account class lead) =
@@ -162,10 +169,12 @@ cause_by rules past (event.Open session kind account class lead) =
     ∷ []) None)
 cause_by rules past (event.Name session channel account) =
     within may_mine past session
-    (first_false ((may_get rules account (own_channel past session channel), cause.BadName) ∷ []) None)
+    (first_false
+    ((may_get rules account (own_channel past session channel), cause.BadName) ∷ []) None)
 cause_by rules past (event.Class session channel class) =
     within may_mine past session
-    (first_false ((may_become rules class (own_channel past session channel), cause.BadClass) ∷ []) None)
+    (first_false
+    ((may_become rules class (own_channel past session channel), cause.BadClass) ∷ []) None)
 cause_by rules past (event.Close session channel) =
     within may_mine past session
     (first_false ((is_some (own_channel past session channel), cause.NotOpen) ∷ []) None)
@@ -182,7 +191,8 @@ cause_by rules past (event.Credit session channel job nonce ntime version extran
 cause_by rules past (event.Grant session account fixed path) =
     within may_select_work past session (grant_cause (grant_refusal rules past account path))
 cause_by rules past (event.Custom session offer) =
-    within may_select_work past session (custom_cause (custom_refusal rules.pool_script past session offer))
+    within may_select_work past session
+    (custom_cause (custom_refusal rules.pool_script past session offer))
 
 -- the cause where a Start stands first, or doesn't
 abbrev pub cause_in : Option Rules → List Event → Event → Option Cause

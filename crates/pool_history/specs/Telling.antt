@@ -11,6 +11,7 @@ pub record ExtendedFits (path : List (List ℕ)) (prefix suffix : List ℕ) : Ty
 
 -- each field of the note fits its type
 abbrev pub NoteFits : Note → Type 0
-NoteFits (Extended channel job min_ntime version rolling path prefix suffix) = ExtendedFits path prefix suffix
+NoteFits (Extended channel job min_ntime version rolling path prefix suffix) =
+    ExtendedFits path prefix suffix
 NoteFits (Solution template version timestamp nonce coinbase) = length coinbase < 2 ^ 16
 NoteFits _ = Unit {0}

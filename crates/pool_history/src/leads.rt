@@ -2,7 +2,8 @@
 
 use std::marker::Model;
 
-/// The bytes that each extranonce of a channel begins with, one to four of them. Contracts see the list.
+/// The bytes that each extranonce of a channel begins with, one to four of them. Contracts see the
+/// list.
 #[derive(Clone, Copy, Debug)]
 pub struct Lead {
     len: u8,

@@ -1,5 +1,5 @@
-//! What a pool's history is made of, and everything that is defined over it. It holds no pool: the crates
-//! above keep the history, and answer by these definitions.
+//! What a pool's history is made of, and everything that is defined over it. It holds no pool: the
+//! crates above keep the history, and answer by these definitions.
 #![tactic(auto)]
 
 mod asking;
