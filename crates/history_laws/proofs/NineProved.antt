@@ -27,7 +27,7 @@ use Rattle.pool_history.specs.Sessions.{credits, past_of}
 use Rattle.pool_history.proofs.PlacesOfClasses.{classes_are_by_places}
 use Rattle.pool_history.proofs.PlacesOfJobs.{jobs_are_by_places}
 use Rattle.pool_history.proofs.PlacesOfStates.{customs_owned, filter-some, own-some, states_are_by_places}
-use Rattle.history_laws.specs.NineConditions.{ConditionsStandByThemselves, FailsFirst, HasCredited, HasRolledLength, HasVersion, Holds, IsInWindow, IsItsChannel, IsLiveOverTip, IsMineable, IsNewHeader, IsRebuiltWith, IsTip, MeetsItsClass, NamesChannel, NamesJob, nine_codes}
+use Rattle.history_laws.specs.NineConditions.{ConditionsStandByThemselves, FailsFirst, HasCredited, HasRolledLength, HasVersion, Holds, IsInWindow, IsItsChannel, IsLiveOverTip, IsMineable, IsNewHeader, IsRebuiltWith, IsLastTip, MeetsItsClass, NamesChannel, NamesJob, nine_codes}
 use Rattle.history_laws.specs.Places.{channels_from}
 use Rattle.history_laws.proofs.Answering.{channel-agrees}
 use Rattle.history_laws.proofs.CreditedHeaders.{headers-placed}
@@ -291,7 +291,7 @@ by-tip : (rules : Rules) (h : List Event) (session : ℕ) (share : Share) (c : O
     → (o : Option TipData) → (jobs_of (past_of h)).tip ≡ o → FailsFirst (Holds rules h session share) fourth-on (last-result rules h share (over-tip rules share c job o))
 by-tip rules h session share c job there live m None is = inl (λ l. none-some (sym is ∙ tip-placed h ∙ l.is_tip), refl)
 by-tip rules h session share c job there live m (Some tip) is =
-    let is_tip : IsTip h tip = sym (tip-placed h) ∙ is in
+    let is_tip : IsLastTip h tip = sym (tip-placed h) ∙ is in
     inr (
       record { live = (λ f. m.not_future f, found-live h share.job job live); tip = tip; is_tip = is_tip },
       in-version rules h session share (record { channel = c; job = job; tip = tip }) (record { is_open = there; is_job = live; is_tip = is_tip })

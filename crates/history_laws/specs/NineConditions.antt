@@ -34,8 +34,8 @@ abbrev pub NamesJob : List Event → Share → Job → Type 0
 NamesJob history share job = live_job (jobs_of (past_of history)) share.job ≡ Some job
 
 -- the last tip
-abbrev pub IsTip : List Event → TipData → Type 0
-IsTip history tip = option_map (λ tipped. tipped.tip) (tip_in history) ≡ Some tip
+abbrev pub IsLastTip : List Event → TipData → Type 0
+IsLastTip history tip = option_map (λ tipped. tipped.tip) (tip_in history) ≡ Some tip
 
 -- first: the channel is open, is the session's, has an account, and is standard exactly where the
 -- message is
@@ -64,7 +64,7 @@ pub record IsMineable (history : List Event) (share : Share) : Type 0 where
 pub record IsLiveOverTip (history : List Event) (share : Share) : Type 0 where
   pub live : IsState state.Live history share.job
   pub tip : TipData
-  pub is_tip : IsTip history tip
+  pub is_tip : IsLastTip history tip
 
 -- fifth: the version equals the job's outside the bits that may be rolled
 pub record HasVersion (rules : Rules) (history : List Event) (share : Share) : Type 0 where
@@ -78,7 +78,7 @@ pub record IsInWindow (rules : Rules) (history : List Event) (share : Share) : T
   pub job : Job
   pub is_job : NamesJob history share job
   pub tip : TipData
-  pub is_tip : IsTip history tip
+  pub is_tip : IsLastTip history tip
   pub least : min_ntime_of job.source tip ≤ share.ntime
   pub most : share.ntime ≤ min_ntime_of job.source tip + rules.ntime_window
 
@@ -86,7 +86,7 @@ pub record IsInWindow (rules : Rules) (history : List Event) (share : Share) : T
 pub record IsRebuiltWith (history : List Event) (share : Share) (with : Admitted) : Type 0 where
   pub is_open : NamesChannel history share with.channel
   pub is_job : NamesJob history share with.job
-  pub is_tip : IsTip history with.tip
+  pub is_tip : IsLastTip history with.tip
 
 -- seventh: the hash of the rebuilt header meets the class that the channel had at the place since
 -- which the job is live

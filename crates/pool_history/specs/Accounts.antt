@@ -1,4 +1,6 @@
 -- Accounts, and the ranges of the rules (this project's own).
+-- Computed on accounts with a blank, of V1 and of a list, and on a list with one user twice
+-- (`IllegalEvents`).
 use Rattle.std.specs.Prelude.{ℕ, ◌^◌, ◌==◌, ◌&&◌, ◌||◌, Bool, true, false, not, Option, None, Some, List, [], ◌∷◌, length, nat_lt, nat_le}
 use Rattle.std.specs.List.{before_first, list_all, list_any}
 use Rattle.std.specs.Str.{bytes_eq}

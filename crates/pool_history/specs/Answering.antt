@@ -1,4 +1,6 @@
 -- What each request is answered with, and which event it makes: one at most (this project's own).
+-- Computed on the worked session, on a miner's own job and on each refusal (`SessionS`, `OwnJobs`,
+-- `AnswerRows`).
 use Rattle.std.specs.Prelude.{◌≡◌, ℕ, ◌+◌, ◌==◌, Bool, true, false, if◌then◌else◌, min, Option, None, Some, Result, Ok, Err, List, [], length, bit_and, nat_lt}
 use Rattle.std.specs.Option.{option_to_list}
 use Rattle.pool_history.specs.declared.asking.OpenAsk.{OpenAsk}

@@ -1,6 +1,7 @@
 -- The states of jobs and the class at a job once more, by places over the history from its front.
 -- The laws `jobs_by_places`, `states_by_places` and `classes_by_places` say that these words and
 -- the recursions over the past are the same.
+-- Held to the recursions by the laws, and these are computed (`Rows`).
 use Rattle.std.specs.Prelude.{◌≡◌, ◌≤◌, ◌⊎◌, IsTrue, length, ℕ, ◌+◌, ◌==◌, ◌&&◌, Bool, true, false, not, if◌then◌else◌, Option, None, Some, List, [], ◌∷◌, ◌++◌, filter, take, nat_le, nat_lt}
 use Rattle.std.specs.List.{AllByRecursion}
 use Rattle.std.specs.Option.{option_map}

@@ -1,5 +1,6 @@
 -- The calls of a pool: those of any machine, over its histories, which answers as its history says
 -- (this project's own).
+-- Computed on four calls with a fault and a poll among them (`CallRows`).
 use Rattle.std.specs.Prelude.{Bool, true, false, List}
 use Rattle.calls.specs.Calls.{Call, GoodCalls, IsGoodCall}
 use Rattle.pool_history.specs.declared.asking.Request.{Request}

@@ -1,4 +1,5 @@
 -- Open channels (Stratum V2, "Channels"), told by their own moves.
+-- Computed on a channel whose class is set before and after a tip (`Rows`).
 use Rattle.std.specs.Prelude.{ℕ, ◌+◌, ◌^◌, ◌==◌, not, if◌then◌else◌, Option, List, [], ◌∷◌, ◌++◌, length, map, filter, find, nat_lt}
 use Rattle.pool_history.specs.declared.events.Event.{Event}
 use Rattle.pool_history.specs.declared.events.Event.TheVariants as event

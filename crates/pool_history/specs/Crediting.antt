@@ -1,5 +1,7 @@
 -- Shares and the credits before them: which condition fails first, and what a credit is worth (this
 -- project's own).
+-- Computed on shares that each condition refuses, and on the headers kept over a tip (`Rows`,
+-- `Settlements`); with hashes in `ledger_laws` (`WorkedSession`).
 use Rattle.std.specs.Prelude.{ℕ, ◌^◌, Bool, not, if◌then◌else◌, Option, None, Some, Result, Ok, Err, List, [], ◌∷◌, ◌++◌, nat_lt}
 use Rattle.std.specs.Option.{option_and_then, option_map}
 use Rattle.std.specs.List.{list_any}

@@ -1,4 +1,5 @@
 -- The header of a share (Stratum V2, "Mining Protocol": extranonce, coinbase, root, header).
+-- Computed on the worked session, with hashes in `ledger_laws` (`WorkedSession`).
 use Rattle.std.specs.Prelude.{◌≡◌, ℕ, ◌-◌, List, ◌++◌, length, replicate}
 use Rattle.block_header.specs.Hash.{dsha}
 use Rattle.block_header.specs.Layout.{header_bytes}

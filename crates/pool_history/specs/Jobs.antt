@@ -1,5 +1,7 @@
 -- The states of jobs (Stratum V2, "NewTemplate" and "SetNewPrevHash"; how many are kept is this
 -- project's own), told by templates, tips and miners' own jobs with their places.
+-- Computed on jobs before and after tips, on the seventeenth future one and on miners' own
+-- (`Rows`, `OwnJobs`).
 use Rattle.std.specs.Prelude.{ℕ, ◌+◌, ◌-◌, ◌==◌, ◌||◌, Bool, true, false, if◌then◌else◌, Option, None, Some, List, [], ◌∷◌, ◌++◌, length, drop, find, nat_lt, filter}
 use Rattle.std.specs.List.{list_any}
 use Rattle.pool_history.specs.declared.events.Event.{Event}

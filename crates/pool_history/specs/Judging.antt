@@ -1,5 +1,7 @@
 -- How a share is judged (Stratum V2, "SubmitShares.Error"; the nine conditions and their order are
 -- this project's own).
+-- Computed on the worked session's share and on shares that each condition refuses (`Rows`,
+-- `SessionS`).
 use Rattle.std.specs.Prelude.{ℕ, ◌+◌, ◌-◌, ◌==◌, ◌&&◌, Bool, true, false, not, if◌then◌else◌, Option, None, Some, Result, Ok, Err, List, [], length, take, nat_lt, nat_le, bit_and}
 use Rattle.coinbase.specs.Coin.{Terms, template_parts}
 use Rattle.coinbase.specs.Custom.{CustomTerms, custom_parts}

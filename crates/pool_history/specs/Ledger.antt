@@ -1,5 +1,7 @@
 -- How a history is written as a ledger (this project's own; fields are spelled as in Stratum V2,
 -- "Data Types Mapping").
+-- Computed on a record of each kind and on the worked session's ledgers (`SessionS`, `RecordRows`,
+-- `LedgerLengths`).
 use Rattle.std.specs.Prelude.{◌≡◌, ℕ, ◌<◌, ◌≤◌, ◌^◌, Bool, false, Option, None, Some, List, [], ◌∷◌, ◌++◌, length, codes}
 use Rattle.std.specs.List.{AllByRecursion, flat_map}
 use Rattle.std.specs.Str.{IsUtf8}

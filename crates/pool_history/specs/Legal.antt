@@ -1,5 +1,6 @@
 -- Which events are legal after others (this project's own). A condition is told by the cause that
 -- its failure has.
+-- Computed on an event for each cause (`IllegalEvents`, `OwnJobs`) and on the worked session.
 use Rattle.std.specs.Prelude.{◌≡◌, ℕ, ◌==◌, ◌&&◌, Bool, true, false, not, if◌then◌else◌, Option, None, Some, is_some, Result, Ok, Err, List, [], ◌∷◌, length, bit_and, nat_le, nat_lt}
 use Rattle.std.specs.Int.{bit_at}
 use Rattle.std.specs.Str.{bytes_eq}

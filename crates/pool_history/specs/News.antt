@@ -1,5 +1,7 @@
 -- What a session is told of events (Stratum V2, "NewExtendedMiningJob", "NewMiningJob",
 -- "SetNewPrevHash" and "SubmitSolution"; when it is owed is this project's own).
+-- Computed on openings, templates and tips to channels and groups (`NewsRows`), and on blocks
+-- (`RecordRows`, `WorkedSession` of `ledger_laws`).
 use Rattle.std.specs.Prelude.{ℕ, ◌+◌, ◌==◌, ◌&&◌, Bool, true, false, if◌then◌else◌, Option, None, Some, List, [], ◌∷◌, ◌++◌, length, map, nat_le}
 use Rattle.std.specs.Int.{bit_at}
 use Rattle.std.specs.List.{flat_map, list_any}

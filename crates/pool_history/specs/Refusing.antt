@@ -1,5 +1,7 @@
 -- Why a request is refused (Stratum V2's error codes; their order and the limits are this project's
 -- own). What a request is answered with and what makes an event illegal are both by these.
+-- Computed on each refusal but the counts that are too great to compute (`Rows`, `OwnJobs`,
+-- `IllegalEvents`, `AnswerRows`).
 use Rattle.std.specs.Prelude.{ℕ, ◌+◌, ◌-◌, ◌^◌, ◌==◌, ◌&&◌, ◌||◌, Bool, true, false, not, if◌then◌else◌, min, max, Option, None, Some, is_none, Result, Ok, Err, List, [], ◌∷◌, ◌++◌, length, map, nat_lt, nat_le}
 use Rattle.std.specs.Int.{w64, to_le_bytes}
 use Rattle.std.specs.List.{list_any}

@@ -1,6 +1,7 @@
 -- The sessions of a history (this project's own). Every definition goes over the past: the events
 -- from the last to the first, so that the number of earlier events of a kind counts the rest of the
 -- list.
+-- Computed on sessions that left, entered again and never entered (`IllegalEvents`, `AnswerRows`).
 use Rattle.std.specs.Prelude.{ℕ, ◌+◌, ◌==◌, Bool, true, false, if◌then◌else◌, Option, None, Some, List, [], ◌∷◌, reverse}
 use Rattle.pool_history.specs.declared.events.Event.{Event}
 use Rattle.pool_history.specs.declared.events.Event.TheVariants.{Start, Enter, Template, Open, Leave, Credit, Grant}

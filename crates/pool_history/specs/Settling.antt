@@ -1,6 +1,8 @@
 -- Who is paid what for a block (Rosenfeld, "Analysis of Bitcoin Pooled Mining Reward Systems": the
 -- proportional method, and the idea of PPLNS; that credits weigh their work, the window, the cut
 -- and the rounding are this project's own).
+-- Computed on both rules, on windows of 1, 6 and 100 and on a block without reward
+-- (`Settlements`).
 use Rattle.std.specs.Prelude.{ℕ, ◌+◌, ◌-◌, ◌*◌, ◌/◌, if◌then◌else◌, min, Option, None, Some, is_some, List, [], ◌∷◌, ◌++◌, filter, map, sum_by, nat_lt}
 use Rattle.std.specs.List.{list_any}
 use Rattle.std.specs.Str.{bytes_eq}

@@ -1,5 +1,6 @@
 -- The spaces of extranonces (Stratum V2, "Extranonces"; which lead a channel gets is this project's
 -- own).
+-- Computed on a fresh space and beside held leads (`Rows`).
 use Rattle.std.specs.Prelude.{◌≡◌, ℕ, zero, suc, ◌/◌, ◌%◌, ◌^◌, Bool, true, false, not, ◌||◌, Option, None, Some, List, [], ◌∷◌, ◌++◌, length, nat_eq}
 use Rattle.std.specs.List.{starts_with, list_any}
 use Rattle.pool_history.specs.declared.events.Kind.{Kind}

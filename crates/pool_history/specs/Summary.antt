@@ -1,4 +1,5 @@
 -- The numbers of a history, and the text in which they are printed (this project's own).
+-- Computed on the worked session (`Settlements`, `WorkedSession` of `ledger_laws`).
 use Rattle.std.specs.Prelude.{ℕ, Option, None, Some, is_some, List, [], ◌∷◌, ◌++◌, length, map, count_by, sum_by, codes}
 use Rattle.std.specs.List.{flat_map}
 use Rattle.std.specs.Fmt.{decimal}

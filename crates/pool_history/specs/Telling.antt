@@ -1,4 +1,5 @@
 -- When a note can be written as its message (Stratum V2, "Data Types Mapping").
+-- A type keeps it.
 use Rattle.std.specs.Prelude.{ℕ, ◌<◌, ◌^◌, List, length}
 use Rattle.pool_history.specs.declared.telling.Note.{Note}
 use Rattle.pool_history.specs.declared.telling.Note.TheVariants.{Extended, Solution}

@@ -22,7 +22,10 @@ impl Model for Lead {
 
     ghost invariant = { λ lead. IsLead lead.len lead.bytes };
 
-    ghost inverse = { λ bytes. record { len = length bytes; bytes = bytes ++ replicate (4 - length bytes) 0 } };
+    ghost inverse = { λ bytes. record {
+      len = length bytes;
+      bytes = bytes ++ replicate (4 - length bytes) 0;
+    } };
 }
 
 impl Lead {
