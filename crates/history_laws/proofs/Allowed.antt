@@ -12,7 +12,8 @@ use Rattle.pool_history.specs.declared.events.Kind.TheVariants as kind
 use Rattle.pool_history.specs.declared.settings.Rules.{Rules}
 use Rattle.pool_history.specs.Accounts.{is_known}
 use Rattle.pool_history.specs.Channels.{OpenChannel, account_or, channel_moves, channels_of, class_before, named, opened, reclassed}
-use Rattle.pool_history.specs.Legal.{LegalPast, cause_by, cause_of, is_class, is_lead_length, is_just, is_nameless, is_next_lead, is_opening_account, may_become, may_get, mining, provided}
+use Rattle.pool_history.specs.Conditions.{or_code}
+use Rattle.pool_history.specs.Legal.{LegalPast, cause_by, cause_of, is_class, is_lead_length, is_just, is_nameless, is_next_lead, is_opening_account, may_become, may_get, may_mine}
 use Rattle.pool_history.specs.Refusing.{held_leads, own_channel}
 use Rattle.pool_history.specs.Sessions.{past_of, rules_of}
 use Rattle.pool_history.specs.Spaces.{lowest, overlap}
@@ -40,7 +41,7 @@ name-known rules past session id account are n =
     subst (λ r. is_known r account ≡ true) (some-same (sym u.are_rules ∙ are))
     (by_channel u.rules (own_channel past session id)
     (provided-both (may_get u.rules account (own_channel past session id)) cause.BadName None
-    (within-next mining past session (provided (may_get u.rules account (own_channel past session id)) cause.BadName None) u.none)).0) where
+    (within-next may_mine past session (or_code (may_get u.rules account (own_channel past session id)) cause.BadName None) u.none)).0) where
       by_channel : (rules : Rules) (o : Option OpenChannel) → may_get rules account o ≡ true → is_known rules account ≡ true
       by_channel rules None h = absurd (false≢true h)
       by_channel rules (Some c) h = (and_parts (is_nameless c.kind c.account) (is_known rules account) h).1
@@ -52,7 +53,7 @@ class-allowed rules past session id class are n =
     subst (λ r. is_class r class ≡ true) (some-same (sym u.are_rules ∙ are))
     (by_channel u.rules (own_channel past session id)
     (provided-both (may_become u.rules class (own_channel past session id)) cause.BadClass None
-    (within-next mining past session (provided (may_become u.rules class (own_channel past session id)) cause.BadClass None) u.none)).0) where
+    (within-next may_mine past session (or_code (may_become u.rules class (own_channel past session id)) cause.BadClass None) u.none)).0) where
       by_channel : (rules : Rules) (o : Option OpenChannel) → may_become rules class o ≡ true → is_class rules class ≡ true
       by_channel rules None h = absurd (false≢true h)
       by_channel rules (Some c) h = (and_parts (is_class rules class) _ h).0

@@ -7,7 +7,8 @@ use Rattle.pool_history.specs.declared.events.Event.{Event}
 use Rattle.pool_history.specs.declared.events.Event.TheVariants as event
 use Rattle.pool_history.specs.declared.events.Kind.{Kind}
 use Rattle.pool_history.specs.declared.settings.Rules.{Rules}
-use Rattle.pool_history.specs.Legal.{cause_by, cause_in, cause_of, entered_with, is_class, is_next_lead, is_opening_account, mining, provided, within}
+use Rattle.pool_history.specs.Conditions.{or_code}
+use Rattle.pool_history.specs.Legal.{cause_by, cause_in, cause_of, entered_with, is_class, is_next_lead, is_opening_account, may_mine, within}
 use Rattle.pool_history.specs.Refusing.{has_too_many}
 use Rattle.pool_history.specs.Sessions.{Entrance, entrance, is_present, rules_of}
 use Rattle.std.specs.Prelude.{not}
@@ -38,14 +39,14 @@ pub uncaused : (past : List Event) (e : Event) → is_start e ≡ false → caus
 uncaused past e s n = by_rules past e (rules_of past) refl (sym (cause-in past e s) ∙ n)
 
 -- each condition holds
-pub provided-both : (b : Bool) (code : Cause) (next : Option Cause) → provided b code next ≡ None → (b ≡ true) × (next ≡ None)
+pub provided-both : {C : Type 0} (b : Bool) (code : C) (next : Option C) → or_code b code next ≡ None → (b ≡ true) × (next ≡ None)
 provided-both true code next n = (refl, n)
 provided-both false code next n = absurd (some-none n)
 
 pub within-next : (may : Entrance → Bool) (past : List Event) (session : ℕ) (next : Option Cause) → within may past session next ≡ None → next ≡ None
 within-next may past session next n =
     (provided-both (entered_with may (entrance past session)) cause.BadRole next
-    (provided-both (is_present past session) cause.NoSession (provided (entered_with may (entrance past session)) cause.BadRole next) n).1).1
+    (provided-both (is_present past session) cause.NoSession (or_code (entered_with may (entrance past session)) cause.BadRole next) n).1).1
 
 -- those of an Open
 pub record IsOpening (rules : Rules) (past : List Event) (session : ℕ) (kind : Kind) (account : List ℕ) (class : ℕ) (lead : List ℕ) : Type 0 where
@@ -57,12 +58,12 @@ pub record IsOpening (rules : Rules) (past : List Event) (session : ℕ) (kind :
 pub opening_of : (rules : Rules) (past : List Event) (session : ℕ) (kind : Kind) (account : List ℕ) (class : ℕ) (lead : List ℕ)
     → cause_by rules past (event.Open session kind account class lead) ≡ None → IsOpening rules past session kind account class lead
 opening_of rules past session kind account class lead n =
-    let last : Option Cause = provided (is_next_lead past kind lead) cause.BadLead None in
-    let third : Option Cause = provided (not (has_too_many past session)) cause.TooManyChannels last in
-    let second : Option Cause = provided (is_class rules class) cause.BadClass third in
-    let first : Option Cause = provided (is_opening_account rules kind account) cause.UnknownUser second in
+    let last : Option Cause = or_code (is_next_lead past kind lead) cause.BadLead None in
+    let third : Option Cause = or_code (not (has_too_many past session)) cause.TooManyChannels last in
+    let second : Option Cause = or_code (is_class rules class) cause.BadClass third in
+    let first : Option Cause = or_code (is_opening_account rules kind account) cause.UnknownUser second in
     let a : (is_opening_account rules kind account ≡ true) × (second ≡ None) =
-    provided-both (is_opening_account rules kind account) cause.UnknownUser second (within-next mining past session first n) in
+    provided-both (is_opening_account rules kind account) cause.UnknownUser second (within-next may_mine past session first n) in
     let b : (is_class rules class ≡ true) × (third ≡ None) = provided-both (is_class rules class) cause.BadClass third a.1 in
     let c : (not (has_too_many past session) ≡ true) × (last ≡ None) = provided-both (not (has_too_many past session)) cause.TooManyChannels last b.1 in
     let d : (is_next_lead past kind lead ≡ true) × (◌≡◌ {A = Option Cause} None None) = provided-both (is_next_lead past kind lead) cause.BadLead None c.1 in

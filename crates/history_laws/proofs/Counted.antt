@@ -19,8 +19,8 @@ use Rattle.pool_history.specs.declared.settings.Rules.{Rules}
 use Rattle.pool_history.specs.declared.templates.CustomData.{CustomData}
 use Rattle.pool_history.specs.Accounts.{is_known}
 use Rattle.pool_history.specs.Channels.{OpenChannel}
-use Rattle.pool_history.specs.Crediting.{has_room}
-use Rattle.pool_history.specs.Legal.{LegalPast, are_acceptable, cause_of, custom_cause, feeding, grant_cause, provided, refused_as, selecting}
+use Rattle.pool_history.specs.Conditions.{or_code}
+use Rattle.pool_history.specs.Legal.{LegalPast, are_acceptable, cause_of, custom_cause, may_feed, grant_cause, refused_as, may_select_work}
 use Rattle.pool_history.specs.Refusing.{Granted, custom_refusal, grant_of, grant_refusal, granted_to, is_extended, is_spent, most_enters, most_grants, most_opens, most_templates, on_channel, open_count, own_channel, template_refusal, token_of, unspent, with_token, has_too_many, most_channels}
 use Rattle.pool_history.specs.Sessions.{credits, enters, grants, opens, rules_of, templates}
 use Rattle.history_laws.specs.Limits.{customs}
@@ -44,7 +44,7 @@ pub entered-few : (past : List Event) (worker : ℕ) (role : Role) (flags : ℕ)
 entered-few past worker role flags n =
     let u : IsUncaused past (event.Enter worker role flags) = uncaused past (event.Enter worker role flags) refl n in
     ltb-true (enters past) most_enters
-    (provided-both (nat_lt (enters past) most_enters) cause.PoolFull (provided (are_acceptable u.rules flags) cause.BadFlags None) u.none).0
+    (provided-both (nat_lt (enters past) most_enters) cause.PoolFull (or_code (are_acceptable u.rules flags) cause.BadFlags None) u.none).0
 
 pub came-few : (past : List Event) (session : ℕ) (template : TemplateData)
     → cause_of past (event.Template session template) ≡ None → templates past < most_templates
@@ -52,7 +52,7 @@ came-few past session template n =
     let u : IsUncaused past (event.Template session template) = uncaused past (event.Template session template) refl n in
     let none : template_refusal u.rules.pool_script past template ≡ None =
     refused-none cause.BadTemplate (template_refusal u.rules.pool_script past template)
-    (within-next feeding past session (refused_as cause.BadTemplate (template_refusal u.rules.pool_script past template)) u.none) in
+    (within-next may_feed past session (refused_as cause.BadTemplate (template_refusal u.rules.pool_script past template)) u.none) in
     leb-false most_templates (templates past) (first-false (nat_le most_templates (templates past)) (job_error.TooMany (templates past)) _ none).0
 
 pub grant-none : (o : Option GrantError) → grant_cause o ≡ None → o ≡ None
@@ -66,7 +66,7 @@ pub granted-few : (past : List Event) (session : ℕ) (account : List ℕ) (fixe
 granted-few past session account fixed path n =
     let u : IsUncaused past (event.Grant session account fixed path) = uncaused past (event.Grant session account fixed path) refl n in
     let none : grant_refusal u.rules past account path ≡ None =
-    grant-none (grant_refusal u.rules past account path) (within-next selecting past session (grant_cause (grant_refusal u.rules past account path)) u.none) in
+    grant-none (grant_refusal u.rules past account path) (within-next may_select_work past session (grant_cause (grant_refusal u.rules past account path)) u.none) in
     let more = first-false (not (is_known u.rules account)) grant.UnknownUser _ none in
     leb-false most_grants (grants past) (first-false (nat_le most_grants (grants past)) (grant.TooManyGrants (grants past)) _ more.1).0
 
@@ -79,17 +79,12 @@ opened-few past session k account class lead n =
     (not-true (has_too_many past session) o.1.few)).1
 
 -- an accepted Credit
-pub room-few : (rules : Rules) (past : List Event) → has_room rules past ≡ None → credits past < rules.credit_limit
-room-few rules past n =
-    cond_both (nat_lt (credits past) rules.credit_limit) None (Some failed.Full)
-    (λ o. o ≡ None → credits past < rules.credit_limit) (λ few n. ltb-true (credits past) rules.credit_limit few) (λ full n. absurd (some-none n)) n
-
 pub credited-few : (past : List Event) (rules : Rules) (session channel job nonce ntime version : ℕ) (extranonce : List ℕ) → rules_of past ≡ Some rules
     → cause_of past (event.Credit session channel job nonce ntime version extranonce) ≡ None → credits past < rules.credit_limit
 credited-few past rules session channel job nonce ntime version extranonce are n =
     let g : IsGoodCredit past session (judged_share past channel job nonce ntime version extranonce) =
     good_credit past session channel job nonce ntime version extranonce n in
-    subst (λ r. credits past < r.credit_limit) (some-same (sym g.are_rules ∙ are)) (room-few g.rules past g.good.room)
+    subst (λ r. credits past < r.credit_limit) (some-same (sym g.are_rules ∙ are)) (ltb-true (credits past) g.rules.credit_limit g.good.room)
 
 -- an accepted job of a miner's own spends a token that was granted and is not spent yet
 pub record Spends (past : List Event) (token : List ℕ) : Type 0 where
@@ -124,7 +119,7 @@ brought-spends past session offer n =
     let u : IsUncaused past (event.Custom session offer) = uncaused past (event.Custom session offer) refl n in
     channel-spends u.rules.pool_script past offer (own_channel past session offer.channel_id)
     (custom-none (custom_refusal u.rules.pool_script past session offer)
-    (within-next selecting past session (custom_cause (custom_refusal u.rules.pool_script past session offer)) u.none))
+    (within-next may_select_work past session (custom_cause (custom_refusal u.rules.pool_script past session offer)) u.none))
 
 -- a token that was granted is that of a Grant's number
 pub record IsNumber (past : List Event) (token : List ℕ) : Type 0 where

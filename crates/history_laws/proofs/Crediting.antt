@@ -1,7 +1,8 @@
 -- What the credits of a legal history are.
 use Rattle.std.proofs.Common.{◌≡◌, ℕ, ◌+◌, Bool, true, false, cond, not, Option, None, Some, Result, Ok, Err, List, [], ◌∷◌, ◌++◌, length, refl, ap, sym, ◌∙◌, arith, append_assoc}
-use Rattle.std.proofs.lemmas.Bool.{and_from, not_from_false}
-use Rattle.std.specs.Prelude.{nat_eq}
+use Rattle.std.proofs.lemmas.Bool.{and_from, not-true, not_from_false}
+use Rattle.std.specs.Prelude.{nat_eq, nat_lt}
+use Rattle.std.specs.Option.{option_and_then, option_map}
 use Rattle.std.specs.List.{list_any}
 use Rattle.std.specs.Str.{bytes_eq}
 use Rattle.block_header.specs.Hash.{dsha, meets}
@@ -13,21 +14,28 @@ use Rattle.pool_history.specs.declared.refusals.Failed.TheVariants as failed
 use Rattle.pool_history.specs.declared.settings.Rules.{Rules}
 use Rattle.pool_history.specs.Accounts.{are_distinct}
 use Rattle.pool_history.specs.Channels.{OpenChannel, channel_in, channels_of}
-use Rattle.pool_history.specs.Crediting.{Booked, booked, booked_with, booking, class_of_share, credit_share, first_failed, has_room, headers, is_new, last_failed, listed}
+use Rattle.pool_history.specs.Conditions.{or_code, found, provided}
+use Rattle.pool_history.specs.Crediting.{Booked, booked, booked_with, booking, admitted_class, credit_share, first_failed, headers, last_failed, listed}
 use Rattle.pool_history.specs.Headers.{rolled}
-use Rattle.pool_history.specs.Jobs.{jobs_of, live_job}
-use Rattle.pool_history.specs.Judging.{Admitted, Share, admitted, found, is_in_time, is_known_job, is_version, provided, rebuilt, serves}
-use Rattle.pool_history.specs.Legal.{LegalPast, cause_of, failed_as, is_standard_in, mining}
+use Rattle.pool_history.specs.declared.templates.TipData.{TipData}
+use Rattle.pool_history.specs.Jobs.{Job, jobs_of, live_job}
+use Rattle.pool_history.specs.Judging.{Admitted, Share, admitted, is_in_time, is_known_job, is_version, rebuilt, serves}
+use Rattle.pool_history.specs.Legal.{LegalPast, cause_of, failed_as, is_standard_in, may_mine}
 use Rattle.pool_history.specs.Sessions.{credits, past_of, rules_of, script_of, script_in}
 use Rattle.history_laws.specs.Credited.{CreditsAreBooked, NoShareTwice}
 use Rattle.history_laws.specs.Staying.{CreditsStay}
 use Rattle.history_laws.proofs.Answering.{first-ok, found-some, provided-ok}
-use Rattle.history_laws.proofs.Causes.{IsUncaused, uncaused, within-next}
+use Rattle.history_laws.proofs.Causes.{IsUncaused, provided-both, uncaused, within-next}
+use Rattle.history_laws.proofs.Entrances.{none-some, some-same}
 use Rattle.history_laws.proofs.Judged.{ok-same}
 use Rattle.history_laws.proofs.Legalities.{one_more_legal, past-append, past-one, some-none}
 
+-- a channel, a job and a tip in one
+abbrev with_all : OpenChannel → Job → TipData → Admitted
+with_all channel job tip = record { channel = channel; job = job; tip = tip }
+
 pub admitted-booked : (rules : Rules) (past : List Event) (session : ℕ) (share : Share) (with : Admitted) → admitted rules past session share ≡ Ok with
-    → booked_with past share.channel share.job ≡ Ok with
+    → booked_with past share.channel share.job ≡ Some with
 admitted-booked rules past session share with h =
     let o : Option OpenChannel = channel_in (channels_of past) share.channel in
     let a = first-ok (found failed.Channel o) _ with h in
@@ -39,47 +47,74 @@ admitted-booked rules past session share with h =
     let g = first-ok (provided (is_version rules e.0.source share.version) failed.Version b.0) _ with f.2 in
     let k = first-ok (provided (is_in_time rules e.0.source f.0 share.ntime) failed.Ntime b.0) _ with g.2 in
     let same : a.0 ≡ b.0 = (provided-ok (serves session share a.0) failed.Channel a.0 b.0 b.1).1 in
-    ap (λ x. x >>= (λ there. found failed.Stale (live_job (jobs_of past) share.job) >>= (λ source. found failed.Stale (jobs_of past).tip >>= (λ tip. Ok (record { channel = there; job = source; tip = tip }))))) a.1
-    ∙ ap (λ x. x >>= (λ source. found failed.Stale (jobs_of past).tip >>= (λ tip. Ok (record { channel = a.0; job = source; tip = tip })))) e.1
-    ∙ ap (λ x. x >>= (λ tip. Ok (record { channel = a.0; job = e.0; tip = tip }))) f.1
-    ∙ ap (λ x. Ok (record { channel = x; job = e.0; tip = f.0 })) same ∙ k.2
+    ap (option_and_then (λ there. option_and_then (λ live. option_map (λ tip. with_all there live tip) (jobs_of past).tip) (live_job (jobs_of past) share.job)))
+    (found-some failed.Channel o a.0 a.1)
+    ∙ ap (option_and_then (λ live. option_map (λ tip. with_all a.0 live tip) (jobs_of past).tip)) (found-some failed.Stale (live_job (jobs_of past) share.job) e.0 e.1)
+    ∙ ap (option_map (λ tip. with_all a.0 e.0 tip)) (found-some failed.Stale (jobs_of past).tip f.0 f.1)
+    ∙ ap (λ x. Some (with_all x e.0 f.0)) same ∙ ap Some (ok-same k.2)
+
+-- a value that was found, and what was made of it
+pub then-some : {X Y : Type 0} (f : X → Option Y) (o : Option X) (y : Y) → option_and_then f o ≡ Some y → (x : X) × (o ≡ Some x) × (f x ≡ Some y)
+then-some f None y h = absurd (none-some h)
+then-some f (Some x) y h = (x, refl, h)
+
+pub map-some : {X Y : Type 0} (f : X → Y) (o : Option X) (y : Y) → option_map f o ≡ Some y → (x : X) × (o ≡ Some x) × (f x ≡ y)
+map-some f None y h = absurd (none-some h)
+map-some f (Some x) y h = (x, refl, some-same h)
+
+-- what a credit was booked with was found
+pub record WasFound (past : List Event) (channel job : ℕ) (with : Admitted) : Type 0 where
+  pub channel_is : channel_in (channels_of past) channel ≡ Some with.channel
+  pub job_is : live_job (jobs_of past) job ≡ Some with.job
+  pub tip_is : (jobs_of past).tip ≡ Some with.tip
+
+pub booked-found : (past : List Event) (channel job : ℕ) (with : Admitted) → booked_with past channel job ≡ Some with → WasFound past channel job with
+booked-found past channel job with h =
+    let a = then-some (λ there. option_and_then (λ live. option_map (λ tip. with_all there live tip) (jobs_of past).tip) (live_job (jobs_of past) job))
+    (channel_in (channels_of past) channel) with h in
+    let b = then-some (λ live. option_map (λ tip. with_all a.0 live tip) (jobs_of past).tip) (live_job (jobs_of past) job) with a.2 in
+    let c = map-some (λ tip. with_all a.0 b.0 tip) (jobs_of past).tip with b.2 in
+    record {
+      channel_is = a.1 ∙ ap (λ w. Some w.channel) c.2;
+      job_is = b.1 ∙ ap (λ w. Some w.job) c.2;
+      tip_is = c.1 ∙ ap (λ w. Some w.tip) c.2;
+    }
 
 -- its channel is the open one
-pub booked-channel : (past : List Event) (channel job : ℕ) (with : Admitted) → booked_with past channel job ≡ Ok with
+pub booked-channel : (past : List Event) (channel job : ℕ) (with : Admitted) → booked_with past channel job ≡ Some with
     → channel_in (channels_of past) channel ≡ Some with.channel
-booked-channel past channel job with h =
-    let a = first-ok (found failed.Channel (channel_in (channels_of past) channel)) _ with h in
-    let b = first-ok (found failed.Stale (live_job (jobs_of past) job)) _ with a.2 in
-    let c = first-ok (found failed.Stale (jobs_of past).tip) _ with b.2 in
-    found-some failed.Channel (channel_in (channels_of past) channel) a.0 a.1 ∙ ap (λ w. Some w.channel) (ok-same c.2)
+booked-channel past channel job with h = (booked-found past channel job with h).channel_is
 
 -- the first of two conditions holds, and the next
 pub kept-both : {X : Type 0} (b : Bool) (x : Option X) (y : X) → cond b x (Some y) ≡ None → (b ≡ true) × (x ≡ None)
 kept-both true x y n = (refl, n)
 kept-both false x y n = absurd (some-none n)
 
-pub dropped-both : {X : Type 0} (b : Bool) (x : X) (y : Option X) → cond b (Some x) y ≡ None → (b ≡ false) × (y ≡ None)
-dropped-both true x y n = absurd (some-none n)
-dropped-both false x y n = (refl, n)
-
 -- a share that no condition fails
 pub record IsGood (rules : Rules) (past : List Event) (session : ℕ) (share : Share) : Type 0 where
   pub with : Admitted
   pub is_admitted : admitted rules past session share ≡ Ok with
-  pub meets_class : meets (dsha (rebuilt rules.pool_script with share)) (class_of_share with) ≡ true
+  pub meets_class : meets (dsha (rebuilt rules.pool_script with share)) (admitted_class with) ≡ true
   pub header_new : list_any (bytes_eq (rebuilt rules.pool_script with share)) (headers past) ≡ false
-  pub room : has_room rules past ≡ None
+  pub room : nat_lt (credits past) rules.credit_limit ≡ true
 
 pub good_by : (rules : Rules) (past : List Event) (session : ℕ) (share : Share) (r : Result Admitted Failed) → admitted rules past session share ≡ r
     → last_failed rules past share r ≡ None → IsGood rules past session share
 good_by rules past session share (Err code) is n = absurd (some-none n)
 good_by rules past session share (Ok with) is n =
     let header : List ℕ = rebuilt rules.pool_script with share in
-    let a : (meets (dsha header) (class_of_share with) ≡ true) × (is_new rules past header ≡ None) =
-    kept-both (meets (dsha header) (class_of_share with)) (is_new rules past header) failed.Difficulty n in
-    let b : (list_any (bytes_eq header) (headers past) ≡ false) × (has_room rules past ≡ None) =
-    dropped-both (list_any (bytes_eq header) (headers past)) failed.Duplicate (has_room rules past) a.1 in
-    record { with = with; is_admitted = is; meets_class = a.0; header_new = b.0; room = b.1 }
+    let full : Option Failed = or_code (nat_lt (credits past) rules.credit_limit) failed.Full None in
+    let twice : Option Failed = or_code (not (list_any (bytes_eq header) (headers past))) failed.Duplicate full in
+    let a = provided-both (meets (dsha header) (admitted_class with)) failed.Difficulty twice n in
+    let b = provided-both (not (list_any (bytes_eq header) (headers past))) failed.Duplicate full a.1 in
+    let c = provided-both (nat_lt (credits past) rules.credit_limit) failed.Full None b.1 in
+    record {
+      with = with;
+      is_admitted = is;
+      meets_class = a.0;
+      header_new = not-true (list_any (bytes_eq header) (headers past)) b.0;
+      room = c.0;
+    }
 
 pub failed-none : (o : Option Failed) → failed_as o ≡ None → o ≡ None
 failed-none None n = refl
@@ -111,12 +146,12 @@ good_credit past session channel job nonce ntime version extranonce n =
     let share : Share = judged_share past channel job nonce ntime version extranonce in
     let u : IsUncaused past e = uncaused past e refl n in
     let none : first_failed u.rules past session share ≡ None =
-    failed-none (first_failed u.rules past session share) (within-next mining past session (failed_as (first_failed u.rules past session share)) u.none) in
+    failed-none (first_failed u.rules past session share) (within-next may_mine past session (failed_as (first_failed u.rules past session share)) u.none) in
     record { rules = u.rules; are_rules = u.are_rules; good = good_by u.rules past session share (admitted u.rules past session share) refl none }
 
 -- what it adds
 pub record Adds (past : List Event) (session : ℕ) (share : Share) (e : Event) (g : IsGoodCredit past session share) : Type 0 where
-  pub is_booked : booked_with past share.channel share.job ≡ Ok g.good.with
+  pub is_booked : booked_with past share.channel share.job ≡ Some g.good.with
   pub header : headers (e ∷ past) ≡ rebuilt g.rules.pool_script g.good.with share ∷ headers past
   pub counts : booked (e ∷ past) ≡ booking g.rules.pool_script share g.good.with ∷ booked past
 
@@ -126,7 +161,7 @@ pub credit-adds : (past : List Event) (session channel job nonce ntime version :
 credit-adds past session channel job nonce ntime version extranonce g =
     let share : Share = judged_share past channel job nonce ntime version extranonce in
     let with : Admitted = g.good.with in
-    let is : booked_with past channel job ≡ Ok with = admitted-booked g.rules past session share with g.good.is_admitted in
+    let is : booked_with past channel job ≡ Some with = admitted-booked g.rules past session share with g.good.is_admitted in
     let there : channel_in (channels_of past) channel ≡ Some with.channel = booked-channel past channel job with is in
     let same : credit_share with channel job nonce ntime version extranonce ≡ share =
     ap (λ b. record share { is_standard = b }) (sym (ap is_standard_in there)) in

@@ -14,10 +14,11 @@ use Rattle.pool_history.specs.declared.events.Kind.TheVariants as kind
 use Rattle.pool_history.specs.declared.settings.Rules.{Rules}
 use Rattle.pool_history.specs.Accounts.{is_account, is_empty, is_known, is_visible}
 use Rattle.pool_history.specs.Channels.{OpenChannel, account_or, channel_in, channel_moves, channels_of, class_at, class_before, named, opened, reclassed}
-use Rattle.pool_history.specs.Crediting.{booked, booking, class_of_share, is_block, reward_of}
+use Rattle.pool_history.specs.Crediting.{booked, booking, admitted_class, is_block, reward_of}
 use Rattle.pool_history.specs.Jobs.{FromMiner, FromTemplate, Source, jobs_of}
 use Rattle.pool_history.specs.Judging.{Admitted, Share, agree, has_account, is_standard}
-use Rattle.pool_history.specs.Legal.{LegalPast, cause_of, is_class, is_nameless, is_opening_account, may_become, may_get, mining, provided}
+use Rattle.pool_history.specs.Conditions.{or_code}
+use Rattle.pool_history.specs.Legal.{LegalPast, cause_of, is_class, is_nameless, is_opening_account, may_become, may_get, may_mine}
 use Rattle.pool_history.specs.Refusing.{own_channel}
 use Rattle.pool_history.specs.Sessions.{past_of}
 use Rattle.pool_history.proofs.PlacesOfClasses.{all-end, all-filter, all-map}
@@ -58,7 +59,7 @@ legal-name past session id account n =
     let u : IsUncaused past (event.Name session id account) = uncaused past (event.Name session id account) refl n in
     by_channel u.rules (own_channel past session id)
     (provided-both (may_get u.rules account (own_channel past session id)) cause.BadName None
-    (within-next mining past session (provided (may_get u.rules account (own_channel past session id)) cause.BadName None) u.none)).0 where
+    (within-next may_mine past session (or_code (may_get u.rules account (own_channel past session id)) cause.BadName None) u.none)).0 where
       by_channel : (rules : Rules) (o : Option OpenChannel) → may_get rules account o ≡ true → length account ≤ 255
       by_channel rules None h = absurd (false≢true h)
       by_channel rules (Some c) h = known-short rules account (and_parts (is_nameless c.kind c.account) (is_known rules account) h).1
@@ -68,7 +69,7 @@ legal-class past session id class n =
     let u : IsUncaused past (event.Class session id class) = uncaused past (event.Class session id class) refl n in
     by_channel u.rules (own_channel past session id)
     (provided-both (may_become u.rules class (own_channel past session id)) cause.BadClass None
-    (within-next mining past session (provided (may_become u.rules class (own_channel past session id)) cause.BadClass None) u.none)).0 where
+    (within-next may_mine past session (or_code (may_become u.rules class (own_channel past session id)) cause.BadClass None) u.none)).0 where
       by_channel : (rules : Rules) (o : Option OpenChannel) → may_become rules class o ≡ true → class ≤ 60
       by_channel rules None h = absurd (false≢true h)
       by_channel rules (Some c) h = class-most rules class (and_parts (is_class rules class) _ h).0
@@ -149,8 +150,8 @@ credit-fits past session channel job nonce ntime version extranonce l g =
     record {
       some = subst (λ c. 1 ≤ length c.account) same (let few : 0 < length h.channel.account = ltb-true 0 (length h.channel.account) served in omega (arith, few));
       short = sized.account;
-      least = work-least (class_of_share with);
-      most = work-most (class_of_share with) (sized.class with.job.live_at);
+      least = work-least (admitted_class with);
+      most = work-most (admitted_class with) (sized.class with.job.since);
       reward = λ reward told. block-pays (is_block g.rules.pool_script with share) (reward_of with.job.source) reward pays told;
     }
 

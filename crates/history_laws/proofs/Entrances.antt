@@ -7,7 +7,8 @@ use Rattle.pool_history.specs.declared.causes.Cause.TheVariants as cause
 use Rattle.pool_history.specs.declared.events.Event.{Event}
 use Rattle.pool_history.specs.declared.events.Event.TheVariants as event
 use Rattle.pool_history.specs.declared.events.Role.{Role}
-use Rattle.pool_history.specs.Legal.{entered_with, provided, within}
+use Rattle.pool_history.specs.Conditions.{or_code}
+use Rattle.pool_history.specs.Legal.{entered_with, within}
 use Rattle.pool_history.specs.Sessions.{Entrance, enters, entrance, is_present, is_present_as, present, unless_left, is_number}
 
 pub some-same : {X : Type 0} {x y : X} → ◌≡◌ {A = Option X} (Some x) (Some y) → x ≡ y
@@ -87,6 +88,6 @@ present-is past worker session is =
 pub within-holds : (may : Entrance → Bool) (past : List Event) (worker session : ℕ) (as' : Entrance) (next : Option Cause)
     → present past worker ≡ Some session → entrance past session ≡ Some as' → may as' ≡ true → within may past session next ≡ next
 within-holds may past worker session as' next there entered permitted =
-    ap (λ b. provided b cause.NoSession (provided (entered_with may (entrance past session)) cause.BadRole next)) (present-is past worker session there)
-    ∙ ap (λ o. provided (entered_with may o) cause.BadRole next) entered
-    ∙ ap (λ b. provided b cause.BadRole next) permitted
+    ap (λ b. or_code b cause.NoSession (or_code (entered_with may (entrance past session)) cause.BadRole next)) (present-is past worker session there)
+    ∙ ap (λ o. or_code (entered_with may o) cause.BadRole next) entered
+    ∙ ap (λ b. or_code b cause.BadRole next) permitted

@@ -23,7 +23,7 @@ use Rattle.coinbase.specs.Custom.{custom_assembly}
 use Rattle.coinbase.specs.declared.error.OutputsError.{OutputsError}
 use Rattle.pool_history.specs.declared.refusals.CustomError.{CustomError}
 use Rattle.pool_history.specs.declared.refusals.CustomError.TheVariants as custom_error
-use Rattle.pool_history.specs.Legal.{LegalPast, cause_of, feeding, refused_as, custom_cause, selecting}
+use Rattle.pool_history.specs.Legal.{LegalPast, cause_of, may_feed, refused_as, custom_cause, may_select_work}
 use Rattle.pool_history.specs.Refusing.{coinbase_refusal, is_template_known, most_templates, template_refusal, Granted, custom_refusal, is_bad_path, is_extended, is_other_tip, on_channel, outputs_refusal, over_tip, own_channel, unspent, with_token}
 use Rattle.pool_history.specs.Sessions.{rules_of, templates}
 use Rattle.history_laws.proofs.Causes.{IsUncaused, uncaused, within-next}
@@ -82,7 +82,7 @@ legal-template past rules session template are n =
     let same : u.rules ≡ rules = some-same (sym u.are_rules ∙ are) in
     let none : template_refusal u.rules.pool_script past template ≡ None =
     refused-none cause.BadTemplate (template_refusal u.rules.pool_script past template)
-    (within-next feeding past session (refused_as cause.BadTemplate (template_refusal u.rules.pool_script past template)) u.none) in
+    (within-next may_feed past session (refused_as cause.BadTemplate (template_refusal u.rules.pool_script past template)) u.none) in
     accepted-fits rules.pool_script past template (subst (λ r. template_refusal r.pool_script past template ≡ None) same none)
 
 -- an accepted job of a miner's own
@@ -130,7 +130,7 @@ legal-custom past rules session offer are n =
     let u : IsUncaused past (event.Custom session offer) = uncaused past (event.Custom session offer) refl n in
     channel-pays u.rules.pool_script past offer (own_channel past session offer.channel_id)
     (custom-none (custom_refusal u.rules.pool_script past session offer)
-    (within-next selecting past session (custom_cause (custom_refusal u.rules.pool_script past session offer)) u.none))
+    (within-next may_select_work past session (custom_cause (custom_refusal u.rules.pool_script past session offer)) u.none))
 
 -- one more job
 pub fits-template : (script : List ℕ) (s : Standing) (job : Job) (future : Bool) → TemplateFits script job.source → JobsFit script s
@@ -177,11 +177,11 @@ jobs-fit (event.Start first ∷ []) rules l are = record { future = λ j i. elim
 jobs-fit (event.Start first ∷ x ∷ older) rules l are = jobs-fit (x ∷ older) rules l.0 (sym (rules-older (event.Start first) x older) ∙ are)
 jobs-fit (event.Template session template ∷ older) rules l are =
     let s : Standing = jobs_of older in
-    fits-template rules.pool_script s (record { number = length s.all + 1; session = session; live_at = length older; source = FromTemplate template })
+    fits-template rules.pool_script s (record { number = length s.all + 1; session = session; since = length older; source = FromTemplate template })
     template.future_template (legal-template older rules session template are l.1) (jobs-fit older rules l.0 are)
 jobs-fit (event.Tip session tip ∷ older) rules l are = fits-tip rules.pool_script (jobs_of older) tip (length older) (jobs-fit older rules l.0 are)
 jobs-fit (event.Custom session custom ∷ older) rules l are =
     let s : Standing = jobs_of older in
-    fits-custom rules.pool_script s (record { number = length s.all + 1; session = 0; live_at = length older; source = FromMiner custom }) custom.channel_id (legal-custom older rules session custom are l.1)
+    fits-custom rules.pool_script s (record { number = length s.all + 1; session = 0; since = length older; source = FromMiner custom }) custom.channel_id (legal-custom older rules session custom are l.1)
     (jobs-fit older rules l.0 are)
 jobs-fit (e ∷ older) rules l are = jobs-fit older rules l.0 are

@@ -1,5 +1,5 @@
 -- How answers judge shares.
-use Rattle.std.proofs.Common.{◌⊎◌, inl, inr, ◌≡◌, ℕ, ◌+◌, length, Bool, true, false, cond, Option, None, Some, Result, Ok, Err, List, [], ◌∷◌, refl, ap, subst, sym, ◌∙◌}
+use Rattle.std.proofs.Common.{◌⊎◌, inl, inr, ◌≡◌, ℕ, ◌+◌, length, Bool, true, false, not, cond, Option, None, Some, Result, Ok, Err, List, [], ◌∷◌, refl, ap, subst, sym, ◌∙◌}
 use Rattle.std.proofs.lemmas.Bool.{cond_both, false≢true}
 use Rattle.std.specs.Option.{option_to_list}
 use Rattle.pool_history.specs.declared.asking.Request.{Request}
@@ -19,13 +19,14 @@ use Rattle.pool_history.specs.declared.settings.Rules.{Rules}
 use Rattle.pool_history.specs.declared.shares.Checked.{Checked}
 use Rattle.pool_history.specs.declared.shares.Submission.{Submission}
 use Rattle.pool_history.specs.Accounts.{account_of, is_empty}
-use Rattle.pool_history.specs.Answering.{Answer, Step, briefing, classing, closing, committing, crediting, kept, naming, opening, permits, step, step_as, step_by, step_for, step_in, step_under, told, unless_refused, number_of}
-use Rattle.pool_history.specs.Channels.{OpenChannel, channel_in, channels_of, class_of}
-use Rattle.pool_history.specs.Crediting.{class_of_share, first_failed, has_room, headers, is_new, last_failed}
+use Rattle.pool_history.specs.Answering.{Answer, Effect, briefing, classing, closing, committing, crediting, with_event, naming, opening, permits, step, step_as, step_by, step_for, step_in, step_under, without_event, unless_refused, with_found}
+use Rattle.pool_history.specs.Channels.{OpenChannel, channel_in, channels_of, present_class}
+use Rattle.pool_history.specs.Conditions.{or_code, found, provided}
+use Rattle.pool_history.specs.Crediting.{admitted_class, first_failed, headers, last_failed}
 use Rattle.pool_history.specs.Jobs.{future_of, jobs_of, live_job}
-use Rattle.pool_history.specs.Judging.{Admitted, Share, admitted, briefing_of, found, is_in_time, is_known_job, is_version, provided, rebuilt, serves, share_of}
-use Rattle.pool_history.specs.Legal.{allowed_flags, mining}
-use Rattle.pool_history.specs.Refusing.{class_for, custom_refusal, grant_refusal, lead_for, most_enters, name_refusal, open_refusal, own_channel, template_refusal, tip_refusal, update_refusal}
+use Rattle.pool_history.specs.Judging.{Admitted, Share, admitted, briefing_of, is_in_time, is_known_job, is_version, rebuilt, serves, share_of}
+use Rattle.pool_history.specs.Legal.{allowed_flags, may_mine}
+use Rattle.pool_history.specs.Refusing.{class_for, custom_refusal, grant_refusal, lead_for, most_enters, own_channel, template_refusal, openable, nameable, updatable, tippable}
 use Rattle.pool_history.specs.Sessions.{Entrance, credits, enters, entrance, past_of, present, rules_of, grants}
 use Rattle.std.specs.Prelude.{bit_and, nat_eq, nat_lt}
 use Rattle.history_laws.specs.Answered.{fails_early, is_early, CreditsAreCommitted, IsCommitted, IsJudged, MayNotSubmit, MaySubmit, SharesAreBriefed, SharesAreJudged, SharesNeedASession, credit_of}
@@ -40,7 +41,7 @@ step-mining h worker may checked =
     ap (λ o. step_under o (past_of h) worker (request.Commit checked)) may.are_rules
     ∙ ap (step_for may.rules (past_of h) (request.Commit checked)) may.is_present
     ∙ ap (step_as may.rules (past_of h) (request.Commit checked) may.session) may.is_entered
-    ∙ ap (λ b. cond b (step_in may.rules (past_of h) may.session (request.Commit checked)) (told reply.NoSession)) may.mines
+    ∙ ap (λ b. cond b (step_in may.rules (past_of h) may.session (request.Commit checked)) (without_event reply.NoSession)) may.mines
 
 pub step-briefing : (h : List Event) (worker : ℕ) (may : MaySubmit h worker) (sub : Submission)
     → step (past_of h) worker (request.Brief sub) ≡ briefing may.rules (admitted may.rules (past_of h) may.session (share_of sub))
@@ -48,19 +49,19 @@ step-briefing h worker may sub =
     ap (λ o. step_under o (past_of h) worker (request.Brief sub)) may.are_rules
     ∙ ap (step_for may.rules (past_of h) (request.Brief sub)) may.is_present
     ∙ ap (step_as may.rules (past_of h) (request.Brief sub) may.session) may.is_entered
-    ∙ ap (λ b. cond b (step_in may.rules (past_of h) may.session (request.Brief sub)) (told reply.NoSession)) may.mines
+    ∙ ap (λ b. cond b (step_in may.rules (past_of h) may.session (request.Brief sub)) (without_event reply.NoSession)) may.mines
 
 -- a share was booked, or refused
-pub record WasBooked (rules : Rules) (past : List Event) (session : ℕ) (share : Share) (s : Step) : Type 0 where
+pub record WasBooked (rules : Rules) (past : List Event) (session : ℕ) (share : Share) (s : Effect) : Type 0 where
   pub with : Admitted
   pub is_admitted : admitted rules past session share ≡ Ok with
   pub none : first_failed rules past session share ≡ None
   pub step_is : s ≡ crediting session share with
 
-pub record WasRefused (rules : Rules) (past : List Event) (session : ℕ) (share : Share) (s : Step) : Type 0 where
+pub record WasRefused (rules : Rules) (past : List Event) (session : ℕ) (share : Share) (s : Effect) : Type 0 where
   pub code : Failed
   pub failed : first_failed rules past session share ≡ Some code
-  pub step_is : s ≡ told (reply.Refused code)
+  pub step_is : s ≡ without_event (reply.Refused code)
 
 pub booked-or-refused : (rules : Rules) (past : List Event) (session : ℕ) (share : Share) (r : Result Admitted Failed) → admitted rules past session share ≡ r
     → WasBooked rules past session share (committing rules past session share r) ⊎ WasRefused rules past session share (committing rules past session share r)
@@ -89,11 +90,11 @@ cons-nil h = cc
 pub judged : SharesAreJudged
 judged h worker may checked events answer a =
     let share : Share = share_of checked.sub in
-    let s : Step = committing may.rules (past_of h) may.session share (admitted may.rules (past_of h) may.session share) in
+    let s : Effect = committing may.rules (past_of h) may.session share (admitted may.rules (past_of h) may.session share) in
     let made : events ≡ option_to_list s.event = a.events_are ∙ ap (λ t. option_to_list t.event) (step-mining h worker may checked) in
     let replied : answer ≡ s.reply = a.reply_is ∙ ap (λ t. t.reply) (step-mining h worker may checked) in
     judged-by h worker may share s events answer made replied (booked-or-refused may.rules (past_of h) may.session share (admitted may.rules (past_of h) may.session share) refl) where
-      judged-by : (h : List Event) (worker : ℕ) (may : MaySubmit h worker) (share : Share) (s : Step) (events : List Event) (answer : Reply)
+      judged-by : (h : List Event) (worker : ℕ) (may : MaySubmit h worker) (share : Share) (s : Effect) (events : List Event) (answer : Reply)
           → events ≡ option_to_list s.event → answer ≡ s.reply
           → WasBooked may.rules (past_of h) may.session share s ⊎ WasRefused may.rules (past_of h) may.session share s → IsJudged h worker may share events answer
       judged-by h worker may share s events answer made replied (inl b) = record {
@@ -144,14 +145,20 @@ admitted-early rules past session share =
     (λ e. early-bind (provided (is_in_time rules job.source tip share.ntime) failed.Ntime channel) _
     (provided-early (is_in_time rules job.source tip share.ntime) failed.Ntime channel refl) (λ f. tt))))))))
 
+-- a condition whose code isn't early
+pub or-late : (b : Bool) (code : Failed) (next : Option Failed) → is_early code ≡ false → fails_early next ≡ false → fails_early (or_code b code next) ≡ false
+or-late true code next c n = n
+or-late false code next c n = c
+
 -- the last three conditions
 pub last-late : (rules : Rules) (past : List Event) (share : Share) (with : Admitted) → fails_early (last_failed rules past share (Ok with)) ≡ false
 last-late rules past share with =
     let header : List ℕ = rebuilt rules.pool_script with share in
-    cond_both (meets (dsha header) (class_of_share with)) (is_new rules past header) (Some failed.Difficulty) (λ o. fails_early o ≡ false)
-    (λ t. cond_both (list_any (bytes_eq header) (headers past)) (Some failed.Duplicate) (has_room rules past) (λ o. fails_early o ≡ false) (λ u. refl)
-    (λ u. cond_both (nat_lt (credits past) rules.credit_limit) None (Some failed.Full) (λ o. fails_early o ≡ false) (λ v. refl) (λ v. refl)))
-    (λ f. refl)
+    let full : Option Failed = or_code (nat_lt (credits past) rules.credit_limit) failed.Full None in
+    let twice : Option Failed = or_code (not (list_any (bytes_eq header) (headers past))) failed.Duplicate full in
+    or-late (meets (dsha header) (admitted_class with)) failed.Difficulty twice refl
+    (or-late (not (list_any (bytes_eq header) (headers past))) failed.Duplicate full refl
+    (or-late (nat_lt (credits past) rules.credit_limit) failed.Full None refl refl))
 
 -- what a Brief is answered, by whether the share was admitted
 pub record Briefed (rules : Rules) (past : List Event) (session : ℕ) (share : Share) (answer : Reply) : Type 0 where
@@ -200,44 +207,36 @@ NoCredit (Some (event.Credit session channel job nonce ntime version extranonce)
 NoCredit (Some e) = Unit {0}
 
 -- a request is a Commit, or makes no Credit
-abbrev pub OnlyByCommit : Request → Step → Type 0
+abbrev pub OnlyByCommit : Request → Effect → Type 0
 OnlyByCommit asked s = ((checked : Checked) × (asked ≡ request.Commit checked)) ⊎ NoCredit s.event
 
-pub not-credited : {X : Type 0} (refuse : X → Reply) (r : Option X) (made : Step) → NoCredit made.event → NoCredit (unless_refused refuse r made).event
+pub not-credited : {X : Type 0} (refuse : X → Reply) (r : Option X) (made : Effect) → NoCredit made.event → NoCredit (unless_refused refuse r made).event
 not-credited refuse None made n = n
 not-credited refuse (Some x) made n = tt
+
+pub not-credited_found : {X C : Type 0} (refuse : C → Reply) (make : X → Effect) (r : Result X C) → ((x : X) → NoCredit (make x).event)
+    → NoCredit (with_found refuse make r).event
+not-credited_found refuse make (Ok x) n = n x
+not-credited_found refuse make (Err e) n = tt
 
 pub step_in-credits : (rules : Rules) (past : List Event) (session : ℕ) (asked : Request) → OnlyByCommit asked (step_in rules past session asked)
 step_in-credits rules past session (request.Enter role flags) = inr tt
 step_in-credits rules past session request.Leave = inr tt
 step_in-credits rules past session (request.Template template) =
     inr (not-credited reply.TemplateRefused (template_refusal rules.pool_script past template)
-    (kept (event.Template session template) (reply.Job (length (jobs_of past).all + 1))) tt)
+    (with_event (event.Template session template) (reply.Job (length (jobs_of past).all + 1))) tt)
 step_in-credits rules past session (request.Tip tip) =
-    inr (not-credited reply.TemplateRefused (tip_refusal past tip)
-    (kept (event.Tip session tip)
-    (reply.Job (number_of (future_of (jobs_of past) tip.template_id)))) tt)
+    inr (not-credited_found reply.TemplateRefused (λ job. with_event (event.Tip session tip) (reply.Job job.number)) (tippable past tip) (λ job. tt))
 step_in-credits rules past session (request.Open ask) =
-    inr (not-credited reply.OpenRefused (open_refusal rules past session ask) (opening rules past session ask (lead_for past ask)) (by_lead (lead_for past ask))) where
-      by_lead : (o : Option (List ℕ)) → NoCredit (opening rules past session ask o).event
-      by_lead None = tt
-      by_lead (Some lead) = tt
+    inr (not-credited_found reply.OpenRefused (opening rules past session ask) (openable rules past session ask) (λ lead. tt))
 step_in-credits rules past session (request.Name id identity) =
-    inr (not-credited reply.NameRefused (name_refusal rules (account_of identity) (own_channel past session id))
-    (naming session id (account_of identity) (own_channel past session id)) (by_channel (own_channel past session id))) where
-      by_channel : (o : Option OpenChannel) → NoCredit (naming session id (account_of identity) o).event
-      by_channel None = tt
-      by_channel (Some c) =
-          cond_both (is_empty c.account) (kept (event.Name session id (account_of identity)) reply.Named) (told reply.Named) (λ s. NoCredit s.event)
-          (λ t. tt) (λ f. tt)
+    inr (not-credited_found reply.NameRefused (naming session id (account_of identity)) (nameable rules (account_of identity) (own_channel past session id))
+    (λ c. cond_both (is_empty c.account) (with_event (event.Name session id (account_of identity)) reply.Named) (without_event reply.Named) (λ s. NoCredit s.event)
+    (λ t. tt) (λ f. tt)))
 step_in-credits rules past session (request.Update id target) =
-    inr (not-credited reply.UpdateRefused (update_refusal target (own_channel past session id))
-    (classing session id (class_for rules target) (own_channel past session id)) (by_channel (own_channel past session id))) where
-      by_channel : (o : Option OpenChannel) → NoCredit (classing session id (class_for rules target) o).event
-      by_channel None = tt
-      by_channel (Some c) =
-          cond_both (nat_eq (class_for rules target) (class_of c)) (told (reply.Target id (class_for rules target)))
-          (kept (event.Class session id (class_for rules target)) (reply.Target id (class_for rules target))) (λ s. NoCredit s.event) (λ t. tt) (λ f. tt)
+    inr (not-credited_found reply.UpdateRefused (classing session id (class_for rules target)) (updatable target (own_channel past session id))
+    (λ c. cond_both (nat_eq (class_for rules target) (present_class c)) (without_event (reply.Target id (class_for rules target)))
+    (with_event (event.Class session id (class_for rules target)) (reply.Target id (class_for rules target))) (λ s. NoCredit s.event) (λ t. tt) (λ f. tt)))
 step_in-credits rules past session (request.Close id) = inr (by_channel (own_channel past session id)) where
   by_channel : (o : Option OpenChannel) → NoCredit (closing session id o).event
   by_channel None = tt
@@ -250,13 +249,13 @@ step_in-credits rules past session (request.Commit checked) = inl (checked, refl
 step_in-credits rules past session (request.Poll from) = inr tt
 step_in-credits rules past session (request.Grant identity None) =
     inr (not-credited reply.GrantRefused (grant_refusal rules past (account_of identity) [])
-    (kept (event.Grant session (account_of identity) false []) (reply.Granted (grants past + 1) rules.pool_script)) tt)
+    (with_event (event.Grant session (account_of identity) false []) (reply.Granted (grants past + 1) rules.pool_script)) tt)
 step_in-credits rules past session (request.Grant identity (Some path)) =
     inr (not-credited reply.GrantRefused (grant_refusal rules past (account_of identity) path)
-    (kept (event.Grant session (account_of identity) true path) (reply.Granted (grants past + 1) rules.pool_script)) tt)
+    (with_event (event.Grant session (account_of identity) true path) (reply.Granted (grants past + 1) rules.pool_script)) tt)
 step_in-credits rules past session (request.Custom custom) =
     inr (not-credited reply.CustomRefused (custom_refusal rules.pool_script past session custom)
-    (kept (event.Custom session custom) (reply.CustomJob (length (jobs_of past).all + 1))) tt)
+    (with_event (event.Custom session custom) (reply.CustomJob (length (jobs_of past).all + 1))) tt)
 
 pub step_for-credits : (rules : Rules) (past : List Event) (asked : Request) (o : Option ℕ) → OnlyByCommit asked (step_for rules past asked o)
 step_for-credits rules past asked None = inr tt
@@ -264,13 +263,13 @@ step_for-credits rules past asked (Some session) = by_entrance (entrance past se
   by_entrance : (o : Option Entrance) → OnlyByCommit asked (step_as rules past asked session o)
   by_entrance None = inr tt
   by_entrance (Some entered) =
-      cond_both (permits asked entered) (step_in rules past session asked) (told reply.NoSession) (λ s. OnlyByCommit asked s)
+      cond_both (permits asked entered) (step_in rules past session asked) (without_event reply.NoSession) (λ s. OnlyByCommit asked s)
       (λ may. step_in-credits rules past session asked) (λ not_permitted. inr tt)
 
 pub step_by-credits : (rules : Rules) (past : List Event) (worker : ℕ) (asked : Request) → OnlyByCommit asked (step_by rules past worker asked)
 step_by-credits rules past worker (request.Enter role flags) =
-    inr (cond_both (nat_lt (enters past) most_enters) (kept (event.Enter worker role (bit_and flags (allowed_flags rules))) (reply.Entered (enters past)))
-    (told (reply.PoolFull most_enters)) (λ s. NoCredit s.event) (λ t. tt) (λ f. tt))
+    inr (cond_both (nat_lt (enters past) most_enters) (with_event (event.Enter worker role (bit_and flags (allowed_flags rules))) (reply.Entered (enters past)))
+    (without_event (reply.PoolFull most_enters)) (λ s. NoCredit s.event) (λ t. tt) (λ f. tt))
 step_by-credits rules past worker asked = step_for-credits rules past asked (present past worker)
 
 pub step-credits : (past : List Event) (worker : ℕ) (asked : Request) (o : Option Rules) → OnlyByCommit asked (step_under o past worker asked)
@@ -280,7 +279,7 @@ step-credits past worker asked (Some rules) = step_by-credits rules past worker 
 -- a request of a share: only a session that mines may ask it
 record AsksAShare (asked : Request) : Type 0 where
   pub by : (rules : Rules) (past : List Event) (worker : ℕ) → step_by rules past worker asked ≡ step_for rules past asked (present past worker)
-  pub mines : (entered : Entrance) → permits asked entered ≡ mining entered
+  pub mines : (entered : Entrance) → permits asked entered ≡ may_mine entered
 
 asks-commit : (checked : Checked) → AsksAShare (request.Commit checked)
 asks-commit checked = record { by = λ rules past worker. refl; mines = λ entered. refl }
@@ -291,19 +290,19 @@ asks-brief sub = record { by = λ rules past worker. refl; mines = λ entered. r
 -- a worker whose shares are all told that it has no session
 record IsTold (h : List Event) (worker : ℕ) : Type 0 where
   pub never : MaySubmit h worker → ⊥
-  pub told_so : (asked : Request) → AsksAShare asked → step (past_of h) worker asked ≡ told reply.NoSession
+  pub told_so : (asked : Request) → AsksAShare asked → step (past_of h) worker asked ≡ without_event reply.NoSession
 
 told-mining : (h : List Event) (worker : ℕ) (rules : Rules) → rules_of (past_of h) ≡ Some rules → (session : ℕ) → present (past_of h) worker ≡ Some session
-    → (entered : Entrance) → entrance (past_of h) session ≡ Some entered → (b : Bool) → mining entered ≡ b → MaySubmit h worker ⊎ IsTold h worker
+    → (entered : Entrance) → entrance (past_of h) session ≡ Some entered → (b : Bool) → may_mine entered ≡ b → MaySubmit h worker ⊎ IsTold h worker
 told-mining h worker rules r session p entered e true m =
     inl (record { rules = rules; session = session; entered = entered; are_rules = r; is_present = p; is_entered = e; mines = m })
 told-mining h worker rules r session p entered e false m = inr (record {
   never = λ may.
-      false≢true (sym m ∙ ap mining (some-same (sym e ∙ ap (entrance (past_of h)) (some-same (sym p ∙ may.is_present)) ∙ may.is_entered)) ∙ may.mines);
+      false≢true (sym m ∙ ap may_mine (some-same (sym e ∙ ap (entrance (past_of h)) (some-same (sym p ∙ may.is_present)) ∙ may.is_entered)) ∙ may.mines);
   told_so = λ asked asks.
       ap (λ o. step_under o (past_of h) worker asked) r ∙ asks.by rules (past_of h) worker ∙ ap (step_for rules (past_of h) asked) p
       ∙ ap (step_as rules (past_of h) asked session) e
-      ∙ ap (λ b. cond b (step_in rules (past_of h) session asked) (told reply.NoSession)) (asks.mines entered ∙ m);
+      ∙ ap (λ b. cond b (step_in rules (past_of h) session asked) (without_event reply.NoSession)) (asks.mines entered ∙ m);
 })
 
 told-entered : (h : List Event) (worker : ℕ) (rules : Rules) → rules_of (past_of h) ≡ Some rules → (session : ℕ) → present (past_of h) worker ≡ Some session
@@ -314,7 +313,7 @@ told-entered h worker rules r session p None e = inr (record {
       ap (λ o. step_under o (past_of h) worker asked) r ∙ asks.by rules (past_of h) worker ∙ ap (step_for rules (past_of h) asked) p
       ∙ ap (step_as rules (past_of h) asked session) e;
 })
-told-entered h worker rules r session p (Some entered) e = told-mining h worker rules r session p entered e (mining entered) refl
+told-entered h worker rules r session p (Some entered) e = told-mining h worker rules r session p entered e (may_mine entered) refl
 
 told-present : (h : List Event) (worker : ℕ) (rules : Rules) → rules_of (past_of h) ≡ Some rules → (o : Option ℕ) → present (past_of h) worker ≡ o
     → MaySubmit h worker ⊎ IsTold h worker
@@ -333,7 +332,7 @@ told-under h worker None r = inr (record {
 told-under h worker (Some rules) r = told-present h worker rules r (present (past_of h) worker) refl
 
 -- an answer whose step is told so
-no-session : (h : List Event) (worker : ℕ) (asked : Request) (events : List Event) (answer : Reply) → step (past_of h) worker asked ≡ told reply.NoSession
+no-session : (h : List Event) (worker : ℕ) (asked : Request) (events : List Event) (answer : Reply) → step (past_of h) worker asked ≡ without_event reply.NoSession
     → Answer h worker asked events answer → (events ≡ []) × (answer ≡ reply.NoSession)
 no-session h worker asked events answer s a = (a.events_are ∙ ap (λ t. option_to_list t.event) s, a.reply_is ∙ ap (λ t. t.reply) s)
 

@@ -75,7 +75,7 @@ alive standing = standing.live ++ standing.custom
 pub record CameIn (before after : Standing) (job : Job) (at : ℕ) : Type 0 where
   pub more : length after.all ≡ length before.all + 1
   pub number : job.number ≡ length before.all + 1
-  pub since : job.live_at ≡ at
+  pub since : job.since ≡ at
   pub future : (j : Job) → In j after.future → In j before.future ⊎ (j ≡ job)
   pub living : (j : Job) → In j (alive after) → In j (alive before) ⊎ (j ≡ job)
   pub one_of : ((j : Job) → In j after.future → In j before.future) ⊎ ((j : Job) → In j (alive after) → In j (alive before))
@@ -83,7 +83,7 @@ pub record CameIn (before after : Standing) (job : Job) (at : ℕ) : Type 0 wher
 pub length-one : {X : Type 0} (xs : List X) (x : X) → length (xs ++ x ∷ []) ≡ length xs + 1
 length-one xs x = length-append xs (x ∷ [])
 
-pub came-future : (s : Standing) (job : Job) (at : ℕ) → job.number ≡ length s.all + 1 → job.live_at ≡ at → CameIn s (with_template job true s) job at
+pub came-future : (s : Standing) (job : Job) (at : ℕ) → job.number ≡ length s.all + 1 → job.since ≡ at → CameIn s (with_template job true s) job at
 came-future s job at number since = record {
   more = length-one s.all job;
   number = number;
@@ -93,7 +93,7 @@ came-future s job at number since = record {
   one_of = inr (λ j i. i);
 }
 
-pub came-live : (s : Standing) (job : Job) (at : ℕ) → job.number ≡ length s.all + 1 → job.live_at ≡ at → CameIn s (with_template job false s) job at
+pub came-live : (s : Standing) (job : Job) (at : ℕ) → job.number ≡ length s.all + 1 → job.since ≡ at → CameIn s (with_template job false s) job at
 came-live s job at number since = record {
   more = length-one s.all job;
   number = number;
@@ -110,7 +110,7 @@ came-live s job at number since = record {
   by_part j (inl i) = by_end j (in-end j s.live job (in-last j 64 (s.live ++ job ∷ []) i))
   by_part j (inr i) = inl (in-right j s.live s.custom i)
 
-pub came-own : (s : Standing) (job : Job) (channel at : ℕ) → job.number ≡ length s.all + 1 → job.live_at ≡ at → CameIn s (with_custom job channel s) job at
+pub came-own : (s : Standing) (job : Job) (channel at : ℕ) → job.number ≡ length s.all + 1 → job.since ≡ at → CameIn s (with_custom job channel s) job at
 came-own s job channel at number since = record {
   more = length-one s.all job;
   number = number;
@@ -128,7 +128,7 @@ came-own s job channel at number since = record {
   by_part j (inr i) = by_end j (in-end j s.custom job (in-sixteen j channel (s.custom ++ job ∷ []) i))
 
 -- a template's job, future or not
-pub came-template : (s : Standing) (job : Job) (future : Bool) (at : ℕ) → job.number ≡ length s.all + 1 → job.live_at ≡ at → CameIn s (with_template job future s) job at
+pub came-template : (s : Standing) (job : Job) (future : Bool) (at : ℕ) → job.number ≡ length s.all + 1 → job.since ≡ at → CameIn s (with_template job future s) job at
 came-template s job true at number since = came-future s job at number since
 came-template s job false at number since = came-live s job at number since
 
@@ -138,7 +138,7 @@ pub record WasFuture (s : Standing) (at : ℕ) (j : Job) : Type 0 where
   pub of_future : In job s.future
   pub number : j.number ≡ job.number
   pub source : j.source ≡ job.source
-  pub since : j.live_at ≡ at
+  pub since : j.since ≡ at
 
 pub made-future : (s : Standing) (at id : ℕ) (j : Job) → In j (made_live at (future_in s.future id) ++ []) → WasFuture s at j
 made-future s at id j i = by_job (future_in s.future id) refl i where
@@ -149,7 +149,7 @@ made-future s at id j i = by_job (future_in s.future id) refl i where
     of_future = find-in (λ job. has_template id job.source) s.future f is;
     number = ap (λ x. x.number) e;
     source = ap (λ x. x.source) e;
-    since = ap (λ x. x.live_at) e;
+    since = ap (λ x. x.since) e;
   }
   by_job (Some f) is (inr i) = elim i [ ]
 
@@ -163,7 +163,7 @@ made-one at (Some f) a b (inr i) k = elim i [ ]
 pub record IsNumbered (s : Standing) (at : ℕ) : Type 0 where
   pub future_below : (f : Job) → In f s.future → f.number ≤ length s.all
   pub living_below : (j : Job) → In j (alive s) → j.number ≤ length s.all
-  pub living_since : (j : Job) → In j (alive s) → j.live_at < at
+  pub living_since : (j : Job) → In j (alive s) → j.since < at
   pub apart : (f j : Job) → In f s.future → In j (alive s) → f.number ≡ j.number → ⊥
   pub one : (a b : Job) → In a (alive s) → In b (alive s) → a.number ≡ b.number → a ≡ b
 
@@ -171,7 +171,7 @@ pub numbered-later : (s : Standing) (at : ℕ) → IsNumbered s at → IsNumbere
 numbered-later s at n = record {
   future_below = n.future_below;
   living_below = n.living_below;
-  living_since = λ j i. let h : j.live_at < at = n.living_since j i in omega (arith, h);
+  living_since = λ j i. let h : j.since < at = n.living_since j i in omega (arith, h);
   apart = n.apart;
   one = n.one;
 }
@@ -196,9 +196,9 @@ numbered-came s after job at n c = record {
   below j (inl h) = let m : length after.all ≡ length s.all + 1 = c.more in omega (arith, h, m)
   below j (inr h) = let m : length after.all ≡ length s.all + 1 = c.more in omega (arith, h, m)
 
-  since : (j : Job) → In j (alive s) ⊎ (j ≡ job) → j.live_at < suc at
-  since j (inl i) = let h : j.live_at < at = n.living_since j i in omega (arith, h)
-  since j (inr e) = let h : j.live_at ≡ at = ap (λ x. x.live_at) e ∙ c.since in omega (arith, h)
+  since : (j : Job) → In j (alive s) ⊎ (j ≡ job) → j.since < suc at
+  since j (inl i) = let h : j.since < at = n.living_since j i in omega (arith, h)
+  since j (inr e) = let h : j.since ≡ at = ap (λ x. x.since) e ∙ c.since in omega (arith, h)
 
   new-living : (f j : Job) → In f s.future → In j (alive s) ⊎ (j ≡ job) → f.number ≡ j.number → ⊥
   new-living f j i (inl k) same = n.apart f j i k same
@@ -239,7 +239,7 @@ numbered-tipped s tip at n = record {
       let h : w.job.number ≤ length s.all = n.future_below w.job w.of_future in
       let g : j.number ≡ w.job.number = w.number in
       omega (arith, h, g);
-  living_since = λ j i. let w : WasFuture s at j = made-future s at tip.template_id j i in let g : j.live_at ≡ at = w.since in omega (arith, g);
+  living_since = λ j i. let w : WasFuture s at j = made-future s at tip.template_id j i in let g : j.since ≡ at = w.since in omega (arith, g);
   apart = λ f j i k same. elim i [ ];
   one = λ a b i k same. made-one at (future_in s.future tip.template_id) a b i k;
 }
@@ -254,13 +254,13 @@ jobs-numbered [] = record {
 }
 jobs-numbered (event.Template session template ∷ older) =
     let s : Standing = jobs_of older in
-    let job : Job = record { number = length s.all + 1; session = session; live_at = length older; source = FromTemplate template } in
+    let job : Job = record { number = length s.all + 1; session = session; since = length older; source = FromTemplate template } in
     numbered-came s (with_template job template.future_template s) job (length older) (jobs-numbered older)
     (came-template s job template.future_template (length older) refl refl)
 jobs-numbered (event.Tip session tip ∷ older) = numbered-tipped (jobs_of older) tip (length older) (jobs-numbered older)
 jobs-numbered (event.Custom session custom ∷ older) =
     let s : Standing = jobs_of older in
-    let job : Job = record { number = length s.all + 1; session = 0; live_at = length older; source = FromMiner custom } in
+    let job : Job = record { number = length s.all + 1; session = 0; since = length older; source = FromMiner custom } in
     numbered-came s (with_custom job custom.channel_id s) job (length older) (jobs-numbered older) (came-own s job custom.channel_id (length older) refl refl)
 jobs-numbered (e ∷ older) = numbered-later (jobs_of older) (length older) (jobs-numbered older)
 
@@ -302,12 +302,12 @@ only-tipped s tip at number job o = record {
 pub only-later : (e : Event) (older : List Event) (number : ℕ) (job : Job) → HasOnly (jobs_of older) number job → HasOnly (jobs_of (e ∷ older)) number job
 only-later (event.Template session template) older number job o =
     let s : Standing = jobs_of older in
-    let new : Job = record { number = length s.all + 1; session = session; live_at = length older; source = FromTemplate template } in
+    let new : Job = record { number = length s.all + 1; session = session; since = length older; source = FromTemplate template } in
     only-came s (with_template new template.future_template s) new (length older) number job o (came-template s new template.future_template (length older) refl refl)
 only-later (event.Tip session tip) older number job o = only-tipped (jobs_of older) tip (length older) number job o
 only-later (event.Custom session custom) older number job o =
     let s : Standing = jobs_of older in
-    let new : Job = record { number = length s.all + 1; session = 0; live_at = length older; source = FromMiner custom } in
+    let new : Job = record { number = length s.all + 1; session = 0; since = length older; source = FromMiner custom } in
     only-came s (with_custom new custom.channel_id s) new (length older) number job o (came-own s new custom.channel_id (length older) refl refl)
 only-later e older number job o = o
 
@@ -347,6 +347,6 @@ classes-stay h more id number before after job later was is lived lives =
     let same : later ≡ job = jobs-stay h more number job later lived lives in
     let l : IsLater (length h) before after = channels-stay h more id before after was is in
     let f : In job (alive (jobs_of (past_of h))) × (job.number ≡ number) = live-found (jobs_of (past_of h)) number job lived in
-    let since : job.live_at < length (past_of h) = (jobs-numbered (past_of h)).living_since job f.0 in
+    let since : job.since < length (past_of h) = (jobs-numbered (past_of h)).living_since job f.0 in
     let long : length (past_of h) ≡ length h = length-reverse h in
-    ap (λ j. class_at after j.live_at) same ∙ l.class job.live_at (omega (arith, since, long))
+    ap (λ j. class_at after j.since) same ∙ l.class job.since (omega (arith, since, long))

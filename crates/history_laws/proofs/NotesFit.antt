@@ -1,4 +1,5 @@
 -- The notes that a legal history owes fit their messages.
+use Rattle.pool_history.specs.Conditions.{found, provided}
 use Rattle.std.proofs.Common.{◌⊎◌, inl, inr, ◌≡◌, ℕ, ◌+◌, ◌<◌, ◌≤◌, ◌^◌, Bool, true, false, ◌&&◌, Option, None, Some, Ok, List, [], ◌∷◌, ◌++◌, length, map, refl, ap, subst, sym, ◌∙◌, arith, length-append}
 use Rattle.std.proofs.Math.Dec.{eqb}
 use Rattle.std.proofs.lemmas.Bool.{cond_both, eqb-true}
@@ -16,14 +17,14 @@ use Rattle.pool_history.specs.Channels.{OpenChannel, channel_in, channels_of}
 use Rattle.pool_history.specs.Crediting.{booked_with, credit_share, is_block, listed}
 use Rattle.pool_history.specs.Headers.{extranonce_prefix, rolled}
 use Rattle.pool_history.specs.Jobs.{FromMiner, FromTemplate, Job, Source, Standing, jobs_of, last_of, live_job, newest, with_template}
-use Rattle.pool_history.specs.Judging.{Admitted, Share, admitted, found, is_known_job, job_parts, provided, serves, is_in_time, is_version}
+use Rattle.pool_history.specs.Judging.{Admitted, Share, admitted, is_known_job, job_parts, serves, is_in_time, is_version}
 use Rattle.pool_history.specs.Legal.{LegalPast, cause_of, is_lead_length}
 use Rattle.pool_history.specs.News.{Audience, Group, Rolling, Single, alone, audience, job_note, live_ntime, news, opening_notes, owed, owed_by, present_notes, solution, solution_by, solution_notes, tip_note, tip_notes, told_of}
 use Rattle.pool_history.specs.Sessions.{opens, rules_of}
 use Rattle.pool_history.specs.Telling.{NoteFits}
 use Rattle.history_laws.proofs.Answering.{first-ok, found-some, provided-ok}
 use Rattle.history_laws.proofs.ChannelsFit.{lead-few, open-has_lead}
-use Rattle.history_laws.proofs.Crediting.{IsGoodCredit, admitted-booked, booked-channel, good_credit, judged_share}
+use Rattle.history_laws.proofs.Crediting.{IsGoodCredit, admitted-booked, booked-channel, booked-found, good_credit, judged_share}
 use Rattle.history_laws.proofs.Entrances.{none-some, some-same}
 use Rattle.history_laws.proofs.JobsFit.{IsMiners, JobsFit, TemplateFits, jobs-fit, legal-template}
 use Rattle.history_laws.proofs.Judged.{ok-same}
@@ -109,12 +110,8 @@ admitted-rolls rules past session share with h =
     ∙ ap (λ w. rolled w.channel.kind w.channel.lead) (ok-same k.2)
 
 -- its job is alive
-pub booked-job : (past : List Event) (channel job : ℕ) (with : Admitted) → booked_with past channel job ≡ Ok with → live_job (jobs_of past) job ≡ Some with.job
-booked-job past channel job with h =
-    let a = first-ok (found failed.Channel (channel_in (channels_of past) channel)) _ with h in
-    let b = first-ok (found failed.Stale (live_job (jobs_of past) job)) _ with a.2 in
-    let c = first-ok (found failed.Stale (jobs_of past).tip) _ with b.2 in
-    found-some failed.Stale (live_job (jobs_of past) job) b.0 b.1 ∙ ap (λ w. Some w.job) (ok-same c.2)
+pub booked-job : (past : List Event) (channel job : ℕ) (with : Admitted) → booked_with past channel job ≡ Some with → live_job (jobs_of past) job ≡ Some with.job
+booked-job past channel job with h = (booked-found past channel job with h).job_is
 
 -- twelve bytes of extranonce
 pub twelve-bytes : (k : Kind) (lead extranonce : List ℕ) → is_lead_length k (length lead) ≡ true → length extranonce ≡ rolled k lead
@@ -166,7 +163,7 @@ credit-fits rules past told session channel job nonce ntime version extranonce l
     let share : Share = judged_share past channel job nonce ntime version extranonce in
     let g : IsGoodCredit past session share = good_credit past session channel job nonce ntime version extranonce n in
     let with : Admitted = g.good.with in
-    let is : booked_with past channel job ≡ Ok with = admitted-booked g.rules past session share with g.good.is_admitted in
+    let is : booked_with past channel job ≡ Some with = admitted-booked g.rules past session share with g.good.is_admitted in
     let lead : is_lead_length with.channel.kind (length with.channel.lead) ≡ true = open-has_lead past channel with.channel l (booked-channel past channel job with is) in
     let rolls : length extranonce ≡ rolled with.channel.kind with.channel.lead = admitted-rolls g.rules past session share with g.good.is_admitted in
     let alive : In with.job ((jobs_of past).live ++ (jobs_of past).custom) =
@@ -189,15 +186,15 @@ owed_by-fits rules (event.Open opening k account class lead) past told l are n =
     (λ t. opening_notes-fit rules (jobs_of past) (channel_in (channels_of (event.Open opening k account class lead ∷ past)) (opens past + 1)) (jobs-fit past rules l are))
     (λ f. tt)
 owed_by-fits rules (event.Template feed template) past told l are n =
-    let job : Job = record { number = length (jobs_of past).all + 1; session = feed; live_at = length past; source = FromTemplate template } in
+    let job : Job = record { number = length (jobs_of past).all + 1; session = feed; since = length past; source = FromTemplate template } in
     told_of-fit rules (live_ntime template.future_template (jobs_of past).tip) (audience past told)
     (last_of (jobs_of (event.Template feed template ∷ past)).all)
     (λ j is. subst (λ x. TemplateFits rules.pool_script x.source)
     (some-same (sym (all-of template.future_template) ∙ is)) (legal-template past rules feed template are n)) where
-      all-of : (future : Bool) → last_of (with_template (record { number = length (jobs_of past).all + 1; session = feed; live_at = length past; source = FromTemplate template }) future (jobs_of past)).all
-          ≡ Some (record { number = length (jobs_of past).all + 1; session = feed; live_at = length past; source = FromTemplate template })
-      all-of true = last-end (jobs_of past).all (record { number = length (jobs_of past).all + 1; session = feed; live_at = length past; source = FromTemplate template })
-      all-of false = last-end (jobs_of past).all (record { number = length (jobs_of past).all + 1; session = feed; live_at = length past; source = FromTemplate template })
+      all-of : (future : Bool) → last_of (with_template (record { number = length (jobs_of past).all + 1; session = feed; since = length past; source = FromTemplate template }) future (jobs_of past)).all
+          ≡ Some (record { number = length (jobs_of past).all + 1; session = feed; since = length past; source = FromTemplate template })
+      all-of true = last-end (jobs_of past).all (record { number = length (jobs_of past).all + 1; session = feed; since = length past; source = FromTemplate template })
+      all-of false = last-end (jobs_of past).all (record { number = length (jobs_of past).all + 1; session = feed; since = length past; source = FromTemplate template })
 owed_by-fits rules (event.Tip feed tip) past told l are n = tip_notes-fit tip (audience past told) (newest (jobs_of (event.Tip feed tip ∷ past)))
 owed_by-fits rules (event.Credit session channel job nonce ntime version extranonce) past told l are n =
     credit-fits rules past told session channel job nonce ntime version extranonce l are n

@@ -8,7 +8,7 @@ use Rattle.pool_history.specs.declared.templates.TipData.{TipData}
 use Rattle.pool_history.specs.Jobs.{Brought, Came, FromMiner, FromTemplate, Job, JobMove, Standing, Tipped, at_most_sixteen, future_in, has_number, has_template, is_own, job_moves, jobs_told, last, made_live, with_custom, with_template, with_tip, without_first}
 use Rattle.pool_history.specs.Sessions.{past_of}
 use Rattle.pool_history.proofs.PlacesOfClasses.{all-end, all-weaken}
-use Rattle.history_laws.specs.Numbering.{AreRising, IsWithin, JobsAreNumbered, RiseTo}
+use Rattle.history_laws.specs.Numbering.{AreRising, IsNumberWithin, JobsAreNumbered, RiseTo}
 use Rattle.history_laws.proofs.Counted.{not_in}
 use Rattle.history_laws.proofs.Holding.{Pairwise, all-find, pairwise-end}
 use Rattle.history_laws.proofs.Living.{In, in-end, in-last, in-sixteen, length-one}
@@ -20,7 +20,7 @@ IsLower a b = a.number < b.number
 -- jobs whose numbers rise, from 1 to so many at most
 pub record Rises (most : ℕ) (jobs : List Job) : Type 0 where
   pub rising : Pairwise IsLower jobs
-  pub within : AllByRecursion (IsWithin most) jobs
+  pub within : AllByRecursion (IsNumberWithin most) jobs
 
 pub rises-none : (most : ℕ) → Rises most []
 rises-none most = record { rising = tt; within = tt }
@@ -33,23 +33,23 @@ pub rise-to : (most : ℕ) (jobs : List Job) → Rises most jobs → RiseTo most
 rise-to most jobs r = record { rising = are-rising jobs r.rising; within = r.within }
 
 -- up to a greater number
-pub within-more : (most more : ℕ) (job : Job) → most ≤ more → IsWithin most job → IsWithin more job
+pub within-more : (most more : ℕ) (job : Job) → most ≤ more → IsNumberWithin most job → IsNumberWithin more job
 within-more most more job up w = let m : job.number ≤ most = w.most in record { some = w.some; most = omega (arith, m, up) }
 
 pub rises-more : (most more : ℕ) (jobs : List Job) → most ≤ more → Rises most jobs → Rises more jobs
 rises-more most more jobs up r = record {
   rising = r.rising;
-  within = all-weaken (IsWithin most) (IsWithin more) (λ job w. within-more most more job up w) jobs r.within;
+  within = all-weaken (IsNumberWithin most) (IsNumberWithin more) (λ job w. within-more most more job up w) jobs r.within;
 }
 
 -- with the next number at the end
 pub rises-end : (most more : ℕ) (jobs : List Job) (job : Job) → more ≡ most + 1 → job.number ≡ most + 1 → Rises most jobs → Rises more (jobs ++ job ∷ [])
 rises-end most more jobs job up number r = record {
   rising = pairwise-end IsLower jobs job
-      (all-weaken (IsWithin most) (λ other. IsLower other job) (λ other w. let m : other.number ≤ most = w.most in omega (arith, m, number)) jobs r.within)
+      (all-weaken (IsNumberWithin most) (λ other. IsLower other job) (λ other w. let m : other.number ≤ most = w.most in omega (arith, m, number)) jobs r.within)
       r.rising;
-  within = all-end (IsWithin more) jobs job
-      (all-weaken (IsWithin most) (IsWithin more) (λ other w. within-more most more other (omega (arith, up)) w) jobs r.within)
+  within = all-end (IsNumberWithin more) jobs job
+      (all-weaken (IsNumberWithin most) (IsNumberWithin more) (λ other w. within-more most more other (omega (arith, up)) w) jobs r.within)
       (record { some = omega (arith, number); most = omega (arith, number, up) });
 }
 
@@ -77,7 +77,7 @@ pairwise-without channel (job ∷ jobs) r =
 pub rises-sixteen : (most channel : ℕ) (jobs : List Job) → Rises most jobs → Rises most (at_most_sixteen channel jobs)
 rises-sixteen most channel jobs r =
     cond_both (nat_lt 16 (length (filter (λ job. is_own channel job.source) jobs))) (without_first channel jobs) jobs (Rises most)
-    (λ t. record { rising = pairwise-without channel jobs r.rising; within = all-without (IsWithin most) channel jobs r.within }) (λ f. r)
+    (λ t. record { rising = pairwise-without channel jobs r.rising; within = all-without (IsNumberWithin most) channel jobs r.within }) (λ f. r)
 
 -- what a tip made live
 pub rises-made : (most at id : ℕ) (future : List Job) → Rises most future → Rises most (made_live at (future_in future id))
@@ -85,14 +85,14 @@ rises-made most at id future r = by_job (future_in future id) refl where
   by_job : (o : Option Job) → future_in future id ≡ o → Rises most (made_live at o)
   by_job None is = rises-none most
   by_job (Some job) is =
-      let w : IsWithin most job = all-find (IsWithin most) (λ other. has_template id other.source) future job r.within is in
+      let w : IsNumberWithin most job = all-find (IsNumberWithin most) (λ other. has_template id other.source) future job r.within is in
       record { rising = (tt, tt); within = (record { some = w.some; most = w.most }, tt) }
 
 -- no job of one list has the number of a job of the other
 abbrev pub ShareNoNumber : List Job → List Job → Type 0
 ShareNoNumber xs ys = (a b : Job) → In a xs → In b ys → a.number ≡ b.number → ⊥
 
-pub in-within : (most : ℕ) (jobs : List Job) (job : Job) → AllByRecursion (IsWithin most) jobs → In job jobs → job.number ≤ most
+pub in-within : (most : ℕ) (jobs : List Job) (job : Job) → AllByRecursion (IsNumberWithin most) jobs → In job jobs → job.number ≤ most
 in-within most [] job a i = elim i [ ]
 in-within most (x ∷ jobs) job a (inl same) = let m : x.number ≤ most = a.0.most in let n : job.number ≡ x.number = ap (λ j. j.number) same in omega (arith, m, n)
 in-within most (x ∷ jobs) job a (inr i) = in-within most jobs job a.1 i
@@ -102,7 +102,7 @@ share-turned xs ys apart a b i k same = apart b a k i (sym same)
 
 -- a list that has none but one with the next number more
 pub share-more : (most : ℕ) (xs more ys : List Job) (new : Job) → ((j : Job) → In j more → In j xs ⊎ (j ≡ new)) → new.number ≡ most + 1
-    → AllByRecursion (IsWithin most) ys → ShareNoNumber xs ys → ShareNoNumber more ys
+    → AllByRecursion (IsNumberWithin most) ys → ShareNoNumber xs ys → ShareNoNumber more ys
 share-more most xs more ys new of number within apart a b i k same = by_case (of a i) where
   by_case : In a xs ⊎ (a ≡ new) → ⊥
   by_case (inl old) = apart a b old k same
@@ -198,12 +198,12 @@ numbers-told [] = record {
 }
 numbers-told (Came at session template ∷ older) =
     let s : Standing = jobs_told older in
-    numbers-template s (record { number = length s.all + 1; session = session; live_at = at; source = FromTemplate template }) template.future_template refl
+    numbers-template s (record { number = length s.all + 1; session = session; since = at; source = FromTemplate template }) template.future_template refl
     (numbers-told older)
 numbers-told (Tipped at tip ∷ older) = numbers-tip (jobs_told older) at tip (numbers-told older)
 numbers-told (Brought at custom ∷ older) =
     let s : Standing = jobs_told older in
-    numbers-custom s (record { number = length s.all + 1; session = 0; live_at = at; source = FromMiner custom }) custom.channel_id refl
+    numbers-custom s (record { number = length s.all + 1; session = 0; since = at; source = FromMiner custom }) custom.channel_id refl
     (numbers-told older)
 
 -- a number that a list has is that of a job of it

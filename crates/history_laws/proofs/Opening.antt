@@ -15,7 +15,7 @@ use Rattle.pool_history.specs.Channels.{ClassSet, OpenChannel, account_or, chann
 use Rattle.pool_history.specs.Sessions.{opens, past_of}
 use Rattle.pool_history.proofs.PlacesOfClasses.{sets_from-snoc, opens_in-snoc}
 use Rattle.history_laws.specs.OneMore.{channels_after}
-use Rattle.history_laws.specs.Places.{ChannelsByPlaces, channel_from, channels_from, ends_channel, name_in, opens_by}
+use Rattle.history_laws.specs.Places.{ChannelsByPlaces, channel_from, channels_from, ends_channel, account_named, opens_by}
 use Rattle.history_laws.proofs.Legalities.{past-cons}
 use Rattle.history_laws.proofs.Stepping.{channels-cons}
 
@@ -29,7 +29,7 @@ opened_as at opened session kind account class lead more = record {
   id = opened + 1;
   session = session;
   kind = kind;
-  account = account_or account (name_in (opened + 1) more);
+  account = account_or account (account_named (opened + 1) more);
   lead = lead;
   opening_class = class;
   sets = reverse (sets_from (at + 1) (opened + 1) (opened + 1) more);
@@ -81,10 +81,10 @@ pub name-twice : (b : Bool) (account n n' m : List ℕ) → n' ≡ account_or n 
 name-twice true account n n' m is = ap (account_or account) is ∙ sym (account-twice account n m)
 name-twice false account n n' m is = is
 
-pub name_in-snoc : (id : ℕ) (h : List Event) (e : Event) → name_in id (h ++ e ∷ []) ≡ account_or (name_in id h) (name_in id (e ∷ []))
+pub name_in-snoc : (id : ℕ) (h : List Event) (e : Event) → account_named id (h ++ e ∷ []) ≡ account_or (account_named id h) (account_named id (e ∷ []))
 name_in-snoc id [] e = refl
 name_in-snoc id (event.Name session channel account ∷ more) e =
-    name-twice (eqb id channel) account (name_in id more) (name_in id (more ++ e ∷ [])) (name_in id (e ∷ [])) (name_in-snoc id more e)
+    name-twice (eqb id channel) account (account_named id more) (account_named id (more ++ e ∷ [])) (account_named id (e ∷ [])) (name_in-snoc id more e)
 name_in-snoc id (x ∷ more) e = name_in-snoc id more e
 
 -- a channel of an opening, with an account and classes
@@ -97,7 +97,7 @@ pub grown : (at opened session : ℕ) (k : Kind) (account : List ℕ) (class : �
     → place ≡ at + 1 + length more → count ≡ opened + 1 + opens_in more
     → channel_from at opened (event.Open session k account class lead) (more ++ e ∷ [])
     ≡ unless (list_any (ends_channel (opened + 1) session) more || (ends_channel (opened + 1) session e || false))
-    (shaped (opened + 1) session k class lead (account_or account (account_or (name_in (opened + 1) more) (name_in (opened + 1) (e ∷ []))))
+    (shaped (opened + 1) session k class lead (account_or account (account_or (account_named (opened + 1) more) (account_named (opened + 1) (e ∷ []))))
     (reverse (sets_from (at + 1) (opened + 1) (opened + 1) more ++ sets_from place count (opened + 1) (e ∷ []))))
 grown at opened session k account class lead more e place count p q =
     let id : ℕ = opened + 1 in
@@ -105,7 +105,7 @@ grown at opened session k account class lead more e place count p q =
     ∙ ap (λ n. unless (list_any (ends_channel id session) more || (ends_channel id session e || false))
     (shaped id session k class lead (account_or account n) (reverse (sets_from (at + 1) id id (more ++ e ∷ []))))) (name_in-snoc id more e)
     ∙ ap (λ s. unless (list_any (ends_channel id session) more || (ends_channel id session e || false))
-    (shaped id session k class lead (account_or account (account_or (name_in id more) (name_in id (e ∷ [])))) (reverse s)))
+    (shaped id session k class lead (account_or account (account_or (account_named id more) (account_named id (e ∷ [])))) (reverse s)))
     (sets_from-snoc (at + 1) id id more e place count p q)
 
 -- a name, a class and an end
@@ -147,7 +147,7 @@ untouched id session k class lead account n sets =
 
 pub changed-one : (g : Bool) (id session : ℕ) (k : Kind) (class : ℕ) (lead account n : List ℕ) (sets : List ClassSet) (e : Event) (place count : ℕ) → id ≤ count
     → unless (g || (ends_channel id session e || false))
-    (shaped id session k class lead (account_or account (account_or n (name_in id (e ∷ [])))) (reverse (sets ++ sets_from place count id (e ∷ []))))
+    (shaped id session k class lead (account_or account (account_or n (account_named id (e ∷ [])))) (reverse (sets ++ sets_from place count id (e ∷ []))))
     ≡ changed place e (unless g (shaped id session k class lead (account_or account n) (reverse sets)))
 changed-one true id session k class lead account n sets e place count few = sym (changed-nil place e)
 changed-one false id session k class lead account n sets (event.Name s channel name) place count few =
@@ -176,7 +176,7 @@ pub head-later : (at opened : ℕ) (x : Event) (more : List Event) (e : Event) (
     → count ≡ opened + opens_by x + opens_in more → channel_from at opened x (more ++ e ∷ []) ≡ changed place e (channel_from at opened x more)
 head-later at opened (event.Open session k account class lead) more e place count p q =
     grown at opened session k account class lead more e place count p q
-    ∙ changed-one (list_any (ends_channel (opened + 1) session) more) (opened + 1) session k class lead account (name_in (opened + 1) more)
+    ∙ changed-one (list_any (ends_channel (opened + 1) session) more) (opened + 1) session k class lead account (account_named (opened + 1) more)
     (sets_from (at + 1) (opened + 1) (opened + 1) more) e place count (omega (arith, q))
 head-later at opened (event.Start rules) more e place count p q = sym (changed-nil place e)
 head-later at opened x more e place count p q = sym (changed-nil place e)

@@ -149,7 +149,7 @@ jobs-counted (event.Template session template ∷ older) =
     let s : Standing = jobs_of older in
     let deeper : length (jobs_of older).all ≡ templates older + customs older = jobs-counted older in
     let more : length (jobs_of (event.Template session template ∷ older)).all ≡ length (jobs_of older).all + 1 =
-    more-of_template s (record { number = length s.all + 1; session = session; live_at = length older; source = FromTemplate template }) template.future_template in
+    more-of_template s (record { number = length s.all + 1; session = session; since = length older; source = FromTemplate template }) template.future_template in
     omega (arith, deeper, more)
 jobs-counted (event.Custom session custom ∷ older) =
     let deeper : length (jobs_of older).all ≡ templates older + customs older = jobs-counted older in

@@ -65,7 +65,7 @@ set_after = start ∷ enters ∷ opens ∷ comes ∷ tips ∷ reclasses ∷ []
 
 abbrev pub since_of : Option Job → ℕ
 since_of None = 0
-since_of (Some job) = job.live_at
+since_of (Some job) = job.since
 
 pub no_states-without_places : StatesWithoutPlaces → ⊥
 no_states-without_places law =
@@ -77,7 +77,7 @@ no_states-without_places law =
 
 -- so the class at the job differs: 8 where it was set before, and 0 where it was set after
 abbrev pub class_at_job : List Event → Option OpenChannel → Option Job → ℕ
-class_at_job history (Some channel) (Some job) = class_at channel job.live_at
+class_at_job history (Some channel) (Some job) = class_at channel job.since
 class_at_job history channel job = 99
 
 pub class-set_before : class_at_job set_before (channel_in (channels_of (past_of set_before)) 1) (live_job (jobs_of (past_of set_before)) 1) ≡ 8

@@ -22,12 +22,15 @@ PrefixesAreLegal = (front back : List Event) → Legal (front ++ back) → Legal
 
 -- a history with one event more is legal where it was, and the event has no cause
 abbrev pub OneMoreIsLegal : Type 0
-OneMoreIsLegal = (history : List Event) (event : Event) → Legal (history ++ event ∷ []) ↔ (Legal history × (cause_of (past_of history) event ≡ None))
+OneMoreIsLegal =
+    (history : List Event) (event : Event)
+    → Legal (history ++ event ∷ []) ↔ (Legal history × (cause_of (past_of history) event ≡ None))
 
 -- each event of a history, wherever it stands, has no cause after the events before it
 abbrev pub NoneHasCause : List Event → Type 0
 NoneHasCause history =
-    (before : List Event) (event : Event) (after : List Event) → history ≡ before ++ event ∷ after → cause_of (past_of before) event ≡ None
+    (before : List Event) (event : Event) (after : List Event) → history ≡ before ++ event ∷ after
+    → cause_of (past_of before) event ≡ None
 
 -- that is what legality says
 abbrev pub LegalityByPlaces : Type 0
@@ -55,7 +58,8 @@ pub record IsOnlyFirst (history : List Event) (first : FirstIllegal history) : T
 
 -- so the first illegal event and its cause are determined
 abbrev pub FirstIllegalIsOne : Type 0
-FirstIllegalIsOne = (history : List Event) (first : FirstIllegal history) → IsOnlyFirst history first
+FirstIllegalIsOne =
+    (history : List Event) (first : FirstIllegal history) → IsOnlyFirst history first
 
 -- a legal history begins with a Start, whose rules are its rules and in their ranges
 pub record Starts (history : List Event) : Type 0 where

@@ -2,9 +2,12 @@ pub mod Answered
 pub mod Apart
 pub mod Credited
 pub mod Fitting
+pub mod KeptJobs
 pub mod Legality
 pub mod Limits
 pub mod Lowest
+pub mod News
+pub mod NineConditions
 pub mod Numbering
 pub mod OneMore
 pub mod Openings

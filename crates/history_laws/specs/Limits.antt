@@ -17,8 +17,8 @@ customs [] = 0
 customs (event.Custom session custom ∷ older) = customs older + 1
 customs (event ∷ older) = customs older
 
--- the counts are within their limits; there are no more jobs of miners' own than tokens, since each spends one, and
--- no other jobs but those of templates
+-- the counts are within their limits; there are no more jobs of miners' own than tokens, since each
+-- spends one, and no other jobs but those of templates
 pub record KeepsLimits (history : List Event) : Type 0 where
   pub entered : enters (past_of history) ≤ most_enters
   pub opened : opens (past_of history) ≤ most_opens
@@ -26,8 +26,10 @@ pub record KeepsLimits (history : List Event) : Type 0 where
   pub granted : grants (past_of history) ≤ most_grants
   pub brought : customs (past_of history) ≤ grants (past_of history)
   pub per_session : (session : ℕ) → open_count (past_of history) session ≤ most_channels
-  pub jobs : length (jobs_of (past_of history)).all ≡ templates (past_of history) + customs (past_of history)
-  pub credited : (rules : Rules) → rules_of (past_of history) ≡ Some rules → credits (past_of history) ≤ rules.credit_limit
+  pub jobs : length (jobs_of (past_of history)).all
+      ≡ templates (past_of history) + customs (past_of history)
+  pub credited : (rules : Rules) → rules_of (past_of history) ≡ Some rules
+      → credits (past_of history) ≤ rules.credit_limit
 
 -- so they are in each legal history
 abbrev pub LegalHistoriesKeepLimits : Type 0
@@ -42,7 +44,8 @@ spent_tokens (event ∷ older) = spent_tokens older
 -- no two Custom events name one token, and each names that of an earlier Grant
 pub record SpendsTokens (history : List Event) : Type 0 where
   pub once : IsDistinct bytes_eq (spent_tokens (past_of history))
-  pub granted : (before after : List Event) (session : ℕ) (custom : CustomData) → history ≡ before ++ event.Custom session custom ∷ after
+  pub granted : (before after : List Event) (session : ℕ) (custom : CustomData)
+      → history ≡ before ++ event.Custom session custom ∷ after
       → (granted : Granted) × (grant_of (past_of before) custom.token ≡ Some granted)
 
 -- so they do in each legal history

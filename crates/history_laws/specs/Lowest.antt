@@ -17,7 +17,8 @@ ComesBefore xs ys = ⊥
 pub record IsLowestFree (len : ℕ) (held : List (List ℕ)) (lead : List ℕ) : Type 0 where
   pub is_string : IsString len lead
   pub free : IsTrue (is_free held lead)
-  pub least : (other : List ℕ) → IsString len other → ComesBefore other lead → is_free held other ≡ false
+  pub least : (other : List ℕ) → IsString len other → ComesBefore other lead
+      → is_free held other ≡ false
 
 -- no lead of so many bytes is free
 abbrev pub NoneIsFree : ℕ → List (List ℕ) → Type 0

@@ -1,4 +1,5 @@
--- Sessions and open channels once more, by places over the history from its front (this project's own).
+-- Sessions and open channels once more, by places over the history from its front (this project's
+-- own).
 use Rattle.std.specs.Prelude.{IsTrue, ◌≡◌, ◌↔◌, ℕ, ◌+◌, ◌==◌, Bool, false, if◌then◌else◌, Some, List, [], ◌∷◌, ◌++◌, reverse}
 use Rattle.std.specs.List.{AllByRecursion, list_any}
 use Rattle.pool_history.specs.declared.events.Event.{Event}
@@ -15,7 +16,8 @@ ends_session worker session (event.Leave leaving) = session == leaving
 ends_session worker session event = false
 
 -- the Enter of a session: its number is that of the Enters before it
-pub record HasEntered (history : List Event) (worker : ℕ) (role : Role) (flags session : ℕ) : Type 0 where
+pub record HasEntered (history : List Event) (worker : ℕ) (role : Role)
+    (flags session : ℕ) : Type 0 where
   pub before : List Event
   pub after : List Event
   pub parts : history ≡ before ++ event.Enter worker role flags ∷ after
@@ -35,16 +37,21 @@ pub record StandsEntered (history : List Event) (worker session : ℕ) : Type 0 
 abbrev pub EntrancesByPlaces : Type 0
 EntrancesByPlaces =
     (history : List Event) (session : ℕ) (entered : Entrance)
-    → (entrance (past_of history) session ≡ Some entered) ↔ HasEntered history entered.worker entered.role entered.flags session
+    → (entrance (past_of history) session ≡ Some entered)
+    ↔ HasEntered history entered.worker entered.role entered.flags session
 
 -- a worker's present session is that of its last Enter, unless it left since
 abbrev pub PresentByPlaces : Type 0
-PresentByPlaces = (history : List Event) (worker session : ℕ) → (present (past_of history) worker ≡ Some session) ↔ StandsEntered history worker session
+PresentByPlaces =
+    (history : List Event) (worker session : ℕ)
+    → (present (past_of history) worker ≡ Some session) ↔ StandsEntered history worker session
 
 -- a session is present where it is some worker's
 abbrev pub PresentIsSomeWorkers : Type 0
 PresentIsSomeWorkers =
-    (history : List Event) (session : ℕ) → IsTrue (is_present (past_of history) session) ↔ ((worker : ℕ) × (present (past_of history) worker ≡ Some session))
+    (history : List Event) (session : ℕ)
+    → IsTrue (is_present (past_of history) session)
+    ↔ ((worker : ℕ) × (present (past_of history) worker ≡ Some session))
 
 -- a Close of the channel, or the Leave of its session
 abbrev pub ends_channel : ℕ → ℕ → Event → Bool
@@ -53,10 +60,11 @@ ends_channel id session (event.Leave leaving) = session == leaving
 ends_channel id session event = false
 
 -- the account of the first Name of a channel that says one
-abbrev pub name_in : ℕ → List Event → List ℕ
-name_in id [] = []
-name_in id (event.Name session channel account ∷ more) = if id == channel then account_or account (name_in id more) else name_in id more
-name_in id (event ∷ more) = name_in id more
+abbrev pub account_named : ℕ → List Event → List ℕ
+account_named id [] = []
+account_named id (event.Name session channel account ∷ more) =
+    if id == channel then account_or account (account_named id more) else account_named id more
+account_named id (event ∷ more) = account_named id more
 
 -- a channel as its Open says, with the account of its Name where the Open has none, and its classes
 abbrev pub channel_from : ℕ → ℕ → Event → List Event → List OpenChannel
@@ -67,7 +75,7 @@ channel_from at opened (event.Open session kind account class lead) more =
       id = opened + 1;
       session = session;
       kind = kind;
-      account = account_or account (name_in (opened + 1) more);
+      account = account_or account (account_named (opened + 1) more);
       lead = lead;
       opening_class = class;
       sets = reverse (sets_from (at + 1) (opened + 1) (opened + 1) more);
@@ -79,11 +87,14 @@ abbrev pub opens_by : Event → ℕ
 opens_by (event.Open session kind account class lead) = 1
 opens_by event = 0
 
--- the channels that no later Close and no later Leave of their session ends, in the order of their Opens
+-- the channels that no later Close and no later Leave of their session ends, in the order of their
+-- Opens
 abbrev pub channels_from : ℕ → ℕ → List Event → List OpenChannel
 channels_from at opened [] = []
-channels_from at opened (event ∷ more) = channel_from at opened event more ++ channels_from (at + 1) (opened + opens_by event) more
+channels_from at opened (event ∷ more) =
+    channel_from at opened event more ++ channels_from (at + 1) (opened + opens_by event) more
 
 -- those are the open channels of a history
 abbrev pub ChannelsByPlaces : Type 0
-ChannelsByPlaces = (history : List Event) → channels_of (past_of history) ≡ channels_from 0 0 history
+ChannelsByPlaces =
+    (history : List Event) → channels_of (past_of history) ≡ channels_from 0 0 history

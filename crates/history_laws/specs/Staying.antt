@@ -8,8 +8,9 @@ use Rattle.pool_history.specs.Crediting.{Booked, booked, headers}
 use Rattle.pool_history.specs.Jobs.{Job, jobs_of, live_job}
 use Rattle.pool_history.specs.Sessions.{opens, past_of}
 
--- a channel later, while it is open: its session, kind, lead and opening class are as before, and so is its account
--- once it has one; its class before a place that was reached is as before, whatever class was set since
+-- a channel later, while it is open: its session, kind, lead and opening class are as before, and
+-- so is its account once it has one; its class before a place that was reached is as before,
+-- whatever class was set since
 pub record IsLater (place : ℕ) (before after : OpenChannel) : Type 0 where
   pub session : after.session ≡ before.session
   pub kind : after.kind ≡ before.kind
@@ -21,18 +22,22 @@ pub record IsLater (place : ℕ) (before after : OpenChannel) : Type 0 where
 -- a channel that is open now and later is so
 abbrev pub ChannelsStay : Type 0
 ChannelsStay =
-    (history more : List Event) (id : ℕ) (before after : OpenChannel) → channel_in (channels_of (past_of history)) id ≡ Some before
-    → channel_in (channels_of (past_of (history ++ more))) id ≡ Some after → IsLater (length history) before after
+    (history more : List Event) (id : ℕ) (before after : OpenChannel)
+    → channel_in (channels_of (past_of history)) id ≡ Some before
+    → channel_in (channels_of (past_of (history ++ more))) id ≡ Some after
+    → IsLater (length history) before after
 
 -- each channel comes before those with greater ids
 abbrev pub AreInOrder : List OpenChannel → Type 0
 AreInOrder [] = Unit {0}
-AreInOrder (channel ∷ later) = AllByRecursion (λ other. channel.id < other.id) later × AreInOrder later
+AreInOrder (channel ∷ later) =
+    AllByRecursion (λ other. channel.id < other.id) later × AreInOrder later
 
 -- the channels of a history are in order, and their ids count the openings
 pub record AreNumbered (history : List Event) : Type 0 where
   pub in_order : AreInOrder (channels_of (past_of history))
-  pub opened : AllByRecursion (λ channel. channel.id ≤ opens (past_of history)) (channels_of (past_of history))
+  pub opened : AllByRecursion (λ channel. channel.id ≤ opens (past_of history))
+      (channels_of (past_of history))
 
 -- so they are in each history
 abbrev pub ChannelsAreNumbered : Type 0
@@ -41,18 +46,22 @@ ChannelsAreNumbered = (history : List Event) → AreNumbered history
 -- a live job that is live later is the same job, live since the same place
 abbrev pub JobsStay : Type 0
 JobsStay =
-    (history more : List Event) (number : ℕ) (before after : Job) → live_job (jobs_of (past_of history)) number ≡ Some before
+    (history more : List Event) (number : ℕ) (before after : Job)
+    → live_job (jobs_of (past_of history)) number ≡ Some before
     → live_job (jobs_of (past_of (history ++ more))) number ≡ Some after → after ≡ before
 
 -- so the class of a channel at a live job never changes
 abbrev pub ClassesStay : Type 0
 ClassesStay =
     (history more : List Event) (id number : ℕ) (before after : OpenChannel) (job later : Job)
-    → channel_in (channels_of (past_of history)) id ≡ Some before → channel_in (channels_of (past_of (history ++ more))) id ≡ Some after
-    → live_job (jobs_of (past_of history)) number ≡ Some job → live_job (jobs_of (past_of (history ++ more))) number ≡ Some later
-    → class_at after later.live_at ≡ class_at before job.live_at
+    → channel_in (channels_of (past_of history)) id ≡ Some before
+    → channel_in (channels_of (past_of (history ++ more))) id ≡ Some after
+    → live_job (jobs_of (past_of history)) number ≡ Some job
+    → live_job (jobs_of (past_of (history ++ more))) number ≡ Some later
+    → class_at after later.since ≡ class_at before job.since
 
--- the rebuilt headers of the credits that stand never change, nor do their accounts, work and rewards
+-- the rebuilt headers of the credits that stand never change, nor do their accounts, work and
+-- rewards
 pub record CreditsStand (history more : List Event) : Type 0 where
   pub newer_headers : List (List ℕ)
   pub headers_are : headers (past_of (history ++ more)) ≡ newer_headers ++ headers (past_of history)

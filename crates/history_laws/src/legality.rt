@@ -22,7 +22,8 @@ pub fn one_more_is_legal()
     ensures { OneMoreIsLegal }
 {}
 
-/// A history is legal exactly where no event of it, wherever it stands, has a cause after the events before it.
+/// A history is legal exactly where no event of it, wherever it stands, has a cause after the
+/// events before it.
 pub fn legality_by_places()
     ensures { LegalityByPlaces }
 {}

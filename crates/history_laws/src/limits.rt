@@ -2,8 +2,9 @@
 
 ghost use Rattle.history_laws.specs.Limits.{JobsSpendTokens, LegalHistoriesKeepLimits};
 
-/// Enters, openings, open channels of a session, templates, tokens and credits are within their limits, and there are
-/// no more jobs of miners' own than tokens: each of them spends one. All other jobs are those of templates.
+/// Enters, openings, open channels of a session, templates, tokens and credits are within their
+/// limits, and there are no more jobs of miners' own than tokens: each of them spends one. All
+/// other jobs are those of templates.
 pub fn legal_histories_keep_limits()
     ensures { LegalHistoriesKeepLimits }
 {}

@@ -1,5 +1,6 @@
-//! What one more event does to what a history shows. Each law takes what the history showed, and for the things
-//! that are told by places its length, as an object that follows the events keeps them.
+//! What one more event does to what a history shows. Each law takes what the history showed, and
+//! for the things that are told by places its length, as an object that follows the events keeps
+//! them.
 
 ghost use Rattle.history_laws.specs.OneMore.{ChannelsOneMore, CountsOneMore, CreditsOneMore, EntrancesOneMore, GrantsOneMore, HeadersOneMore, JobsOneMore, PresentOneMore, RulesOneMore, SpendingOneMore};
 

@@ -17,8 +17,9 @@ pub fn present_is_some_workers()
     ensures { PresentIsSomeWorkers }
 {}
 
-/// The open channels are those of the Opens with no later Close of the channel and no later Leave of its session;
-/// their session, kind, lead and opening class are those of the Open, and the account is the Open's or the Name's.
+/// The open channels are those of the Opens with no later Close of the channel and no later Leave
+/// of its session; their session, kind, lead and opening class are those of the Open, and the
+/// account is the Open's or the Name's.
 pub fn channels_by_places()
     ensures { ChannelsByPlaces }
 {}

@@ -22,8 +22,8 @@ pub fn spaces_are_disjoint()
     ensures { SpacesAreDisjoint }
 {}
 
-/// What is found as the lowest free lead of a length is the free one that comes first in byte order, and nothing is
-/// found exactly where none of that length is free.
+/// What is found as the lowest free lead of a length is the free one that comes first in byte
+/// order, and nothing is found exactly where none of that length is free.
 pub fn lowest_is_least()
     ensures { LowestIsLeast }
 {}

@@ -3,8 +3,8 @@
 ghost use Rattle.history_laws.specs.Numbering.{JobsAreNumbered};
 ghost use Rattle.history_laws.specs.Staying.{ChannelsAreNumbered, ChannelsStay, ClassesStay, CreditsStay, JobsStay};
 
-/// An open channel keeps its session, kind, lead and opening class, its account once it has one, and its class
-/// before a place that was reached.
+/// An open channel keeps its session, kind, lead and opening class, its account once it has one,
+/// and its class before a place that was reached.
 pub fn channels_stay()
     ensures { ChannelsStay }
 {}
@@ -14,8 +14,9 @@ pub fn channels_are_numbered()
     ensures { ChannelsAreNumbered }
 {}
 
-/// The numbers of all jobs, of those of the future, of the live ones of templates and of the miners' own rise in each of
-/// these lists, from 1 to the number of all jobs at most, and none is in two of the last three.
+/// The numbers of all jobs, of those of the future, of the live ones of templates and of the
+/// miners' own rise in each of these lists, from 1 to the number of all jobs at most, and none is
+/// in two of the last three.
 pub fn jobs_are_numbered()
     ensures { JobsAreNumbered }
 {}
@@ -30,7 +31,8 @@ pub fn classes_stay()
     ensures { ClassesStay }
 {}
 
-/// The rebuilt headers of the credits that stand never change, nor do their accounts, work and rewards.
+/// The rebuilt headers of the credits that stand never change, nor do their accounts, work and
+/// rewards.
 pub fn credits_stay()
     ensures { CreditsStay }
 {}

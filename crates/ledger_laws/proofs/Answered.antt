@@ -40,15 +40,15 @@ use Rattle.pool_history.specs.declared.templates.CustomData.{CustomData}
 use Rattle.pool_history.specs.declared.templates.TemplateData.{TemplateData}
 use Rattle.pool_history.specs.declared.templates.TipData.{TipData}
 use Rattle.pool_history.specs.Accounts.{account_of, is_empty, is_known}
-use Rattle.pool_history.specs.Answering.{account_for, briefing, classing, closing, committing, crediting, entering, granting, kept, naming, number_of, opening, permits, step, step_as, step_by, step_for, step_in, step_under, told}
-use Rattle.pool_history.specs.Channels.{OpenChannel, class_of}
+use Rattle.pool_history.specs.Answering.{account_for, briefing, classing, closing, committing, crediting, entering, granting, with_event, naming, opening, permits, step, step_as, step_by, step_for, step_in, step_under, without_event, with_found}
+use Rattle.pool_history.specs.Channels.{OpenChannel, present_class}
 use Rattle.pool_history.specs.Crediting.{last_failed}
 use Rattle.pool_history.specs.Jobs.{future_of, jobs_of}
 use Rattle.pool_history.specs.Judging.{Admitted, admitted, custom_terms, share_of, template_terms}
 use Rattle.pool_history.specs.Legal.{LegalPast, allowed_flags}
-use Rattle.pool_history.specs.Refusing.{Granted, class_for, class_of_target, coinbase_refusal, custom_refusal, grant_of, grant_refusal, granted_to, has_other, is_bad_path, is_extended, is_other_tip, is_spent, is_template_known, lead_for, lead_length, held_leads, may_open, most_enters, most_entries, most_grants, most_templates, name_refusal, on_channel, open_refusal, outputs_refusal, over_tip, own_channel, template_refusal, tip_refusal, token_of, unspent, update_refusal, with_token}
+use Rattle.pool_history.specs.Refusing.{Granted, class_for, class_of_target, coinbase_refusal, custom_refusal, grant_of, grant_refusal, granted_to, has_other, is_bad_path, is_extended, is_other_tip, is_spent, is_template_known, lead_for, lead_length, held_leads, may_open, most_enters, most_entries, most_grants, most_templates, on_channel, outputs_refusal, over_tip, own_channel, template_refusal, token_of, unspent, with_token, openable, nameable, updatable, tippable}
 use Rattle.pool_history.specs.Sessions.{Entrance, enters, entrance, grants, past_of, present, rules_of, templates}
-use Rattle.history_laws.proofs.Answering.{IsOpen, answers-legal, open-conditions, peel, unless-event}
+use Rattle.history_laws.proofs.Answering.{IsOpen, answers-legal, peel, unless-event, found-event, was-openable, was-nameable, was-updatable}
 use Rattle.history_laws.proofs.Counted.{entered-most}
 use Rattle.history_laws.proofs.Crediting.{kept-both}
 use Rattle.history_laws.proofs.Entrances.{entrance-below, none-some}
@@ -168,9 +168,8 @@ class-small rules past target l are few = small (class_of_target target) rules.l
   small m n h k = omega (arith, h, k)
 
 open-kept : (rules : Rules) (past : List Event) (session : ℕ) (ask : OpenAsk) → LegalPast past → rules_of past ≡ Some rules → IsU32 session
-    → IsOpen rules past session ask → (o : Option (List ℕ)) → lead_for past ask ≡ o → MayKeep (opening rules past session ask o).event
-open-kept rules past session ask l are s is None found = tt
-open-kept rules past session ask l are s is (Some lead) found =
+    → IsOpen rules past session ask → (lead : List ℕ) → lead_for past ask ≡ Some lead → MayKeep (opening rules past session ask lead).event
+open-kept rules past session ask l are s is lead found =
     let len : ℕ = lead_length ask.kind ask.min_size in
     let account : IsSpelled (account_for ask.kind ask.identity) = said-spelled rules ask.kind ask.identity is.account in
     let short : length lead ≤ 32 =
@@ -185,14 +184,11 @@ open-kept rules past session ask l are s is (Some lead) found =
     }
 
 -- a channel gets its account, and its class
-name-kept : (rules : Rules) (session id : ℕ) (account : List ℕ) → IsU32 session → IsU32 id → (o : Option OpenChannel) → name_refusal rules account o ≡ None
-    → MayKeep (naming session id account o).event
-name-kept rules session id account s i None n = tt
-name-kept rules session id account s i (Some c) n =
-    let known : IsSpelled account =
-    known-spelled rules account
-    (not-false (is_known rules account) (peel (not (is_known rules account)) name.UnknownUser (cond (has_other account c) (Some name.OtherAccount) None) n).0) in
-    cond_both (is_empty c.account) (kept (event.Name session id account) reply.Named) (told reply.Named) (λ step. MayKeep step.event)
+name-kept : (rules : Rules) (session id : ℕ) (account : List ℕ) → IsU32 session → IsU32 id → (c : OpenChannel) → is_known rules account ≡ true
+    → MayKeep (naming session id account c).event
+name-kept rules session id account s i c is =
+    let known : IsSpelled account = known-spelled rules account is in
+    cond_both (is_empty c.account) (with_event (event.Name session id account) reply.Named) (without_event reply.Named) (λ step. MayKeep step.event)
     (λ empty. record {
       well_formed = record { session_fits = s; channel_fits = i; account_fits = omega (arith, known.short) };
       has_record = record { fits = tt; texts = known.utf8; short = name-short session id account known.short };
@@ -200,13 +196,10 @@ name-kept rules session id account s i (Some c) n =
     (λ has. tt)
 
 class-kept : (rules : Rules) (past : List Event) (session id : ℕ) (target : List ℕ) → LegalPast past → rules_of past ≡ Some rules → IsU32 session → IsU32 id
-    → (o : Option OpenChannel) → update_refusal target o ≡ None → MayKeep (classing session id (class_for rules target) o).event
-class-kept rules past session id target l are s i None n = tt
-class-kept rules past session id target l are s i (Some c) n =
+    → (c : OpenChannel) → class_of_target target ≤ 60 → MayKeep (classing session id (class_for rules target) c).event
+class-kept rules past session id target l are s i c few =
     let class : ℕ = class_for rules target in
-    let few : class_of_target target ≤ 60 =
-    ltb-false 60 (class_of_target target) (peel (nat_lt 60 (class_of_target target)) (update.TargetOutOfRange (class_of_target target)) None n).0 in
-    cond_both (Rattle.std.specs.Prelude.nat_eq class (class_of c)) (told (reply.Target id class)) (kept (event.Class session id class) (reply.Target id class))
+    cond_both (Rattle.std.specs.Prelude.nat_eq class (present_class c)) (without_event (reply.Target id class)) (with_event (event.Class session id class) (reply.Target id class))
     (λ step. MayKeep step.event)
     (λ same. tt)
     (λ other. record {
@@ -274,11 +267,11 @@ grant-kept : (rules : Rules) (past : List Event) (session : ℕ) (account : List
     → MayKeep (granting rules past session account path).event
 grant-kept rules past session account None s p =
     unless-event MayKeep reply.GrantRefused (grant_refusal rules past account [])
-    (kept (event.Grant session account false []) (reply.Granted (grants past + 1) rules.pool_script)) tt
+    (with_event (event.Grant session account false []) (reply.Granted (grants past + 1) rules.pool_script)) tt
     (λ n. granted-kept session account false [] s tt (λ f. refl) (grant-conditions rules past account [] n))
 grant-kept rules past session account (Some path) s p =
     unless-event MayKeep reply.GrantRefused (grant_refusal rules past account path)
-    (kept (event.Grant session account true path) (reply.Granted (grants past + 1) rules.pool_script)) tt
+    (with_event (event.Grant session account true path) (reply.Granted (grants past + 1) rules.pool_script)) tt
     (λ n. granted-kept session account true path s p (λ f. absurd (Rattle.std.proofs.lemmas.Bool.false≢true (sym f))) (grant-conditions rules past account path n))
 
 -- a token that was granted has eight bytes
@@ -378,22 +371,20 @@ step_in-kept rules past session request.Leave l are s w =
     record { well_formed = s; has_record = record { fits = tt; texts = tt; short = omega arith } }
 step_in-kept rules past session (request.Template template) l are s w =
     unless-event MayKeep reply.TemplateRefused (template_refusal rules.pool_script past template)
-    (kept (event.Template session template) (reply.Job (length (jobs_of past).all + 1))) tt
+    (with_event (event.Template session template) (reply.Job (length (jobs_of past).all + 1))) tt
     (λ n. template-kept rules.pool_script past session template s w n)
 step_in-kept rules past session (request.Tip tip) l are s w =
-    unless-event MayKeep reply.TemplateRefused (tip_refusal past tip)
-    (kept (event.Tip session tip) (reply.Job (number_of (future_of (jobs_of past) tip.template_id)))) tt (λ n. tip-kept session tip s w)
+    found-event MayKeep reply.TemplateRefused (λ job. with_event (event.Tip session tip) (reply.Job job.number)) (tippable past tip) tt
+    (λ job is. tip-kept session tip s w)
 step_in-kept rules past session (request.Open ask) l are s w =
-    unless-event MayKeep reply.OpenRefused (open_refusal rules past session ask) (opening rules past session ask (lead_for past ask)) tt
-    (λ n. open-kept rules past session ask l are s (open-conditions rules past session ask n) (lead_for past ask) refl)
+    found-event MayKeep reply.OpenRefused (opening rules past session ask) (openable rules past session ask) tt
+    (λ lead is. let o = was-openable rules past session ask lead is in open-kept rules past session ask l are s o.is lead o.lead_is)
 step_in-kept rules past session (request.Name id identity) l are s w =
-    unless-event MayKeep reply.NameRefused (name_refusal rules (account_of identity) (own_channel past session id))
-    (naming session id (account_of identity) (own_channel past session id)) tt
-    (λ n. name-kept rules session id (account_of identity) s w.channel_fits (own_channel past session id) n)
+    found-event MayKeep reply.NameRefused (naming session id (account_of identity)) (nameable rules (account_of identity) (own_channel past session id)) tt
+    (λ c is. name-kept rules session id (account_of identity) s w.channel_fits c (was-nameable rules (account_of identity) (own_channel past session id) c is).1)
 step_in-kept rules past session (request.Update id target) l are s w =
-    unless-event MayKeep reply.UpdateRefused (update_refusal target (own_channel past session id))
-    (classing session id (class_for rules target) (own_channel past session id)) tt
-    (λ n. class-kept rules past session id target l are s w.channel_fits (own_channel past session id) n)
+    found-event MayKeep reply.UpdateRefused (classing session id (class_for rules target)) (updatable target (own_channel past session id)) tt
+    (λ c is. class-kept rules past session id target l are s w.channel_fits c (was-updatable target (own_channel past session id) c is).1)
 step_in-kept rules past session (request.Close id) l are s w = close-kept session id s w (own_channel past session id)
 step_in-kept rules past session (request.Brief sub) l are s w = no_event (admitted rules past session (share_of sub)) where
   no_event : (r : Result Admitted Failed) → MayKeep (briefing rules r).event
@@ -405,7 +396,7 @@ step_in-kept rules past session (request.Poll from) l are s w = tt
 step_in-kept rules past session (request.Grant identity path) l are s w = grant-kept rules past session (account_of identity) path s w.path_fits
 step_in-kept rules past session (request.Custom offer) l are s w =
     unless-event MayKeep reply.CustomRefused (custom_refusal rules.pool_script past session offer)
-    (kept (event.Custom session offer) (reply.CustomJob (length (jobs_of past).all + 1))) tt
+    (with_event (event.Custom session offer) (reply.CustomJob (length (jobs_of past).all + 1))) tt
     (λ n. custom-kept rules.pool_script past session offer s w n)
 
 -- a request of a session that was entered so, and of a worker's present session
@@ -413,7 +404,7 @@ step_as-kept : (rules : Rules) (past : List Event) (session : ℕ) (asked : Requ
     → (o : Option Entrance) → entrance past session ≡ o → MayKeep (step_as rules past asked session o).event
 step_as-kept rules past session asked l are w None is = tt
 step_as-kept rules past session asked l are w (Some entered) is =
-    cond_both (permits asked entered) (step_in rules past session asked) (told reply.NoSession) (λ step. MayKeep step.event)
+    cond_both (permits asked entered) (step_in rules past session asked) (without_event reply.NoSession) (λ step. MayKeep step.event)
     (λ may. step_in-kept rules past session asked l are (session-fits past session entered l is) w)
     (λ may_not. tt)
 
@@ -427,7 +418,7 @@ enter-kept : (rules : Rules) (past : List Event) (worker : ℕ) (role : Role) (f
     → MayKeep (entering rules past worker role flags).event
 enter-kept rules past worker role flags u f =
     cond_both (nat_lt (enters past) most_enters)
-    (kept (event.Enter worker role (bit_and flags (allowed_flags rules))) (reply.Entered (enters past))) (told (reply.PoolFull most_enters))
+    (with_event (event.Enter worker role (bit_and flags (allowed_flags rules))) (reply.Entered (enters past))) (without_event (reply.PoolFull most_enters))
     (λ step. MayKeep step.event)
     (λ few. record {
       well_formed = record { worker_fits = u; flags_fit = below (bit_and flags (allowed_flags rules)) flags (and_le_l flags (allowed_flags rules)) f };

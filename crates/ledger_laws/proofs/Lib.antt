@@ -5,6 +5,7 @@ pub mod Examples
 pub mod FieldByField
 pub mod Growth
 pub mod Kept
+pub mod KeptOnes
 pub mod Records
 pub mod Sizes
 pub mod Started

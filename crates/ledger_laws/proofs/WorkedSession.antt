@@ -13,7 +13,7 @@ use Rattle.pool_history.specs.declared.events.Kind.TheVariants as kind
 use Rattle.pool_history.specs.declared.refusals.Failed.TheVariants as failed
 use Rattle.pool_history.specs.declared.replies.Reply.TheVariants as reply
 use Rattle.pool_history.specs.declared.telling.Note.TheVariants as note
-use Rattle.pool_history.specs.Answering.{committing, kept}
+use Rattle.pool_history.specs.Answering.{committing, with_event}
 use Rattle.pool_history.specs.Crediting.{booked, headers}
 use Rattle.pool_history.specs.Judging.{admitted}
 use Rattle.pool_history.specs.Ledger.{ledger_text, record_of}
@@ -76,7 +76,7 @@ unfolding sha256 digest_bytes hash_after compress rounds schedule first_words co
 summary_of_session = refl
 
 -- the answer to its share
-pub step-commit : committing rules tipped 0 share (admitted rules tipped 0 share) ≡ kept credits (reply.Credited 1)
+pub step-commit : committing rules tipped 0 share (admitted rules tipped 0 share) ≡ with_event credits (reply.Credited 1)
 unfolding sha256 digest_bytes hash_after compress rounds schedule first_words compact
 step-commit = refl
 

@@ -1,6 +1,6 @@
--- What the types of a request's fields say of it: numbers within their powers of two, hashes of 32 bytes, texts of at
--- most 255 bytes that are UTF-8 (Stratum V2, "Data Types Mapping"). In a law numbers have no end, so it says this of
--- what a worker asks.
+-- What the types of a request's fields say of it: numbers within their powers of two, hashes of 32
+-- bytes, texts of at most 255 bytes that are UTF-8 (Stratum V2, "Data Types Mapping"). In a law
+-- numbers have no end, so it says this of what a worker asks.
 use Rattle.std.specs.Prelude.{◌≡◌, ℕ, Option, None, Some, List, length}
 use Rattle.std.specs.Str.{IsUtf8}
 use Rattle.pool_history.specs.declared.asking.OpenAsk.{OpenAsk}

@@ -1,5 +1,6 @@
--- What the types of an event's fields say of it: numbers within their powers of two, hashes of 32 bytes, texts of at
--- most 255 bytes (Stratum V2, "Data Types Mapping"). In a law numbers have no end, so it says this of its events.
+-- What the types of an event's fields say of it: numbers within their powers of two, hashes of 32
+-- bytes, texts of at most 255 bytes (Stratum V2, "Data Types Mapping"). In a law numbers have no
+-- end, so it says this of its events.
 use Rattle.std.specs.Prelude.{◌≡◌, ℕ, ◌<◌, ◌^◌, Option, None, Some, List, length}
 use Rattle.std.specs.List.{AllByRecursion}
 use Rattle.pool_history.specs.declared.events.Event.{Event}
@@ -139,7 +140,8 @@ IsWellFormed (event.Name session channel account) = IsName session channel accou
 IsWellFormed (event.Class session channel class) = IsClass session channel class
 IsWellFormed (event.Close session channel) = IsClose session channel
 IsWellFormed (event.Leave session) = IsU32 session
-IsWellFormed (event.Credit session channel job nonce ntime version extranonce) = IsCredit session channel job nonce ntime version
+IsWellFormed (event.Credit session channel job nonce ntime version extranonce) =
+    IsCredit session channel job nonce ntime version
 IsWellFormed (event.Grant session account fixed path) = IsGrant session account path
 IsWellFormed (event.Custom session custom) = IsBrought session custom
 

@@ -1,5 +1,5 @@
-//! That each event which a program holds is well formed and has UTF-8 texts: what the types of its fields say, told
-//! to contracts.
+//! That each event which a program holds is well formed and has UTF-8 texts: what the types of its
+//! fields say, told to contracts.
 
 ghost use Rattle.std.specs.List.{AllByRecursion};
 ghost use Rattle.std.specs.Str.{IsUtf8};
@@ -9,7 +9,8 @@ ghost use Rattle.ledger_laws.specs.WellFormed.{AreHashes, AreRules, IsCustom, Is
 use pool_history::{CustomData, Event, Rules, TemplateData, TipData};
 use sv2_types::{Hashes, Str255, U256};
 
-/// Each field of an event is of its type. So an event that a program holds can be kept where it has a record.
+/// Each field of an event is of its type. So an event that a program holds can be kept where it has
+/// a record.
 pub fn fields_fit(event: &Event)
     ensures { IsWellFormed event.now }
 {
@@ -93,7 +94,8 @@ pub fn fields_fit(event: &Event)
     }
 }
 
-/// Each text of an event is UTF-8: the account of an Open, a Name and a Grant, and each user of a Start.
+/// Each text of an event is UTF-8: the account of an Open, a Name and a Grant, and each user of a
+/// Start.
 pub fn texts_are_utf8(event: &Event)
     ensures { TextsFit event.now }
 {

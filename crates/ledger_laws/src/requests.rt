@@ -1,4 +1,5 @@
-//! That each request which a program holds is well formed: what the types of its fields say, told to contracts.
+//! That each request which a program holds is well formed: what the types of its fields say, told
+//! to contracts.
 
 ghost use Rattle.std.specs.Str.{IsUtf8};
 ghost use Rattle.ledger_laws.specs.Requests.{IsIdentity, IsOpenAsk, IsPath, IsSubmission, IsWellFormedRequest};
@@ -10,8 +11,8 @@ use crate::fields::{
 use pool_history::{OpenAsk, Request, Submission};
 use sv2_types::{Hashes, Str255};
 
-/// Each field of a request is of its type. So what a program's request adds to a legal history with a ledger can be
-/// kept.
+/// Each field of a request is of its type. So what a program's request adds to a legal history with
+/// a ledger can be kept.
 pub fn request_fits(request: &Request)
     ensures { IsWellFormedRequest request.now }
 {

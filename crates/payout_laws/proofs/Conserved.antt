@@ -5,7 +5,7 @@ use Rattle.std.proofs.lemmas.List.Sums.{sum_by-cons}
 use Rattle.pool_history.specs.Accounts.{are_distinct}
 use Rattle.pool_history.specs.Crediting.{Booked}
 use Rattle.pool_history.specs.Sessions.{past_of}
-use Rattle.pool_history.specs.Settling.{Part, Payment, accounts_of, all_weights, fee_of, last_work, parts_of, payments_of, settlement, since_block, weight}
+use Rattle.pool_history.specs.Settling.{Part, Payment, accounts_of, all_weights, fee_of, last_work, parts_in_block, payments_of, settlement, since_block, weight}
 use Rattle.payout_laws.specs.Conservation.{IsConserved, IsRoundedDown, RewardsAreConserved}
 use Rattle.payout_laws.specs.Payouts.{PayoutsAreQuotients}
 use Rattle.payout_laws.proofs.Sums.{all-behind, bytes_eq-turned, met_never, met_once, sum_by-accounts, sum_by-filter, sum_by-same}
@@ -21,7 +21,7 @@ fee-le reward basis_points part =
 
 -- the block's own credit has a weight
 pub some_weight : (window : Option ℕ) (block : Booked) (older : List Booked) → HasWork block → HasRoom window
-    → 0 < all_weights (parts_of window (block ∷ older))
+    → 0 < all_weights (parts_in_block window (block ∷ older))
 some_weight None block older work room =
     omega (arith, work, sum_by-cons (λ (part : Part). part.weight) (record { account = block.account; weight = block.work }) (since_block older))
 some_weight (Some window) block older work room =
@@ -30,10 +30,10 @@ some_weight (Some window) block older work room =
 
 -- the weights of the accounts are all weights
 pub weights-payments : (paid_out : ℕ) (window : Option ℕ) (credits : List Booked)
-    → weights (payments_of paid_out (parts_of window credits) (accounts_of credits)) ≡ all_weights (parts_of window credits)
+    → weights (payments_of paid_out (parts_in_block window credits) (accounts_of credits)) ≡ all_weights (parts_in_block window credits)
 weights-payments paid_out window credits =
-    sum_by-payments (λ paid. paid.weight) paid_out (parts_of window credits) (accounts_of credits) (λ account none. none)
-    ∙ sum_by-accounts (λ part. part.account) (λ part. part.weight) (accounts_of credits) (parts_of window credits)
+    sum_by-payments (λ paid. paid.weight) paid_out (parts_in_block window credits) (accounts_of credits) (λ account none. none)
+    ∙ sum_by-accounts (λ part. part.account) (λ part. part.weight) (accounts_of credits) (parts_in_block window credits)
     (distinct-accounts_of credits) (parts_of-among window (accounts_of credits) credits (among-accounts_of credits))
 
 -- what is left of a reward, by numbers alone
@@ -45,11 +45,11 @@ left reward fee paid n enough little = omega (arith, enough, little)
 
 -- a block with some weight is conserved
 pub conserved : (window : Option ℕ) (basis_points reward : ℕ) (credits : List Booked) → basis_points ≤ 10000
-    → 0 < all_weights (parts_of window credits)
-    → IsConserved basis_points reward (parts_of window credits) (settlement window basis_points reward credits)
+    → 0 < all_weights (parts_in_block window credits)
+    → IsConserved basis_points reward (parts_in_block window credits) (settlement window basis_points reward credits)
 conserved window basis_points reward credits part some =
     let fee : ℕ = fee_of reward basis_points in
-    let parts : List Part = parts_of window credits in
+    let parts : List Part = parts_in_block window credits in
     let payments : List Payment = payments_of (reward - fee) parts (accounts_of credits) in
     let within : fee ≤ reward = fee-le reward basis_points part in
     let whole : weights payments ≡ all_weights parts = weights-payments (reward - fee) window credits in
@@ -86,7 +86,7 @@ rewards_conserved history rules block older reward legal is =
 pub payouts_quotients : PayoutsAreQuotients
 payouts_quotients window basis_points reward credits account =
     let paid_out : ℕ = reward - fee_of reward basis_points in
-    let parts : List Part = parts_of window credits in
+    let parts : List Part = parts_in_block window credits in
     let accounts : List (List ℕ) = accounts_of credits in
     let quotient : List ℕ → ℕ = λ (a : List ℕ). paid_out * weight a parts / all_weights parts in
     sum_by-filter (λ paid. paid.amount) (λ paid. bytes_eq paid.account account) (payments_of paid_out parts accounts)

@@ -9,7 +9,7 @@ use Rattle.pool_history.specs.Accounts.{are_distinct}
 use Rattle.pool_history.specs.Crediting.{Booked, booked}
 use Rattle.pool_history.specs.Legal.{LegalPast}
 use Rattle.pool_history.specs.Sessions.{past_of, rules_of}
-use Rattle.pool_history.specs.Settling.{Settled, accounts_of, balance, fee_of, paid_to, parts_of, settled_at, settlement, settlements}
+use Rattle.pool_history.specs.Settling.{Settled, accounts_of, balance, fee_of, paid_to, parts_in_block, settled_at, settlement, settlements}
 use Rattle.pool_history.specs.Summary.{settlements_by, sums_of}
 use Rattle.payout_laws.specs.Blocks.{BalancesAreRewards, Block, BlocksAreCredits, IsBlockAt, SettlementsAreOfBlocks, block_at, blocks_of, settled_block}
 use Rattle.payout_laws.specs.Conservation.{IsConserved}
@@ -94,10 +94,10 @@ block_shared : (window : Option ℕ) (basis_points : ℕ) (accounts : List (List
     → IsShared window basis_points accounts (record { reward = reward; credits = credit ∷ older })
 block_shared window basis_points accounts credit older reward part room work distinct among =
     let credits : List Booked = credit ∷ older in
-    let kept : IsConserved basis_points reward (parts_of window credits) (settlement window basis_points reward credits) =
+    let kept : IsConserved basis_points reward (parts_in_block window credits) (settlement window basis_points reward credits) =
     conserved window basis_points reward credits part (some_weight window credit older work room) in
     let theirs : AllByRecursion (λ paid. IsAmong accounts paid.account) (settlement window basis_points reward credits).payments =
-    all-payments (λ paid. IsAmong accounts paid.account) (reward - fee_of reward basis_points) (parts_of window credits) (accounts_of credits)
+    all-payments (λ paid. IsAmong accounts paid.account) (reward - fee_of reward basis_points) (parts_in_block window credits) (accounts_of credits)
     (all-weaker (IsAmong accounts) _ (accounts_of credits) (λ account there weighed. there) (accounts_of-among accounts credits among)) in
     ap (λ n. n + (settlement window basis_points reward credits).pool)
     (sum_by-accounts (λ paid. paid.account) (λ paid. paid.amount) accounts (settlement window basis_points reward credits).payments distinct theirs)

@@ -8,3 +8,4 @@ pub mod Shares
 pub mod Summed
 pub mod Sums
 pub mod WorkedBlock
+pub mod WeightsPlaced

@@ -6,7 +6,7 @@ use Rattle.std.proofs.lemmas.List.Folds.{list_any-append}
 use Rattle.std.proofs.lemmas.Slice.Eq.{bytes_eq-Decides}
 use Rattle.pool_history.specs.Accounts.{are_distinct}
 use Rattle.pool_history.specs.Crediting.{Booked}
-use Rattle.pool_history.specs.Settling.{Part, accounts_of, last_work, parts_of, since_block, weight, with_account}
+use Rattle.pool_history.specs.Settling.{Part, accounts_of, last_work, parts_in_block, since_block, weight, with_account}
 use Rattle.payout_laws.proofs.Sums.{all-append, bytes_eq-turned}
 
 -- an account is among others
@@ -98,7 +98,7 @@ last_work-among window later accounts [] all = tt
 last_work-among window later accounts (credit ∷ older) all = (all.0, last_work-among window (later + credit.work) accounts older all.1)
 
 pub parts_of-among : (window : Option ℕ) (accounts : List (List ℕ)) (credits : List Booked) → AreAmong accounts credits
-    → PartsAmong accounts (parts_of window credits)
+    → PartsAmong accounts (parts_in_block window credits)
 parts_of-among None accounts [] all = tt
 parts_of-among None accounts (block ∷ older) all = (all.0, since_block-among accounts older all.1)
 parts_of-among (Some window) accounts credits all = last_work-among window 0 accounts credits all

@@ -9,7 +9,7 @@ use Rattle.pool_history.specs.declared.events.Event.TheVariants as event
 use Rattle.pool_history.specs.declared.refusals.Failed.{Failed}
 use Rattle.pool_history.specs.declared.settings.Rules.{Rules}
 use Rattle.pool_history.specs.Accounts.{are_distinct, are_in_range, is_user, is_window}
-use Rattle.pool_history.specs.Crediting.{Booked, booked, booked_with, booking, class_of_share, credit_share, listed}
+use Rattle.pool_history.specs.Crediting.{Booked, booked, booked_with, booking, admitted_class, credit_share, listed}
 use Rattle.pool_history.specs.Judging.{Admitted}
 use Rattle.pool_history.specs.Legal.{LegalPast}
 use Rattle.pool_history.specs.Sessions.{rules_of, script_of}
@@ -91,9 +91,9 @@ pays_from rules is =
 abbrev pub HasWork : Booked → Type 0
 HasWork credit = 1 ≤ credit.work
 
-listed_has_work : (f : Admitted → Booked) (found : Result Admitted Failed) → ((with : Admitted) → HasWork (f with)) → AllByRecursion HasWork (listed f found)
-listed_has_work f (Ok with) each = (each with, tt)
-listed_has_work f (Err failed) each = tt
+listed_has_work : (f : Admitted → Booked) (found : Option Admitted) → ((with : Admitted) → HasWork (f with)) → AllByRecursion HasWork (listed f found)
+listed_has_work f (Some with) each = (each with, tt)
+listed_has_work f None each = tt
 
 pub booked-has_work : (past : List Event) → AllByRecursion HasWork (booked past)
 booked-has_work [] = tt
@@ -102,6 +102,6 @@ booked-has_work (event.Credit session channel job nonce ntime version extranonce
     (listed (λ with. booking (script_of older) (credit_share with channel job nonce ntime version extranonce) with) (booked_with older channel job))
     (booked older)
     (listed_has_work (λ with. booking (script_of older) (credit_share with channel job nonce ntime version extranonce) with)
-    (booked_with older channel job) (λ with. pow_pos (class_of_share with)))
+    (booked_with older channel job) (λ with. pow_pos (admitted_class with)))
     (booked-has_work older)
 booked-has_work (e ∷ older) = booked-has_work older

@@ -30,12 +30,14 @@ settled_block window basis_points block = settlement window basis_points block.r
 pub record IsBlockAt (newer older : List Booked) (credit : Booked) (reward : ℕ) : Type 0 where
   pub later : List Block
   pub counted : length later ≡ count_by (λ credit. is_some credit.reward) newer
-  pub there : blocks_of (newer ++ credit ∷ older) ≡ later ++ record { reward = reward; credits = credit ∷ older } ∷ blocks_of older
+  pub there : blocks_of (newer ++ credit ∷ older)
+      ≡ later ++ record { reward = reward; credits = credit ∷ older } ∷ blocks_of older
 
 -- the blocks are the credits with a reward, each at its place, and there are no others
 pub record AreBlocks (credits : List Booked) : Type 0 where
   pub counted : length (blocks_of credits) ≡ count_by (λ credit. is_some credit.reward) credits
-  pub each : (newer older : List Booked) (credit : Booked) (reward : ℕ) → credits ≡ newer ++ credit ∷ older → credit.reward ≡ Some reward
+  pub each : (newer older : List Booked) (credit : Booked) (reward : ℕ)
+      → credits ≡ newer ++ credit ∷ older → credit.reward ≡ Some reward
       → IsBlockAt newer older credit reward
 
 abbrev pub BlocksAreCredits : Type 0
@@ -45,11 +47,13 @@ BlocksAreCredits = (credits : List Booked) → AreBlocks credits
 abbrev pub SettlementsAreOfBlocks : Type 0
 SettlementsAreOfBlocks =
     (window : Option ℕ) (basis_points : ℕ) (credits : List Booked)
-    → settlements window basis_points credits ≡ map (settled_block window basis_points) (blocks_of credits)
+    → settlements window basis_points credits
+    ≡ map (settled_block window basis_points) (blocks_of credits)
 
 -- the balances and the pool's part that a legal history sums up to are the rewards of its blocks
 abbrev pub BalancesAreRewards : Type 0
 BalancesAreRewards =
     (history : List Event) → Legal history
-    → sum_by (λ sums. sums.balance) (summary_of (past_of history)).accounts + (summary_of (past_of history)).pool
+    → sum_by (λ sums. sums.balance) (summary_of (past_of history)).accounts +
+    (summary_of (past_of history)).pool
     ≡ sum_by (λ block. block.reward) (blocks_of (booked (past_of history)))

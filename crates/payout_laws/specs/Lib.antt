@@ -3,3 +3,4 @@ pub mod Conservation
 pub mod Payouts
 pub mod Placed
 pub mod Summaries
+pub mod Weights

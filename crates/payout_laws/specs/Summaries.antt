@@ -31,9 +31,13 @@ pub record IsSummedUp (history : List Event) (rules : Rules) (summary : Summary)
   -- each account with a credit stands in it once, and no other
   pub each : AllByRecursion (IsOfBlocks rules (booked (past_of history))) summary.accounts
   pub once : IsTrue (are_distinct (map (λ sum. sum.account) summary.accounts))
-  pub exactly : (account : List ℕ) → IsTrue (is_listed summary.accounts account) ↔ IsTrue (has_credit (booked (past_of history)) account)
+  pub exactly : (account : List ℕ)
+      → IsTrue (is_listed summary.accounts account)
+      ↔ IsTrue (has_credit (booked (past_of history)) account)
   -- the pool has what it keeps of each block
-  pub pool : summary.pool ≡ sum_by (λ block. (settled_block rules.window rules.fee block).pool) (blocks_of (booked (past_of history)))
+  pub pool : summary.pool
+      ≡ sum_by (λ block. (settled_block rules.window rules.fee block).pool)
+      (blocks_of (booked (past_of history)))
   pub blocks : summary.blocks ≡ length (blocks_of (booked (past_of history)))
   pub credits : summary.credits ≡ length (booked (past_of history))
   -- in a legal history those are its Credit events
@@ -42,4 +46,5 @@ pub record IsSummedUp (history : List Event) (rules : Rules) (summary : Summary)
 -- so is the summary of each history that begins with rules
 abbrev pub SummariesAreOfBlocks : Type 0
 SummariesAreOfBlocks =
-    (history : List Event) (rules : Rules) → rules_of (past_of history) ≡ Some rules → IsSummedUp history rules (summary_of (past_of history))
+    (history : List Event) (rules : Rules) → rules_of (past_of history) ≡ Some rules
+    → IsSummedUp history rules (summary_of (past_of history))

@@ -8,6 +8,7 @@ pub mod OwnJobs
 pub mod PlacesOfClasses
 pub mod PlacesOfJobs
 pub mod PlacesOfStates
+pub mod RecordRows
 pub mod Rows
 pub mod SessionS
 pub mod Settlements

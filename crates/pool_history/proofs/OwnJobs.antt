@@ -17,7 +17,7 @@ use Rattle.pool_history.specs.declared.refusals.Failed.TheVariants as failed
 use Rattle.pool_history.specs.declared.refusals.GrantError.TheVariants as grant
 use Rattle.pool_history.specs.declared.replies.Reply.TheVariants as reply
 use Rattle.pool_history.specs.declared.templates.CustomData.{CustomData}
-use Rattle.pool_history.specs.Answering.{step, told, kept}
+use Rattle.pool_history.specs.Answering.{step, without_event, with_event}
 use Rattle.pool_history.specs.Crediting.{first_failed, reward_of}
 use Rattle.pool_history.specs.Jobs.{FromMiner, jobs_of, state_of}
 use Rattle.pool_history.specs.Judging.{job_parts}
@@ -60,10 +60,10 @@ abbrev pub brings : Event
 brings = event.Custom 0 offer
 
 -- the token and the job are answered with their numbers
-pub step-grant : step selecting 0 (request.Grant (0x61 ∷ []) None) ≡ kept grants (reply.Granted 1 (0x51 ∷ []))
+pub step-grant : step selecting 0 (request.Grant (0x61 ∷ []) None) ≡ with_event grants (reply.Granted 1 (0x51 ∷ []))
 step-grant = refl
 
-pub step-custom : step granted 0 (request.Custom offer) ≡ kept brings (reply.CustomJob 2)
+pub step-custom : step granted 0 (request.Custom offer) ≡ with_event brings (reply.CustomJob 2)
 unfolding outputs_within output_at sized_at compact_at number_at compact
 step-custom = refl
 
@@ -86,71 +86,71 @@ unfolding outputs_within output_at sized_at compact_at number_at compact
 custom-reward = refl
 
 -- without the flag both requests have no session
-pub step-grant_without_flag : step tipped 0 (request.Grant (0x61 ∷ []) None) ≡ told reply.NoSession
+pub step-grant_without_flag : step tipped 0 (request.Grant (0x61 ∷ []) None) ≡ without_event reply.NoSession
 step-grant_without_flag = refl
 
-pub step-custom_without_flag : step tipped 0 (request.Custom offer) ≡ told reply.NoSession
+pub step-custom_without_flag : step tipped 0 (request.Custom offer) ≡ without_event reply.NoSession
 step-custom_without_flag = refl
 
 -- another channel's own job is no job to a channel
 pub other_channels_job : first_failed rules (event.Open 0 kind.Extended (0x62 ∷ []) 0 (0 ∷ 0 ∷ 0 ∷ 1 ∷ []) ∷ brings ∷ granted) 0 (record share { channel = 2; job = 2 }) ≡ Some failed.Job
 other_channels_job = refl
 
-pub step-no_channel : step (granted) 0 (request.Custom (record offer { channel_id = 2 })) ≡ told (reply.CustomRefused custom.NotOpen)
+pub step-no_channel : step (granted) 0 (request.Custom (record offer { channel_id = 2 })) ≡ without_event (reply.CustomRefused custom.NotOpen)
 step-no_channel = refl
 
 pub cause_of-no_channel : cause_of (granted) (event.Custom 0 (record offer { channel_id = 2 })) ≡ Some cause.NotOpen
 cause_of-no_channel = refl
 
-pub step-spent_token : step (brings ∷ granted) 0 (request.Custom (offer)) ≡ told (reply.CustomRefused custom.BadToken)
+pub step-spent_token : step (brings ∷ granted) 0 (request.Custom (offer)) ≡ without_event (reply.CustomRefused custom.BadToken)
 step-spent_token = refl
 
 pub cause_of-spent_token : cause_of (brings ∷ granted) (event.Custom 0 (offer)) ≡ Some cause.BadToken
 cause_of-spent_token = refl
 
-pub step-no_token : step (granted) 0 (request.Custom (offer_to 0x51 2)) ≡ told (reply.CustomRefused custom.BadToken)
+pub step-no_token : step (granted) 0 (request.Custom (offer_to 0x51 2)) ≡ without_event (reply.CustomRefused custom.BadToken)
 step-no_token = refl
 
 pub cause_of-no_token : cause_of (granted) (event.Custom 0 (offer_to 0x51 2)) ≡ Some cause.BadToken
 cause_of-no_token = refl
 
-pub step-token_of_another : step (event.Grant 0 (0x62 ∷ []) false [] ∷ selecting) 0 (request.Custom (offer)) ≡ told (reply.CustomRefused custom.BadToken)
+pub step-token_of_another : step (event.Grant 0 (0x62 ∷ []) false [] ∷ selecting) 0 (request.Custom (offer)) ≡ without_event (reply.CustomRefused custom.BadToken)
 step-token_of_another = refl
 
 pub cause_of-token_of_another : cause_of (event.Grant 0 (0x62 ∷ []) false [] ∷ selecting) (event.Custom 0 (offer)) ≡ Some cause.BadToken
 cause_of-token_of_another = refl
 
-pub step-other_tip : step (granted) 0 (request.Custom (record offer { prev_hash = replicate 32 0x22 })) ≡ told (reply.CustomRefused custom.StaleTip)
+pub step-other_tip : step (granted) 0 (request.Custom (record offer { prev_hash = replicate 32 0x22 })) ≡ without_event (reply.CustomRefused custom.StaleTip)
 step-other_tip = refl
 
 pub cause_of-other_tip : cause_of (granted) (event.Custom 0 (record offer { prev_hash = replicate 32 0x22 })) ≡ Some cause.StalePrevHash
 cause_of-other_tip = refl
 
-pub step-other_nbits : step (granted) 0 (request.Custom (record offer { nbits = 0x1d00ffff })) ≡ told (reply.CustomRefused custom.StaleTip)
+pub step-other_nbits : step (granted) 0 (request.Custom (record offer { nbits = 0x1d00ffff })) ≡ without_event (reply.CustomRefused custom.StaleTip)
 step-other_nbits = refl
 
 pub cause_of-other_nbits : cause_of (granted) (event.Custom 0 (record offer { nbits = 0x1d00ffff })) ≡ Some cause.StalePrevHash
 cause_of-other_nbits = refl
 
-pub step-early : step (granted) 0 (request.Custom (record offer { min_ntime = 999999 })) ≡ told (reply.CustomRefused (custom.EarlyTime 1000000))
+pub step-early : step (granted) 0 (request.Custom (record offer { min_ntime = 999999 })) ≡ without_event (reply.CustomRefused (custom.EarlyTime 1000000))
 step-early = refl
 
 pub cause_of-early : cause_of (granted) (event.Custom 0 (record offer { min_ntime = 999999 })) ≡ Some cause.BadNtime
 cause_of-early = refl
 
-pub step-long_path : step (granted) 0 (request.Custom (record offer { merkle_path = replicate 33 (replicate 32 0); path_fits = lit≤ tt })) ≡ told (reply.CustomRefused (custom.BadPath 33))
+pub step-long_path : step (granted) 0 (request.Custom (record offer { merkle_path = replicate 33 (replicate 32 0); path_fits = lit≤ tt })) ≡ without_event (reply.CustomRefused (custom.BadPath 33))
 step-long_path = refl
 
 pub cause_of-long_path : cause_of (granted) (event.Custom 0 (record offer { merkle_path = replicate 33 (replicate 32 0); path_fits = lit≤ tt })) ≡ Some cause.BadPath
 cause_of-long_path = refl
 
-pub step-other_path : step (event.Grant 0 (0x61 ∷ []) true (replicate 1 (replicate 32 0)) ∷ selecting) 0 (request.Custom (offer)) ≡ told (reply.CustomRefused (custom.BadPath 0))
+pub step-other_path : step (event.Grant 0 (0x61 ∷ []) true (replicate 1 (replicate 32 0)) ∷ selecting) 0 (request.Custom (offer)) ≡ without_event (reply.CustomRefused (custom.BadPath 0))
 step-other_path = refl
 
 pub cause_of-other_path : cause_of (event.Grant 0 (0x61 ∷ []) true (replicate 1 (replicate 32 0)) ∷ selecting) (event.Custom 0 (offer)) ≡ Some cause.BadPath
 cause_of-other_path = refl
 
-pub step-foreign_output : step (granted) 0 (request.Custom (offer_to 0x52 1)) ≡ told (reply.CustomRefused (custom.Coinbase (outputs.ForeignOutput 0)))
+pub step-foreign_output : step (granted) 0 (request.Custom (offer_to 0x52 1)) ≡ without_event (reply.CustomRefused (custom.Coinbase (outputs.ForeignOutput 0)))
 unfolding outputs_within output_at sized_at compact_at number_at compact
 step-foreign_output = refl
 
@@ -159,10 +159,10 @@ unfolding outputs_within output_at sized_at compact_at number_at compact
 cause_of-foreign_output = refl
 
 -- a token for too long a path, and for an account that isn't known
-pub step-grant_long_path : step selecting 0 (request.Grant (0x61 ∷ []) (Some (replicate 33 (replicate 32 0)))) ≡ told (reply.GrantRefused (grant.PathTooLong 33))
+pub step-grant_long_path : step selecting 0 (request.Grant (0x61 ∷ []) (Some (replicate 33 (replicate 32 0)))) ≡ without_event (reply.GrantRefused (grant.PathTooLong 33))
 step-grant_long_path = refl
 
-pub step-grant_unknown : step selecting 0 (request.Grant (0x20 ∷ []) None) ≡ told (reply.GrantRefused grant.UnknownUser)
+pub step-grant_unknown : step selecting 0 (request.Grant (0x20 ∷ []) None) ≡ without_event (reply.GrantRefused grant.UnknownUser)
 step-grant_unknown = refl
 
 pub cause_of-grant_long_path : cause_of selecting (event.Grant 0 (0x61 ∷ []) true (replicate 33 (replicate 32 0))) ≡ Some cause.BadPath

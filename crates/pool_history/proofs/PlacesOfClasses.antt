@@ -242,8 +242,8 @@ class_before-reversed place opening (x ∷ xs) = by_place (nat_lt x.at place) re
 pub classes-tracked : (h : List Event) (c : OpenChannel) → IsTracked h c → HasClasses h c
 classes-tracked h c t = record {
   opening = t.opening;
-  class = λ live_at. class_before-reversed live_at c.opening_class c.sets
-      ∙ ap (λ sets. class_of_last (filter (λ set. nat_lt set.at live_at) sets) c.opening_class)
+  class = λ since. class_before-reversed since c.opening_class c.sets
+      ∙ ap (λ sets. class_of_last (filter (λ set. nat_lt set.at since) sets) c.opening_class)
       (ap reverse t.sets ∙ reverse-reverse (sets_from 0 0 c.id h));
 }
 

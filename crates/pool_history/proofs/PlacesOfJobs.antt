@@ -24,10 +24,10 @@ jobs_from-snoc at number [] e place next p q =
     let q' : next ≡ number = omega (arith, q) in
     rw (p', q') refl
 jobs_from-snoc at number (event.Template session template ∷ more) e place next p q =
-    ap (λ xs. record { number = number; session = session; live_at = at; source = FromTemplate template } ∷ xs)
+    ap (λ xs. record { number = number; session = session; since = at; source = FromTemplate template } ∷ xs)
     (jobs_from-snoc (at + 1) (number + 1) more e place next (omega (arith, p)) (omega (arith, q)))
 jobs_from-snoc at number (event.Custom session custom ∷ more) e place next p q =
-    ap (λ xs. record { number = number; session = 0; live_at = at; source = FromMiner custom } ∷ xs)
+    ap (λ xs. record { number = number; session = 0; since = at; source = FromMiner custom } ∷ xs)
     (jobs_from-snoc (at + 1) (number + 1) more e place next (omega (arith, p)) (omega (arith, q)))
 jobs_from-snoc at number (event ∷ more) e place next p q =
     jobs_from-snoc (at + 1) number more e place next (omega (arith, p)) q
@@ -70,9 +70,9 @@ none_late at number (event.Custom session custom ∷ more) t p =
 none_late at number (event ∷ more) t p = none_late (at + 1) number more t (omega (arith, p))
 
 -- a job at the end is late
-pub is_late-end : (t : Option TipAt) (job : Job) → LiesBefore t job.live_at → is_late t job ≡ true
+pub is_late-end : (t : Option TipAt) (job : Job) → LiesBefore t job.since → is_late t job ≡ true
 is_late-end None job l = refl
-is_late-end (Some tipped) job l = lt-ltb tipped.at job.live_at l
+is_late-end (Some tipped) job l = lt-ltb tipped.at job.since l
 
 -- the last so many of the last so many and one more
 pub last-snoc : {X : Type 0} (n : ℕ) (xs : List X) (x : X) → last n (last n xs ++ x ∷ []) ≡ last n (xs ++ x ∷ [])
@@ -107,12 +107,12 @@ tip_job-later h e (Some tipped) l =
 pub record Joins (h : List Event) (e : Event) (job : Job) : Type 0 where
   pub tip : tip_in (h ++ e ∷ []) ≡ tip_in h
   pub jobs : jobs_in (h ++ e ∷ []) ≡ jobs_in h ++ job ∷ []
-  pub at_end : job.live_at ≡ length h
+  pub at_end : job.since ≡ length h
 
 -- its job is late
 pub late-joined : (h : List Event) (e : Event) (job : Job) → Joins h e job → late (h ++ e ∷ []) ≡ late h ++ job ∷ []
 late-joined h e job j =
-    let lies : LiesBefore (tip_in h) job.live_at = rw j.at_end (tip_in-lies h) in
+    let lies : LiesBefore (tip_in h) job.since = rw j.at_end (tip_in-lies h) in
     ap (λ t. filter (is_late t) (jobs_in (h ++ e ∷ []))) j.tip ∙ ap (λ js. filter (is_late (tip_in h)) js) j.jobs
     ∙ filter-kept (is_late (tip_in h)) (jobs_in h) job (is_late-end (tip_in h) job lies)
 
@@ -145,7 +145,7 @@ late-with n p h e job j f =
     ap (λ l. last n (filter p l)) (late-joined h e job j) ∙ ap (λ l. last n l) (filter-kept p (late h) job f) ∙ sym (last-snoc n (filter p (late h)) job)
 
 -- a template's job
-pub joins-template : (h : List Event) (session : ℕ) (template : TemplateData) → Joins h (event.Template session template) (record { number = length (jobs_in h) + 1; session = session; live_at = length h; source = FromTemplate template })
+pub joins-template : (h : List Event) (session : ℕ) (template : TemplateData) → Joins h (event.Template session template) (record { number = length (jobs_in h) + 1; session = session; since = length h; source = FromTemplate template })
 joins-template h session template = record {
   tip = last_tip-snoc 0 None h (event.Template session template) (length h) (omega arith);
   jobs = jobs_from-snoc 0 1 h (event.Template session template) (length h) (length (jobs_in h) + 1) (omega arith) (omega arith);
@@ -153,7 +153,7 @@ joins-template h session template = record {
 }
 
 -- a miner's own job
-pub joins-custom : (h : List Event) (session : ℕ) (custom : CustomData) → Joins h (event.Custom session custom) (record { number = length (jobs_in h) + 1; session = 0; live_at = length h; source = FromMiner custom })
+pub joins-custom : (h : List Event) (session : ℕ) (custom : CustomData) → Joins h (event.Custom session custom) (record { number = length (jobs_in h) + 1; session = 0; since = length h; source = FromMiner custom })
 joins-custom h session custom = record {
   tip = last_tip-snoc 0 None h (event.Custom session custom) (length h) (omega arith);
   jobs = jobs_from-snoc 0 1 h (event.Custom session custom) (length h) (length (jobs_in h) + 1) (omega arith) (omega arith);
@@ -355,7 +355,7 @@ places_of_past (event.Template session template ∷ past) =
     let h : List Event = reverse past in
     let e : Event = event.Template session template in
     let a : AreJobsOf h (jobs_of past) = places_of_past past in
-    let job : ℕ → ℕ → Job = λ n at. record { number = n + 1; session = session; live_at = at; source = FromTemplate template } in
+    let job : ℕ → ℕ → Job = λ n at. record { number = n + 1; session = session; since = at; source = FromTemplate template } in
     let same : job (length (jobs_in h)) (length h) ≡ job (length (jobs_of past).all) (length past) =
     ap (λ js. job (length js) (length h)) (sym a.all) ∙ ap (λ n. job (length (jobs_of past).all) n) (length-reverse past) in
     let joined : Joins h e (job (length (jobs_of past).all) (length past)) = subst (λ j. Joins h e j) same (joins-template h session template) in
@@ -371,7 +371,7 @@ places_of_past (event.Custom session custom ∷ past) =
     let h : List Event = reverse past in
     let e : Event = event.Custom session custom in
     let a : AreJobsOf h (jobs_of past) = places_of_past past in
-    let job : ℕ → ℕ → Job = λ n at. record { number = n + 1; session = 0; live_at = at; source = FromMiner custom } in
+    let job : ℕ → ℕ → Job = λ n at. record { number = n + 1; session = 0; since = at; source = FromMiner custom } in
     let same : job (length (jobs_in h)) (length h) ≡ job (length (jobs_of past).all) (length past) =
     ap (λ js. job (length js) (length h)) (sym a.all) ∙ ap (λ n. job (length (jobs_of past).all) n) (length-reverse past) in
     let joined : Joins h e (job (length (jobs_of past).all) (length past)) = subst (λ j. Joins h e j) same (joins-custom h session custom) in

@@ -38,11 +38,11 @@ owned-sixteen c js a =
 
 pub customs_owned : (ms : List JobMove) → AllOwned (jobs_told ms).custom
 customs_owned [] = tt
-customs_owned (Came at session template ∷ ms) = elim template.future_template as (λ b. AllOwned (with_template (record { number = length (jobs_told ms).all + 1; session = session; live_at = at; source = FromTemplate template }) b (jobs_told ms)).custom) [ true ↦ customs_owned ms | false ↦ customs_owned ms ]
+customs_owned (Came at session template ∷ ms) = elim template.future_template as (λ b. AllOwned (with_template (record { number = length (jobs_told ms).all + 1; session = session; since = at; source = FromTemplate template }) b (jobs_told ms)).custom) [ true ↦ customs_owned ms | false ↦ customs_owned ms ]
 customs_owned (Tipped at tip ∷ ms) = tt
 customs_owned (Brought at custom ∷ ms) =
-    owned-sixteen custom.channel_id ((jobs_told ms).custom ++ record { number = length (jobs_told ms).all + 1; session = 0; live_at = at; source = FromMiner custom } ∷ [])
-    (owned-end (jobs_told ms).custom (record { number = length (jobs_told ms).all + 1; session = 0; live_at = at; source = FromMiner custom }) (customs_owned ms)
+    owned-sixteen custom.channel_id ((jobs_told ms).custom ++ record { number = length (jobs_told ms).all + 1; session = 0; since = at; source = FromMiner custom } ∷ [])
+    (owned-end (jobs_told ms).custom (record { number = length (jobs_told ms).all + 1; session = 0; since = at; source = FromMiner custom }) (customs_owned ms)
     (custom.channel_id, eq-eqb custom.channel_id custom.channel_id refl))
 
 -- one job more

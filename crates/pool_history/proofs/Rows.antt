@@ -14,11 +14,11 @@ use Rattle.pool_history.specs.declared.refusals.Failed.TheVariants as failed
 use Rattle.pool_history.specs.declared.refusals.JobError.TheVariants as job
 use Rattle.pool_history.specs.declared.refusals.OpenError.TheVariants as open_error
 use Rattle.coinbase.specs.declared.error.AssemblyError.TheVariants as assembly
-use Rattle.pool_history.specs.Channels.{OpenChannel, channel_in, channels_of, class_at, class_of}
+use Rattle.pool_history.specs.Channels.{OpenChannel, channel_in, channels_of, class_at, present_class}
 use Rattle.pool_history.specs.Crediting.{booked, first_failed}
 use Rattle.pool_history.specs.Jobs.{Job, jobs_of, live_job, state_of}
 use Rattle.pool_history.specs.Judging.{Admitted, admitted}
-use Rattle.pool_history.specs.Refusing.{class_of_target, lead_for, open_refusal, template_refusal}
+use Rattle.pool_history.specs.Refusing.{class_of_target, lead_for, openable, template_refusal}
 use Rattle.pool_history.specs.Spaces.{first_free, lowest}
 use Rattle.pool_history.proofs.Given.{extended_rolls, credits, tips, rules, template_of, tip_of, opened, templated, tipped, share}
 
@@ -62,7 +62,7 @@ pub lead_of_size_11 : lead_for opened (asks 11) ≡ Some (1 ∷ [])
 unfolding first_free
 lead_of_size_11 = refl
 
-pub size_12_refused : open_refusal rules opened 0 (asks 12) ≡ Some (open_error.SizeTooLarge 12)
+pub size_12_refused : openable rules opened 0 (asks 12) ≡ Err (open_error.SizeTooLarge 12)
 unfolding first_class
 size_12_refused = refl
 
@@ -84,7 +84,7 @@ unfolding first_class
 class-of_zero = refl
 
 -- an opening whose target has class 61
-pub class_61_refused : open_refusal rules opened 0 (record (asks 8) { max_target = replicate 24 0xff ++ 7 ∷ replicate 7 0 }) ≡ Some (open_error.TargetOutOfRange 61)
+pub class_61_refused : openable rules opened 0 (record (asks 8) { max_target = replicate 24 0xff ++ 7 ∷ replicate 7 0 }) ≡ Err (open_error.TargetOutOfRange 61)
 unfolding first_class
 class_61_refused = refl
 
@@ -97,14 +97,14 @@ next_job = event.Template 0 (template_of 6 false) ∷ reclassed
 
 -- the class of channel 1 at a job
 abbrev pub class_with : Option OpenChannel → Option Job → Option ℕ
-class_with (Some channel) (Some job) = Some (class_at channel job.live_at)
+class_with (Some channel) (Some job) = Some (class_at channel job.since)
 class_with channel job = None
 
 abbrev pub class_for : List Event → ℕ → Option ℕ
 class_for past number = class_with (channel_in (channels_of past) 1) (live_job (jobs_of past) number)
 
-pub present_class : option_map class_of (channel_in (channels_of next_job) 1) ≡ Some 60
-present_class = refl
+pub class-present : option_map present_class (channel_in (channels_of next_job) 1) ≡ Some 60
+class-present = refl
 
 pub class_at_old_job : class_for next_job 1 ≡ Some 0
 class_at_old_job = refl

@@ -9,7 +9,7 @@ use Rattle.pool_history.specs.declared.events.Kind.TheVariants as kind
 use Rattle.pool_history.specs.declared.events.Role.TheVariants as role
 use Rattle.pool_history.specs.declared.replies.Reply.TheVariants as reply
 use Rattle.pool_history.specs.declared.telling.Note.TheVariants as note
-use Rattle.pool_history.specs.Answering.{step, kept}
+use Rattle.pool_history.specs.Answering.{step, with_event}
 use Rattle.pool_history.specs.Jobs.{FromTemplate}
 use Rattle.pool_history.specs.Judging.{job_parts}
 use Rattle.pool_history.specs.Ledger.{ledger_text_1, record_of}
@@ -62,21 +62,21 @@ unfolding compact
 coinbase_suffix_length = refl
 
 -- the answers of the session up to its share
-pub step-enter : step (start ∷ []) 0 (request.Enter role.Solo 0) ≡ kept enters (reply.Entered 0)
+pub step-enter : step (start ∷ []) 0 (request.Enter role.Solo 0) ≡ with_event enters (reply.Entered 0)
 step-enter = refl
 
-pub step-open : step (enters ∷ start ∷ []) 0 (request.Open (record { kind = kind.Extended; identity = 0x61 ∷ []; max_target = replicate 32 0xff; min_size = 8; standard_rolls_none = extended_rolls 8 })) ≡ kept opens (reply.Opened (record { channel = 1; class = 0; lead = replicate 4 0 }))
+pub step-open : step (enters ∷ start ∷ []) 0 (request.Open (record { kind = kind.Extended; identity = 0x61 ∷ []; max_target = replicate 32 0xff; min_size = 8; standard_rolls_none = extended_rolls 8 })) ≡ with_event opens (reply.Opened (record { channel = 1; class = 0; lead = replicate 4 0 }))
 unfolding first_class first_free
 step-open = refl
 
-pub step-template : step opened 0 (request.Template (template_of 5 true)) ≡ kept comes (reply.Job 1)
+pub step-template : step opened 0 (request.Template (template_of 5 true)) ≡ with_event comes (reply.Job 1)
 unfolding outputs_within compact
 step-template = refl
 
-pub step-tip : step templated 0 (request.Tip (tip_of 5 0x11)) ≡ kept tips (reply.Job 1)
+pub step-tip : step templated 0 (request.Tip (tip_of 5 0x11)) ≡ with_event tips (reply.Job 1)
 step-tip = refl
 
-pub step-leave : step tipped 0 request.Leave ≡ kept leaves reply.Left
+pub step-leave : step tipped 0 request.Leave ≡ with_event leaves reply.Left
 step-leave = refl
 
 -- the news of the template and of the tip

@@ -9,10 +9,10 @@ use Rattle.pool_history.specs.declared.events.JobState.{JobState}
 use Rattle.pool_history.specs.declared.events.JobState.TheVariants as state
 use Rattle.pool_history.specs.declared.settings.Rules.{Rules}
 use Rattle.pool_history.specs.declared.templates.TipData.{TipData}
-use Rattle.pool_history.specs.Channels.{OpenChannel, channel_in, channels_of, class_of}
+use Rattle.pool_history.specs.Channels.{OpenChannel, channel_in, channels_of, present_class}
 use Rattle.pool_history.specs.Crediting.{Booked, headers}
 use Rattle.pool_history.specs.Jobs.{Job, Standing, has_number, jobs_of}
-use Rattle.pool_history.specs.Settling.{Part, accounts_of, fee_of, parts_of, payment, payments_of, since_block, weight}
+use Rattle.pool_history.specs.Settling.{Part, accounts_of, fee_of, parts_in_block, payment, payments_of, since_block, weight}
 use Rattle.pool_history.specs.Spaces.{string_at}
 use Rattle.pool_history.proofs.Given.{credits, rules, template_of, tip_of, tipped, opened}
 use Rattle.pool_history.proofs.Rows.{after_next_tip, next_job, with_future}
@@ -21,7 +21,7 @@ use Rattle.pool_history.proofs.Settlements.{block, credit}
 -- the class at a job taken as the channel's present one: 60 at the old job, which is 0 (`class_at_old_job`)
 abbrev pub present_class_at : Option OpenChannel → ℕ
 present_class_at None = 0
-present_class_at (Some channel) = class_of channel
+present_class_at (Some channel) = present_class channel
 
 pub wrong-present_class : present_class_at (channel_in (channels_of next_job) 1) ≡ 60
 wrong-present_class = refl
@@ -30,7 +30,7 @@ wrong-present_class = refl
 abbrev pub amount_by_window : ℕ → ℕ → List ℕ → List Part → ℕ
 amount_by_window window paid_out account parts = paid_out * weight account parts / window
 
-pub wrong-divided_by_the_window : amount_by_window 100 1000 (0x61 ∷ []) (parts_of (Some 100) (block 0x62 2 1000 ∷ credit 0x61 1 ∷ credit 0x62 2 ∷ credit 0x61 4 ∷ [])) ≡ 50
+pub wrong-divided_by_the_window : amount_by_window 100 1000 (0x61 ∷ []) (parts_in_block (Some 100) (block 0x62 2 1000 ∷ credit 0x61 1 ∷ credit 0x62 2 ∷ credit 0x61 4 ∷ [])) ≡ 50
 wrong-divided_by_the_window = refl
 
 -- the block's own credit left out: a has all of the 990, where it has 424 (`proportional_row`)
@@ -86,7 +86,7 @@ wrong-duplicates_since_tip = refl
 abbrev pub pool_without_fee : ℕ → ℕ → List Booked → ℕ
 pool_without_fee basis_points reward credits =
     reward - fee_of reward basis_points
-    - sum_by (λ paid. paid.amount) (payments_of (reward - fee_of reward basis_points) (parts_of None credits) (accounts_of credits))
+    - sum_by (λ paid. paid.amount) (payments_of (reward - fee_of reward basis_points) (parts_in_block None credits) (accounts_of credits))
 
 pub wrong-pool_without_fee : pool_without_fee 100 1000 (block 0x62 4 1000 ∷ credit 0x61 2 ∷ credit 0x61 1 ∷ []) ≡ 1
 wrong-pool_without_fee = refl

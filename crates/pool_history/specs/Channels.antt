@@ -1,4 +1,5 @@
 -- Open channels (Stratum V2, "Channels"), told by their own moves.
+-- Computed on a channel whose class is set before and after a tip (`Rows`).
 use Rattle.std.specs.Prelude.{ℕ, ◌+◌, ◌^◌, ◌==◌, not, if◌then◌else◌, Option, List, [], ◌∷◌, ◌++◌, length, map, filter, find, nat_lt}
 use Rattle.pool_history.specs.declared.events.Event.{Event}
 use Rattle.pool_history.specs.declared.events.Event.TheVariants as event
@@ -6,7 +7,8 @@ use Rattle.pool_history.specs.declared.events.Kind.{Kind}
 
 -- what channels are told of: events with their places
 pub data ChannelMove : Type 0 where
-  Opens : (at session : ℕ) (kind : Kind) (account : List ℕ) (class : ℕ) (lead : List ℕ) → ChannelMove
+  Opens : (at session : ℕ) (kind : Kind) (account : List ℕ) (class : ℕ) (lead : List ℕ)
+      → ChannelMove
   Names : (channel : ℕ) (account : List ℕ) → ChannelMove
   Sets : (at channel class : ℕ) → ChannelMove
   Closes : (channel : ℕ) → ChannelMove
@@ -17,7 +19,8 @@ pub record ClassSet : Type 0 where
   pub at : ℕ
   pub class : ℕ
 
--- an open channel: the account is empty where there is none, and the last class that was set stands first
+-- an open channel: the account is empty where there is none, and the last class that was set stands
+-- first
 pub record OpenChannel : Type 0 where
   pub id : ℕ
   pub session : ℕ
@@ -40,28 +43,45 @@ account_or (byte ∷ bytes) named = byte ∷ bytes
 
 -- the channel with this account, where it is the one that is named and has none
 abbrev pub named : ℕ → List ℕ → OpenChannel → OpenChannel
-named id account channel = if channel.id == id then record channel { account = account_or channel.account account } else channel
+named id account channel =
+    if channel.id == id then record channel { account = account_or channel.account account }
+    else channel
 
 -- the channel with this class, where it is the one that is set
 abbrev pub reclassed : ℕ → ℕ → ℕ → OpenChannel → OpenChannel
-reclassed at id class channel = if channel.id == id then record channel { sets = record { at = at; class = class } ∷ channel.sets } else channel
+reclassed at id class channel =
+    if channel.id == id
+    then record channel { sets = record { at = at; class = class } ∷ channel.sets } else channel
 
 -- the open channels in the order of their ids; an id is one more than the number of openings before
 abbrev pub channels_told : List ChannelMove → List OpenChannel
 channels_told [] = []
 channels_told (Opens at session kind account class lead ∷ older) =
-    channels_told older ++ record { id = opened older + 1; session = session; kind = kind; account = account; lead = lead; opening_class = class; sets = [] } ∷ []
+    channels_told older
+    ++ record {
+      id = opened older + 1;
+      session = session;
+      kind = kind;
+      account = account;
+      lead = lead;
+      opening_class = class;
+      sets = [];
+    } ∷ []
 channels_told (Names id account ∷ older) = map (named id account) (channels_told older)
 channels_told (Sets at id class ∷ older) = map (reclassed at id class) (channels_told older)
 channels_told (Closes id ∷ older) = filter (λ channel. not (channel.id == id)) (channels_told older)
-channels_told (Leaves session ∷ older) = filter (λ channel. not (channel.session == session)) (channels_told older)
+channels_told (Leaves session ∷ older) =
+    filter (λ channel. not (channel.session == session)) (channels_told older)
 
 -- the moves of a history, with the places of its events
 abbrev pub channel_moves : List Event → List ChannelMove
 channel_moves [] = []
-channel_moves (event.Open session kind account class lead ∷ older) = Opens (length older) session kind account class lead ∷ channel_moves older
-channel_moves (event.Name session channel account ∷ older) = Names channel account ∷ channel_moves older
-channel_moves (event.Class session channel class ∷ older) = Sets (length older) channel class ∷ channel_moves older
+channel_moves (event.Open session kind account class lead ∷ older) =
+    Opens (length older) session kind account class lead ∷ channel_moves older
+channel_moves (event.Name session channel account ∷ older) =
+    Names channel account ∷ channel_moves older
+channel_moves (event.Class session channel class ∷ older) =
+    Sets (length older) channel class ∷ channel_moves older
 channel_moves (event.Close session channel ∷ older) = Closes channel ∷ channel_moves older
 channel_moves (event.Leave session ∷ older) = Leaves session ∷ channel_moves older
 channel_moves (event ∷ older) = channel_moves older
@@ -83,17 +103,18 @@ abbrev pub last_class : List ClassSet → ℕ → ℕ
 last_class [] opening = opening
 last_class (set ∷ older) opening = set.class
 
-abbrev pub class_of : OpenChannel → ℕ
-class_of channel = last_class channel.sets channel.opening_class
+abbrev pub present_class : OpenChannel → ℕ
+present_class channel = last_class channel.sets channel.opening_class
 
 -- the last class that was set before a place, or else that of the opening
 abbrev pub class_before : ℕ → List ClassSet → ℕ → ℕ
 class_before place [] opening = opening
-class_before place (set ∷ older) opening = if nat_lt set.at place then set.class else class_before place older opening
+class_before place (set ∷ older) opening =
+    if nat_lt set.at place then set.class else class_before place older opening
 
 -- the class at a job: the channel's last class that was set before the job's place
 abbrev pub class_at : OpenChannel → ℕ → ℕ
-class_at channel live_at = class_before live_at channel.sets channel.opening_class
+class_at channel since = class_before since channel.sets channel.opening_class
 
 -- a session's group of channels
 abbrev pub group_id : ℕ → ℕ

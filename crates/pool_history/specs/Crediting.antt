@@ -1,29 +1,33 @@
--- Shares and the credits before them: which condition fails first, and what a credit is worth (this project's own).
-use Rattle.std.specs.Prelude.{ℕ, ◌^◌, Bool, if◌then◌else◌, Option, None, Some, Result, Ok, Err, List, [], ◌∷◌, ◌++◌, nat_lt}
+-- Shares and the credits before them: which condition fails first, and what a credit is worth (this
+-- project's own).
+-- Computed on shares that each condition refuses, and on the headers kept over a tip (`Rows`,
+-- `Settlements`); with hashes in `ledger_laws` (`WorkedSession`).
+use Rattle.std.specs.Prelude.{ℕ, ◌^◌, Bool, not, if◌then◌else◌, Option, None, Some, Result, Ok, Err, List, [], ◌∷◌, ◌++◌, nat_lt}
+use Rattle.std.specs.Option.{option_and_then, option_map}
 use Rattle.std.specs.List.{list_any}
 use Rattle.std.specs.Str.{bytes_eq}
 use Rattle.block_header.specs.Hash.{dsha, meets}
 use Rattle.block_header.specs.Target.{is_at_most}
 use Rattle.coinbase.specs.Custom.{total}
 use Rattle.coinbase.specs.Outputs.{outputs_of}
-use Rattle.coinbase.specs.Steps.{◌>>=◌}
 use Rattle.pool_history.specs.declared.events.Event.{Event}
 use Rattle.pool_history.specs.declared.events.Event.TheVariants as event
 use Rattle.pool_history.specs.declared.refusals.Failed.{Failed}
 use Rattle.pool_history.specs.declared.refusals.Failed.TheVariants as failed
 use Rattle.pool_history.specs.declared.settings.Rules.{Rules}
 use Rattle.pool_history.specs.Channels.{channel_in, channels_of, class_at}
+use Rattle.pool_history.specs.Conditions.{first_false}
 use Rattle.pool_history.specs.Jobs.{Source, FromTemplate, FromMiner, jobs_of, live_job}
-use Rattle.pool_history.specs.Judging.{Share, Admitted, admitted, found, is_standard, outputs_in, rebuilt}
+use Rattle.pool_history.specs.Judging.{Share, Admitted, admitted, is_standard, outputs_in, rebuilt}
 use Rattle.pool_history.specs.Sessions.{credits, script_of}
 
 -- the class at the job of a share: a later class doesn't change it
-abbrev pub class_of_share : Admitted → ℕ
-class_of_share share = class_at share.channel share.job.live_at
+abbrev pub admitted_class : Admitted → ℕ
+admitted_class share = class_at share.channel share.job.since
 
 -- the work of a share
-abbrev pub work_of : Admitted → ℕ
-work_of share = 2 ^ class_of_share share
+abbrev pub admitted_work : Admitted → ℕ
+admitted_work share = 2 ^ admitted_class share
 
 -- the fields of a credit as they are judged: it counts as standard where its channel is
 abbrev pub credit_share : Admitted → ℕ → ℕ → ℕ → ℕ → ℕ → List ℕ → Share
@@ -38,45 +42,46 @@ credit_share where_booked channel job nonce ntime version extranonce = record {
 }
 
 -- the channel, the live job and the tip of a credit, by the events before it
-abbrev pub booked_with : List Event → ℕ → ℕ → Result Admitted Failed
-booked_with past channel job = do
-  there ← found failed.Channel (channel_in (channels_of past) channel)
-  source ← found failed.Stale (live_job (jobs_of past) job)
-  tip ← found failed.Stale (jobs_of past).tip
-  Ok (record { channel = there; job = source; tip = tip })
+abbrev pub booked_with : List Event → ℕ → ℕ → Option Admitted
+booked_with past channel job = option_and_then
+    (λ there. option_and_then
+    (λ live. option_map (λ tip. record { channel = there; job = live; tip = tip })
+    (jobs_of past).tip)
+    (live_job (jobs_of past) job)) (channel_in (channels_of past) channel)
 
 -- a list of what was found
-abbrev pub listed : {X Y : Type 0} → (X → Y) → Result X Failed → List Y
-listed f (Ok x) = f x ∷ []
-listed f (Err code) = []
+abbrev pub listed : {X Y : Type 0} → (X → Y) → Option X → List Y
+listed f (Some x) = f x ∷ []
+listed f None = []
 
 -- the headers of all credits, each rebuilt by the events before it; a later tip drops none
 abbrev pub headers : List Event → List (List ℕ)
 headers [] = []
 headers (event.Credit session channel job nonce ntime version extranonce ∷ older) =
-    listed (λ with. rebuilt (script_of older) with (credit_share with channel job nonce ntime version extranonce)) (booked_with older channel job) ++ headers older
+    listed (λ with. rebuilt (script_of older) with
+    (credit_share with channel job nonce ntime version extranonce)) (booked_with older channel job)
+    ++ headers older
 headers (event ∷ older) = headers older
 
--- ninth condition
-abbrev pub has_room : Rules → List Event → Option Failed
-has_room rules past = if nat_lt (credits past) rules.credit_limit then None else Some failed.Full
+-- the last three conditions of a share and their codes, in order: its header's hash meets the class
+-- at its job, no earlier credit has the header, and there are fewer credits than the limit
+abbrev pub last_conditions : Rules → List Event → Admitted → List ℕ → List (Bool × Failed)
+last_conditions rules past with header =
+    (meets (dsha header) (admitted_class with), failed.Difficulty)
+    ∷ (not (list_any (bytes_eq header) (headers past)), failed.Duplicate)
+    ∷ (nat_lt (credits past) rules.credit_limit, failed.Full)
+    ∷ []
 
--- eighth condition: no earlier credit has the header
-abbrev pub is_new : Rules → List Event → List ℕ → Option Failed
-is_new rules past header = if list_any (bytes_eq header) (headers past) then Some failed.Duplicate else has_room rules past
-
--- seventh condition: the header's hash meets the class
-abbrev pub meets_its_class : Rules → List Event → ℕ → List ℕ → Option Failed
-meets_its_class rules past class header = if meets (dsha header) class then is_new rules past header else Some failed.Difficulty
-
--- the last three conditions of a share that met the first six
+-- the first of them that is false, for a share that met the first six
 abbrev pub last_failed : Rules → List Event → Share → Result Admitted Failed → Option Failed
 last_failed rules past share (Err code) = Some code
-last_failed rules past share (Ok with) = meets_its_class rules past (class_of_share with) (rebuilt rules.pool_script with share)
+last_failed rules past share (Ok with) =
+    first_false (last_conditions rules past with (rebuilt rules.pool_script with share)) None
 
 -- the first of the nine conditions that is false, or none
 abbrev pub first_failed : Rules → List Event → ℕ → Share → Option Failed
-first_failed rules past session share = last_failed rules past share (admitted rules past session share)
+first_failed rules past session share =
+    last_failed rules past share (admitted rules past session share)
 
 -- the reward of a job: what its template has left, or what its outputs pay
 abbrev pub reward_of : Source → ℕ
@@ -97,7 +102,7 @@ pub record Booked : Type 0 where
 abbrev pub booking : List ℕ → Share → Admitted → Booked
 booking script share with = record {
   account = with.channel.account;
-  work = work_of with;
+  work = admitted_work with;
   reward = if is_block script with share then Some (reward_of with.job.source) else None;
 }
 
@@ -105,5 +110,7 @@ booking script share with = record {
 abbrev pub booked : List Event → List Booked
 booked [] = []
 booked (event.Credit session channel job nonce ntime version extranonce ∷ older) =
-    listed (λ with. booking (script_of older) (credit_share with channel job nonce ntime version extranonce) with) (booked_with older channel job) ++ booked older
+    listed (λ with. booking (script_of older)
+    (credit_share with channel job nonce ntime version extranonce) with)
+    (booked_with older channel job) ++ booked older
 booked (event ∷ older) = booked older

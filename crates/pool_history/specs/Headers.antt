@@ -1,4 +1,5 @@
 -- The header of a share (Stratum V2, "Mining Protocol": extranonce, coinbase, root, header).
+-- Computed on the worked session, with hashes in `ledger_laws` (`WorkedSession`).
 use Rattle.std.specs.Prelude.{◌≡◌, ℕ, ◌-◌, List, ◌++◌, length, replicate}
 use Rattle.block_header.specs.Hash.{dsha}
 use Rattle.block_header.specs.Layout.{header_bytes}
@@ -20,7 +21,8 @@ pub record Briefing : Type 0 where
 pub record IsBriefing (kind : Kind) (lead : List ℕ) : Type 0 where
   pub standard : kind ≡ Standard → length lead ≡ 4
 
--- a channel's extranonce prefix: a standard channel's is its lead and eight zero bytes, any other's is its lead (this project's own)
+-- a channel's extranonce prefix: a standard channel's is its lead and eight zero bytes, any other's
+-- is its lead (this project's own)
 abbrev pub extranonce_prefix : Kind → List ℕ → List ℕ
 extranonce_prefix Standard lead = lead ++ replicate 8 0
 extranonce_prefix Extended lead = lead
@@ -34,9 +36,11 @@ rolled V1 lead = 12 - length lead
 
 -- the coinbase: the job's prefix, the channel's prefix and the share's extranonce, the job's suffix
 abbrev pub coinbase_by : Briefing → List ℕ → List ℕ
-coinbase_by brief extranonce = brief.prefix ++ (extranonce_prefix brief.kind brief.lead ++ extranonce) ++ brief.suffix
+coinbase_by brief extranonce =
+    brief.prefix ++ (extranonce_prefix brief.kind brief.lead ++ extranonce) ++ brief.suffix
 
 -- the 80 bytes of a share's header
 abbrev pub header_by : Briefing → ℕ → ℕ → ℕ → List ℕ → List ℕ
 header_by brief version ntime nonce extranonce =
-    header_bytes version brief.prev_hash (root (dsha (coinbase_by brief extranonce)) brief.path) ntime brief.nbits nonce
+    header_bytes version brief.prev_hash
+    (root (dsha (coinbase_by brief extranonce)) brief.path) ntime brief.nbits nonce

@@ -1,5 +1,7 @@
--- The states of jobs (Stratum V2, "NewTemplate" and "SetNewPrevHash"; how many are kept is this project's own), told
--- by templates, tips and miners' own jobs with their places.
+-- The states of jobs (Stratum V2, "NewTemplate" and "SetNewPrevHash"; how many are kept is this
+-- project's own), told by templates, tips and miners' own jobs with their places.
+-- Computed on jobs before and after tips, on the seventeenth future one and on miners' own
+-- (`Rows`, `OwnJobs`).
 use Rattle.std.specs.Prelude.{ℕ, ◌+◌, ◌-◌, ◌==◌, ◌||◌, Bool, true, false, if◌then◌else◌, Option, None, Some, List, [], ◌∷◌, ◌++◌, length, drop, find, nat_lt, filter}
 use Rattle.std.specs.List.{list_any}
 use Rattle.pool_history.specs.declared.events.Event.{Event}
@@ -21,15 +23,17 @@ pub data Source : Type 0 where
   FromTemplate : TemplateData → Source
   FromMiner : CustomData → Source
 
--- a job: its number, the session that sent its template (0 for a miner's own), the place of the tip that made it live
--- or else of its own event, and what it is made from
+-- a job: its number, the session that sent its template (0 for a miner's own), the place since when
+-- it stands where it does, and what it is made from; that place is its own event's, and among the
+-- live jobs the tip's that made it live
 pub record Job : Type 0 where
   pub number : ℕ
   pub session : ℕ
-  pub live_at : ℕ
+  pub since : ℕ
   pub source : Source
 
--- all jobs as they came, those of templates that are future or live, the miners' own that are live, and the last tip
+-- all jobs as they came, those of templates that are future or live, the miners' own that are live,
+-- and the last tip
 pub record Standing : Type 0 where
   pub all : List Job
   pub future : List Job
@@ -63,39 +67,71 @@ future_in future id = find (λ job. has_template id job.source) future
 -- the job that a tip made live, if there was one
 abbrev pub made_live : ℕ → Option Job → List Job
 made_live at None = []
-made_live at (Some job) = record job { live_at = at } ∷ []
+made_live at (Some job) = record job { since = at } ∷ []
 
 -- without the first of a channel's own
 abbrev pub without_first : ℕ → List Job → List Job
 without_first channel [] = []
-without_first channel (job ∷ jobs) = if is_own channel job.source then jobs else job ∷ without_first channel jobs
+without_first channel (job ∷ jobs) =
+    if is_own channel job.source then jobs else job ∷ without_first channel jobs
 
 -- a channel keeps its last sixteen
 abbrev pub at_most_sixteen : ℕ → List Job → List Job
-at_most_sixteen channel jobs = if nat_lt 16 (length (filter (λ job. is_own channel job.source) jobs)) then without_first channel jobs else jobs
+at_most_sixteen channel jobs =
+    if nat_lt 16 (length (filter (λ job. is_own channel job.source) jobs))
+    then without_first channel jobs else jobs
 
 -- a template's job, which is future or live at once
 abbrev pub with_template : Job → Bool → Standing → Standing
-with_template job true standing = record standing { all = standing.all ++ job ∷ []; future = last 16 (standing.future ++ job ∷ []) }
-with_template job false standing = record standing { all = standing.all ++ job ∷ []; live = last 64 (standing.live ++ job ∷ []) }
+with_template job true standing =
+    record standing {
+      all = standing.all
+          ++ job ∷ [];
+      future = last 16 (standing.future ++ job ∷ []);
+    }
+with_template job false standing =
+    record standing { all = standing.all ++ job ∷ []; live = last 64 (standing.live ++ job ∷ []) }
 
 -- a tip makes the future job with its template live, and every other one stale
 abbrev pub with_tip : ℕ → TipData → Standing → Standing
 with_tip at tip standing =
-    record { all = standing.all; future = []; live = made_live at (future_in standing.future tip.template_id); custom = []; tip = Some tip }
+    record {
+      all = standing.all;
+      future = [];
+      live = made_live at
+          (future_in standing.future tip.template_id);
+      custom = [];
+      tip = Some tip;
+    }
 
 -- a miner's own job is live at once
 abbrev pub with_custom : Job → ℕ → Standing → Standing
 with_custom job channel standing =
-    record standing { all = standing.all ++ job ∷ []; custom = at_most_sixteen channel (standing.custom ++ job ∷ []) }
+    record standing {
+      all = standing.all
+          ++ job ∷ [];
+      custom = at_most_sixteen channel (standing.custom ++ job ∷ []);
+    }
 
 -- one more move
 abbrev pub moved : JobMove → Standing → Standing
 moved (Came at session template) standing =
-    with_template (record { number = length standing.all + 1; session = session; live_at = at; source = FromTemplate template }) template.future_template standing
+    with_template
+    (record {
+      number = length standing.all + 1;
+      session = session;
+      since = at;
+      source = FromTemplate template;
+    }) template.future_template standing
 moved (Tipped at tip) standing = with_tip at tip standing
 moved (Brought at custom) standing =
-    with_custom (record { number = length standing.all + 1; session = 0; live_at = at; source = FromMiner custom }) custom.channel_id standing
+    with_custom
+    (record {
+      number = length standing.all + 1;
+      session = 0;
+      since = at;
+      source = FromMiner custom;
+    }) custom.channel_id standing
 
 -- the jobs after these moves, the last of which stands first
 abbrev pub jobs_told : List JobMove → Standing
@@ -105,7 +141,8 @@ jobs_told (move ∷ older) = moved move (jobs_told older)
 -- the moves of a history, with the places of its events
 abbrev pub job_moves : List Event → List JobMove
 job_moves [] = []
-job_moves (event.Template session template ∷ older) = Came (length older) session template ∷ job_moves older
+job_moves (event.Template session template ∷ older) =
+    Came (length older) session template ∷ job_moves older
 job_moves (event.Tip session tip ∷ older) = Tipped (length older) tip ∷ job_moves older
 job_moves (event.Custom session custom ∷ older) = Brought (length older) custom ∷ job_moves older
 job_moves (event ∷ older) = job_moves older

@@ -1,4 +1,7 @@
--- How a share is judged (Stratum V2, "SubmitShares.Error"; the nine conditions and their order are this project's own).
+-- How a share is judged (Stratum V2, "SubmitShares.Error"; the nine conditions and their order are
+-- this project's own).
+-- Computed on the worked session's share and on shares that each condition refuses (`Rows`,
+-- `SessionS`).
 use Rattle.std.specs.Prelude.{ℕ, ◌+◌, ◌-◌, ◌==◌, ◌&&◌, Bool, true, false, not, if◌then◌else◌, Option, None, Some, Result, Ok, Err, List, [], length, take, nat_lt, nat_le, bit_and}
 use Rattle.coinbase.specs.Coin.{Terms, template_parts}
 use Rattle.coinbase.specs.Custom.{CustomTerms, custom_parts}
@@ -19,6 +22,7 @@ use Rattle.pool_history.specs.declared.templates.CustomData.{CustomData}
 use Rattle.pool_history.specs.declared.templates.TemplateData.{TemplateData}
 use Rattle.pool_history.specs.declared.templates.TipData.{TipData}
 use Rattle.pool_history.specs.Channels.{OpenChannel, channel_in, channels_of}
+use Rattle.pool_history.specs.Conditions.{found, provided}
 use Rattle.pool_history.specs.Headers.{Briefing, header_by, rolled}
 use Rattle.pool_history.specs.Jobs.{Source, FromTemplate, FromMiner, Job, Standing, is_open_to, jobs_of, live_job, numbered, state_of}
 
@@ -80,7 +84,8 @@ outputs_in (Err at) = []
 -- the coinbase of a job, round its extranonce
 abbrev pub job_parts : Source → List ℕ → Parts
 job_parts (FromTemplate template) script = template_parts (template_terms template) script
-job_parts (FromMiner custom) script = custom_parts (custom_terms custom) (length (outputs_in (outputs_of custom.coinbase_tx_outputs)))
+job_parts (FromMiner custom) script =
+    custom_parts (custom_terms custom) (length (outputs_in (outputs_of custom.coinbase_tx_outputs)))
 
 -- a job's merkle path
 abbrev pub path_of : Source → List (List ℕ)
@@ -118,17 +123,9 @@ pub record Admitted : Type 0 where
 -- the header that a share stands for
 abbrev pub rebuilt : List ℕ → Admitted → Share → List ℕ
 rebuilt script admitted share =
-    header_by (briefing_of script admitted.channel admitted.job.source admitted.tip) share.version share.ntime share.nonce share.extranonce
-
--- a value where a condition holds, and else the code of the condition
-abbrev pub provided : {X : Type 0} → Bool → Failed → X → Result X Failed
-provided true code x = Ok x
-provided false code x = Err code
-
--- a value that was found, and else the code
-abbrev pub found : {X : Type 0} → Failed → Option X → Result X Failed
-found code None = Err code
-found code (Some x) = Ok x
+    header_by
+    (briefing_of script admitted.channel admitted.job.source admitted.tip)
+    share.version share.ntime share.nonce share.extranonce
 
 -- two truths are the same
 abbrev pub agree : Bool → Bool → Bool
@@ -139,9 +136,12 @@ agree false b = not b
 abbrev pub has_account : OpenChannel → Bool
 has_account channel = nat_lt 0 (length channel.account)
 
--- first condition: the channel is the session's, has an account, and is standard where the message is
+-- first condition: the channel is the session's, has an account, and is standard where the message
+-- is
 abbrev pub serves : ℕ → Share → OpenChannel → Bool
-serves session share channel = channel.session == session && has_account channel && agree (is_standard channel.kind) share.is_standard
+serves session share channel =
+    channel.session == session && has_account channel
+    && agree (is_standard channel.kind) share.is_standard
 
 -- neither unknown nor future
 abbrev pub is_known_state : JobState → Bool
@@ -157,7 +157,9 @@ is_mineable channel (Some job) = is_open_to channel job.source
 
 -- third condition: the job is neither unknown nor future, and is no other channel's own
 abbrev pub is_known_job : Standing → Share → Bool
-is_known_job standing share = is_known_state (state_of standing share.job) && is_mineable share.channel (numbered share.job standing.all)
+is_known_job standing share =
+    is_known_state (state_of standing share.job)
+    && is_mineable share.channel (numbered share.job standing.all)
 
 -- the bits of a version that a miner may roll (BIP 320)
 abbrev pub rolling_mask : Rules → ℕ
@@ -169,18 +171,22 @@ outside mask version = bit_and version (0xffffffff - mask)
 
 -- fifth condition: the version is the job's but for the bits that may be rolled
 abbrev pub is_version : Rules → Source → ℕ → Bool
-is_version rules source version = outside (rolling_mask rules) version == outside (rolling_mask rules) (version_of source)
+is_version rules source version =
+    outside (rolling_mask rules) version == outside (rolling_mask rules) (version_of source)
 
 -- sixth condition: the time is within the window that the job allows
 abbrev pub is_in_time : Rules → Source → TipData → ℕ → Bool
-is_in_time rules source tip ntime = nat_le (min_ntime_of source tip) ntime && nat_le ntime (min_ntime_of source tip + rules.ntime_window)
+is_in_time rules source tip ntime =
+    nat_le (min_ntime_of source tip) ntime
+    && nat_le ntime (min_ntime_of source tip + rules.ntime_window)
 
 -- the first six conditions; a job is live over a tip
 abbrev pub admitted : Rules → List Event → ℕ → Share → Result Admitted Failed
 admitted rules past session share = do
   there ← found failed.Channel (channel_in (channels_of past) share.channel)
   channel ← provided (serves session share there) failed.Channel there
-  _ ← provided (length share.extranonce == rolled channel.kind channel.lead) failed.ExtranonceSize channel
+  _ ← provided
+      (length share.extranonce == rolled channel.kind channel.lead) failed.ExtranonceSize channel
   _ ← provided (is_known_job (jobs_of past) share) failed.Job channel
   job ← found failed.Stale (live_job (jobs_of past) share.job)
   tip ← found failed.Stale (jobs_of past).tip

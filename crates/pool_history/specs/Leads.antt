@@ -1,4 +1,5 @@
 -- The leads of extranonces (this project's own).
+-- A type keeps it.
 use Rattle.std.specs.Prelude.{◌≡◌, ℕ, ◌-◌, ◌≤◌, List, ◌++◌, length, take, replicate}
 
 -- a lead in its four bytes: those past its length are 0

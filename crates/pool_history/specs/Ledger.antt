@@ -1,4 +1,7 @@
--- How a history is written as a ledger (this project's own; fields are spelled as in Stratum V2, "Data Types Mapping").
+-- How a history is written as a ledger (this project's own; fields are spelled as in Stratum V2,
+-- "Data Types Mapping").
+-- Computed on a record of each kind and on the worked session's ledgers (`SessionS`, `RecordRows`,
+-- `LedgerLengths`).
 use Rattle.std.specs.Prelude.{◌≡◌, ℕ, ◌<◌, ◌≤◌, ◌^◌, Bool, false, Option, None, Some, List, [], ◌∷◌, ◌++◌, length, codes}
 use Rattle.std.specs.List.{AllByRecursion, flat_map}
 use Rattle.std.specs.Str.{IsUtf8}
@@ -27,8 +30,10 @@ spelled_users users = spelled_u16 (length users) ++ flat_map spelled_str255 user
 -- the rules
 abbrev pub spelled_rules : Rules → List ℕ
 spelled_rules rules =
-    spelled_b255 rules.pool_script ++ spelled_u8 rules.least_class ++ spelled_u16 rules.fee ++ spelled_rule rules.window
-    ++ spelled_u32 rules.ntime_window ++ spelled_u32 rules.credit_limit ++ spelled_boolean rules.version_rolling ++ spelled_users rules.users
+    spelled_b255 rules.pool_script ++ spelled_u8 rules.least_class ++ spelled_u16 rules.fee
+    ++ spelled_rule rules.window
+    ++ spelled_u32 rules.ntime_window ++ spelled_u32 rules.credit_limit
+    ++ spelled_boolean rules.version_rolling ++ spelled_users rules.users
 
 -- a role
 abbrev pub role_number : Role → ℕ
@@ -45,21 +50,30 @@ kind_number kind.V1 = 2
 -- the fields of a template (Stratum V2, "NewTemplate")
 abbrev pub spelled_template : TemplateData → List ℕ
 spelled_template template =
-    spelled_u64 template.template_id ++ spelled_boolean template.future_template ++ spelled_u32 template.version
-    ++ spelled_u32 template.coinbase_tx_version ++ spelled_b255 template.coinbase_prefix ++ spelled_u32 template.coinbase_tx_input_sequence
-    ++ spelled_u64 template.coinbase_tx_value_remaining ++ spelled_u32 template.coinbase_tx_outputs_count
-    ++ spelled_b64k template.coinbase_tx_outputs ++ spelled_u32 template.coinbase_tx_locktime ++ spelled_seq_u256 template.merkle_path
+    spelled_u64 template.template_id ++ spelled_boolean template.future_template
+    ++ spelled_u32 template.version
+    ++ spelled_u32 template.coinbase_tx_version ++ spelled_b255 template.coinbase_prefix
+    ++ spelled_u32 template.coinbase_tx_input_sequence
+    ++ spelled_u64 template.coinbase_tx_value_remaining
+    ++ spelled_u32 template.coinbase_tx_outputs_count
+    ++ spelled_b64k template.coinbase_tx_outputs ++ spelled_u32 template.coinbase_tx_locktime
+    ++ spelled_seq_u256 template.merkle_path
 
 -- the fields of a tip (Stratum V2, "SetNewPrevHash" of the template distribution protocol)
 abbrev pub spelled_tip : TipData → List ℕ
-spelled_tip tip = spelled_u64 tip.template_id ++ tip.prev_hash ++ spelled_u32 tip.header_timestamp ++ spelled_u32 tip.nbits ++ tip.target
+spelled_tip tip =
+    spelled_u64 tip.template_id ++ tip.prev_hash ++ spelled_u32 tip.header_timestamp
+    ++ spelled_u32 tip.nbits ++ tip.target
 
 -- the fields of a miner's own job, without the number of its request
 abbrev pub spelled_custom : CustomData → List ℕ
 spelled_custom custom =
-    spelled_u32 custom.channel_id ++ spelled_b255 custom.token ++ spelled_u32 custom.version ++ custom.prev_hash
-    ++ spelled_u32 custom.min_ntime ++ spelled_u32 custom.nbits ++ spelled_u32 custom.coinbase_tx_version
-    ++ spelled_b255 custom.coinbase_prefix ++ spelled_u32 custom.coinbase_tx_input_sequence ++ spelled_b64k custom.coinbase_tx_outputs
+    spelled_u32 custom.channel_id ++ spelled_b255 custom.token ++ spelled_u32 custom.version
+    ++ custom.prev_hash
+    ++ spelled_u32 custom.min_ntime ++ spelled_u32 custom.nbits
+    ++ spelled_u32 custom.coinbase_tx_version
+    ++ spelled_b255 custom.coinbase_prefix ++ spelled_u32 custom.coinbase_tx_input_sequence
+    ++ spelled_b64k custom.coinbase_tx_outputs
     ++ spelled_u32 custom.coinbase_tx_locktime ++ spelled_seq_u256 custom.merkle_path
 
 -- the kind of a record
@@ -80,17 +94,22 @@ record_kind (event.Custom session custom) = 11
 -- the body of a record
 abbrev pub record_body : Event → List ℕ
 record_body (event.Start rules) = spelled_rules rules
-record_body (event.Enter worker role flags) = spelled_u32 worker ++ spelled_u8 (role_number role) ++ spelled_u32 flags
+record_body (event.Enter worker role flags) = spelled_u32 worker ++ spelled_u8 (role_number role)
+    ++ spelled_u32 flags
 record_body (event.Template session template) = spelled_u32 session ++ spelled_template template
 record_body (event.Tip session tip) = spelled_u32 session ++ spelled_tip tip
 record_body (event.Open session kind account class lead) =
-    spelled_u32 session ++ spelled_u8 (kind_number kind) ++ spelled_str255 account ++ spelled_u8 class ++ spelled_b255 lead
-record_body (event.Name session channel account) = spelled_u32 session ++ spelled_u32 channel ++ spelled_str255 account
-record_body (event.Class session channel class) = spelled_u32 session ++ spelled_u32 channel ++ spelled_u8 class
+    spelled_u32 session ++ spelled_u8 (kind_number kind) ++ spelled_str255 account
+    ++ spelled_u8 class ++ spelled_b255 lead
+record_body (event.Name session channel account) = spelled_u32 session ++ spelled_u32 channel
+    ++ spelled_str255 account
+record_body (event.Class session channel class) = spelled_u32 session ++ spelled_u32 channel
+    ++ spelled_u8 class
 record_body (event.Close session channel) = spelled_u32 session ++ spelled_u32 channel
 record_body (event.Leave session) = spelled_u32 session
 record_body (event.Credit session channel job nonce ntime version extranonce) =
-    spelled_u32 session ++ spelled_u32 channel ++ spelled_u32 job ++ spelled_u32 nonce ++ spelled_u32 ntime ++ spelled_u32 version ++ spelled_b255 extranonce
+    spelled_u32 session ++ spelled_u32 channel ++ spelled_u32 job ++ spelled_u32 nonce
+    ++ spelled_u32 ntime ++ spelled_u32 version ++ spelled_b255 extranonce
 record_body (event.Grant session account fixed path) =
     spelled_u32 session ++ spelled_str255 account ++ spelled_boolean fixed ++ spelled_seq_u256 path
 record_body (event.Custom session custom) = spelled_u32 session ++ spelled_custom custom
@@ -118,14 +137,17 @@ chain before bytes = sha256 (before ++ bytes)
 -- the records of format 2 behind a hash: each is followed by its own
 abbrev pub chained : List ℕ → List Event → List (List ℕ)
 chained before [] = []
-chained before (event ∷ more) = (record_of event ++ chain before (record_of event)) ∷ chained (chain before (record_of event)) more
+chained before (event ∷ more) =
+    (record_of event ++ chain before (record_of event))
+    ∷ chained (chain before (record_of event)) more
 
 -- the magic stands before the first record, or alone
 abbrev pub with_magic : List (List ℕ) → List (List ℕ)
 with_magic [] = magic_2 ∷ []
 with_magic (first ∷ more) = (magic_2 ++ first) ∷ more
 
--- the pieces in which a ledger is kept: the magic with the first record, then a record for each event
+-- the pieces in which a ledger is kept: the magic with the first record, then a record for each
+-- event
 abbrev pub kept_records : List Event → List (List ℕ)
 kept_records history = with_magic (chained (sha256 magic_2) history)
 
@@ -164,7 +186,12 @@ EventFits (event.Open session kind account class lead) = length lead ≤ 32
 EventFits (event.Credit session channel job nonce ntime version extranonce) = length extranonce ≤ 32
 EventFits (event.Grant session account fixed path) = GrantFits fixed path
 EventFits (event.Custom session custom) = CustomFits custom
-EventFits event = Unit {0}
+EventFits (event.Enter worker role flags) = Unit {0}
+EventFits (event.Tip session tip) = Unit {0}
+EventFits (event.Name session channel account) = Unit {0}
+EventFits (event.Class session channel class) = Unit {0}
+EventFits (event.Close session channel) = Unit {0}
+EventFits (event.Leave session) = Unit {0}
 
 -- the texts of an event are UTF-8
 abbrev pub TextsFit : Event → Type 0
@@ -172,7 +199,14 @@ TextsFit (event.Start rules) = AllByRecursion IsUtf8 rules.users
 TextsFit (event.Open session kind account class lead) = IsUtf8 account
 TextsFit (event.Name session channel account) = IsUtf8 account
 TextsFit (event.Grant session account fixed path) = IsUtf8 account
-TextsFit event = Unit {0}
+TextsFit (event.Enter worker role flags) = Unit {0}
+TextsFit (event.Template session template) = Unit {0}
+TextsFit (event.Tip session tip) = Unit {0}
+TextsFit (event.Class session channel class) = Unit {0}
+TextsFit (event.Close session channel) = Unit {0}
+TextsFit (event.Leave session) = Unit {0}
+TextsFit (event.Credit session channel job nonce ntime version extranonce) = Unit {0}
+TextsFit (event.Custom session custom) = Unit {0}
 
 -- an event has a record: its lists fit, its texts are UTF-8, and its body has at most 300,000 bytes
 pub record HasRecord (event : Event) : Type 0 where

@@ -3,6 +3,8 @@ pub mod Answering
 pub mod ByPlaces
 pub mod Calls
 pub mod Channels
+pub mod Codes
+pub mod Conditions
 pub mod Crediting
 pub mod Headers
 pub mod Jobs

@@ -1,5 +1,7 @@
--- Why a request is refused (Stratum V2's error codes; their order and the limits are this project's own). What a
--- request is answered with and what makes an event illegal are both by these.
+-- Why a request is refused (Stratum V2's error codes; their order and the limits are this project's
+-- own). What a request is answered with and what makes an event illegal are both by these.
+-- Computed on each refusal but the counts that are too great to compute (`Rows`, `OwnJobs`,
+-- `IllegalEvents`, `AnswerRows`).
 use Rattle.std.specs.Prelude.{ℕ, ◌+◌, ◌-◌, ◌^◌, ◌==◌, ◌&&◌, ◌||◌, Bool, true, false, not, if◌then◌else◌, min, max, Option, None, Some, is_none, Result, Ok, Err, List, [], ◌∷◌, ◌++◌, length, map, nat_lt, nat_le}
 use Rattle.std.specs.Int.{w64, to_le_bytes}
 use Rattle.std.specs.List.{list_any}
@@ -33,12 +35,14 @@ use Rattle.pool_history.specs.declared.templates.TemplateData.{TemplateData}
 use Rattle.pool_history.specs.declared.templates.TipData.{TipData}
 use Rattle.pool_history.specs.Accounts.{account_of, is_empty, is_known}
 use Rattle.pool_history.specs.Channels.{OpenChannel, channel_in, channels_in, channels_of}
-use Rattle.pool_history.specs.Jobs.{Standing, future_of, has_template, jobs_of}
+use Rattle.pool_history.specs.Conditions.{first_false, found, provided, unless_refusal}
+use Rattle.pool_history.specs.Jobs.{Job, Standing, future_of, has_template, jobs_of}
 use Rattle.pool_history.specs.Judging.{custom_terms, template_terms}
 use Rattle.pool_history.specs.Sessions.{grants, opens, templates}
 use Rattle.pool_history.specs.Spaces.{lowest}
 
--- the limits: Enter events, Open events, templates, grants, open channels of a session, entries of a miner's own path
+-- the limits: Enter events, Open events, templates, grants, open channels of a session, entries of
+-- a miner's own path
 abbrev pub most_enters : ℕ
 most_enters = 2 ^ 22
 
@@ -64,19 +68,22 @@ coinbase_refusal (Err error) = Some (job.Coinbase error)
 
 -- a future or live job of a template
 abbrev pub is_template_known : Standing → ℕ → Bool
-is_template_known standing id = list_any (λ job. has_template id job.source) (standing.future ++ standing.live)
+is_template_known standing id =
+    list_any (λ job. has_template id job.source) (standing.future ++ standing.live)
 
 -- why a template is refused: the limit, a job with its id, no tip, its coinbase
 abbrev pub template_refusal : List ℕ → List Event → TemplateData → Option JobError
 template_refusal script past template =
     if nat_le most_templates (templates past) then Some (job.TooMany (templates past))
-    else if is_template_known (jobs_of past) template.template_id then Some (job.TemplateKnown template.template_id)
+    else if is_template_known (jobs_of past) template.template_id
+    then Some (job.TemplateKnown template.template_id)
     else if not template.future_template && is_none (jobs_of past).tip then Some job.NoTip
     else coinbase_refusal (template_assembly (template_terms template) script)
 
--- why a tip is refused: no future job has its template
-abbrev pub tip_refusal : List Event → TipData → Option JobError
-tip_refusal past tip = if is_none (future_of (jobs_of past) tip.template_id) then Some (job.UnknownTemplate tip.template_id) else None
+-- the job that a tip makes live, or why the tip is refused: no future job has its template
+abbrev pub tippable : List Event → TipData → Result Job JobError
+tippable past tip =
+    found (job.UnknownTemplate tip.template_id) (future_of (jobs_of past) tip.template_id)
 
 -- whether a channel of a kind is opened for a known account; a V1 channel is opened without one
 abbrev pub may_open : Rules → Kind → List ℕ → Bool
@@ -108,21 +115,39 @@ open_count past session = length (channels_in (channels_of past) session)
 
 -- a session may not open one more
 abbrev pub has_too_many : List Event → ℕ → Bool
-has_too_many past session = nat_le most_channels (open_count past session) || nat_le most_opens (opens past)
+has_too_many past session =
+    nat_le most_channels (open_count past session) || nat_le most_opens (opens past)
 
 -- the lead that an opening gets
 abbrev pub lead_for : List Event → OpenAsk → Option (List ℕ)
 lead_for past ask = lowest (lead_length ask.kind ask.min_size) (held_leads past)
 
--- why a channel isn't opened
-abbrev pub open_refusal : Rules → List Event → ℕ → OpenAsk → Option OpenError
-open_refusal rules past session ask =
-    if not (may_open rules ask.kind (account_of ask.identity)) then Some open_error.UnknownUser
-    else if nat_lt 60 (class_of_target ask.max_target) then Some (open_error.TargetOutOfRange (class_of_target ask.max_target))
-    else if nat_lt 11 ask.min_size then Some (open_error.SizeTooLarge ask.min_size)
-    else if has_too_many past session then Some (open_error.TooManyChannels (open_count past session) (opens past))
-    else if is_none (lead_for past ask) then Some open_error.NoSpace
-    else None
+-- what an opening needs, and why it is refused where it hasn't it
+abbrev pub open_conditions : Rules → List Event → ℕ → OpenAsk → List (Bool × OpenError)
+open_conditions rules past session ask =
+    (may_open rules ask.kind (account_of ask.identity), open_error.UnknownUser)
+    ∷ (
+      nat_le (class_of_target ask.max_target) 60,
+      open_error.TargetOutOfRange
+          (class_of_target ask.max_target),
+    )
+    ∷ (nat_le ask.min_size 11, open_error.SizeTooLarge ask.min_size)
+    ∷ (
+      not (has_too_many past session),
+      open_error.TooManyChannels (open_count past session)
+          (opens past),
+    )
+    ∷ []
+
+-- the lead that an opening gets, where there is no refusal
+abbrev pub lead_unless : Option OpenError → Option (List ℕ) → Result (List ℕ) OpenError
+lead_unless (Some refusal) lead = Err refusal
+lead_unless None lead = found open_error.NoSpace lead
+
+-- the lead that an opening gets, or why it is refused; the last reason is that no lead is free
+abbrev pub openable : Rules → List Event → ℕ → OpenAsk → Result (List ℕ) OpenError
+openable rules past session ask =
+    lead_unless (first_false (open_conditions rules past session ask) None) (lead_for past ask)
 
 -- the open channel of a session
 abbrev pub own_channel : List Event → ℕ → ℕ → Option OpenChannel
@@ -132,17 +157,22 @@ own_channel past session id = channel_in (channels_in (channels_of past) session
 abbrev pub has_other : List ℕ → OpenChannel → Bool
 has_other account channel = not (is_empty channel.account) && not (bytes_eq channel.account account)
 
--- why a channel doesn't get an account
-abbrev pub name_refusal : Rules → List ℕ → Option OpenChannel → Option NameError
-name_refusal rules account None = Some name.NotOpen
-name_refusal rules account (Some channel) =
-    if not (is_known rules account) then Some name.UnknownUser else if has_other account channel then Some name.OtherAccount else None
+-- the channel that is named, or why it isn't
+abbrev pub nameable : Rules → List ℕ → Option OpenChannel → Result OpenChannel NameError
+nameable rules account None = Err name.NotOpen
+nameable rules account (Some channel) =
+    unless_refusal
+    (first_false
+    ((is_known rules account, name.UnknownUser)
+    ∷ (not (has_other account channel), name.OtherAccount)
+    ∷ []) None) channel
 
--- why a channel's class isn't set
-abbrev pub update_refusal : List ℕ → Option OpenChannel → Option UpdateError
-update_refusal target None = Some update.NotOpen
-update_refusal target (Some channel) =
-    if nat_lt 60 (class_of_target target) then Some (update.TargetOutOfRange (class_of_target target)) else None
+-- the channel whose class is set, or why it isn't
+abbrev pub updatable : List ℕ → Option OpenChannel → Result OpenChannel UpdateError
+updatable target None = Err update.NotOpen
+updatable target (Some channel) =
+    provided (nat_le (class_of_target target) 60)
+    (update.TargetOutOfRange (class_of_target target)) channel
 
 -- why a token isn't granted for a path, none being no path
 abbrev pub grant_refusal : Rules → List Event → List ℕ → List (List ℕ) → Option GrantError
@@ -166,13 +196,15 @@ pub record Granted : Type 0 where
 abbrev pub grant_of : List Event → List ℕ → Option Granted
 grant_of [] token = None
 grant_of (event.Grant session account fixed path ∷ older) token =
-    if bytes_eq token (token_of (grants older + 1)) then Some (record { account = account; fixed = fixed; path = path }) else grant_of older token
+    if bytes_eq token (token_of (grants older + 1))
+    then Some (record { account = account; fixed = fixed; path = path }) else grant_of older token
 grant_of (event ∷ older) token = grant_of older token
 
 -- a miner's own job names the token
 abbrev pub is_spent : List Event → List ℕ → Bool
 is_spent [] token = false
-is_spent (event.Custom session custom ∷ older) token = bytes_eq token custom.token || is_spent older token
+is_spent (event.Custom session custom ∷ older) token =
+    bytes_eq token custom.token || is_spent older token
 is_spent (event ∷ older) token = is_spent older token
 
 -- an extended kind
@@ -188,7 +220,8 @@ granted_to account (Some granted) = if bytes_eq granted.account account then Som
 
 -- the grant of a token that the channel's account has still to spend
 abbrev pub unspent : List Event → List ℕ → OpenChannel → Option Granted
-unspent past token channel = if is_spent past token then None else granted_to channel.account (grant_of past token)
+unspent past token channel =
+    if is_spent past token then None else granted_to channel.account (grant_of past token)
 
 -- two lists of hashes are the same
 abbrev pub same_path : List (List ℕ) → List (List ℕ) → Bool
@@ -199,7 +232,8 @@ same_path (a ∷ as') [] = false
 
 -- a path that is too long, or another than the one that was fixed
 abbrev pub is_bad_path : Granted → List (List ℕ) → Bool
-is_bad_path granted path = nat_lt most_entries (length path) || (granted.fixed && not (same_path path granted.path))
+is_bad_path granted path =
+    nat_lt most_entries (length path) || (granted.fixed && not (same_path path granted.path))
 
 -- a miner's job whose coinbase is refused
 abbrev pub outputs_refusal : Result (Parts × ℕ) OutputsError → Option CustomError
@@ -208,15 +242,18 @@ outputs_refusal (Err error) = Some (custom.Coinbase error)
 
 -- a tip of another block
 abbrev pub is_other_tip : TipData → CustomData → Bool
-is_other_tip tip offer = not (bytes_eq tip.prev_hash offer.prev_hash) || not (tip.nbits == offer.nbits)
+is_other_tip tip offer =
+    not (bytes_eq tip.prev_hash offer.prev_hash) || not (tip.nbits == offer.nbits)
 
 -- why a miner's own job is refused over a tip, its channel and its token being good
 abbrev pub over_tip : List ℕ → Granted → CustomData → Option TipData → Option CustomError
 over_tip script granted offer None = Some custom.StaleTip
 over_tip script granted offer (Some tip) =
     if is_other_tip tip offer then Some custom.StaleTip
-    else if nat_lt offer.min_ntime tip.header_timestamp then Some (custom.EarlyTime tip.header_timestamp)
-    else if is_bad_path granted offer.merkle_path then Some (custom.BadPath (length offer.merkle_path))
+    else if nat_lt offer.min_ntime tip.header_timestamp
+    then Some (custom.EarlyTime tip.header_timestamp)
+    else if is_bad_path granted offer.merkle_path
+    then Some (custom.BadPath (length offer.merkle_path))
     else outputs_refusal (custom_assembly (custom_terms offer) script)
 
 -- the same by its token
@@ -228,8 +265,10 @@ with_token script past offer (Some granted) = over_tip script granted offer (job
 abbrev pub on_channel : List ℕ → List Event → CustomData → Option OpenChannel → Option CustomError
 on_channel script past offer None = Some custom.NotOpen
 on_channel script past offer (Some channel) =
-    if is_extended channel.kind then with_token script past offer (unspent past offer.token channel) else Some custom.NotOpen
+    if is_extended channel.kind then with_token script past offer (unspent past offer.token channel)
+    else Some custom.NotOpen
 
 -- why a miner's own job is refused
 abbrev pub custom_refusal : List ℕ → List Event → ℕ → CustomData → Option CustomError
-custom_refusal script past session offer = on_channel script past offer (own_channel past session offer.channel_id)
+custom_refusal script past session offer =
+    on_channel script past offer (own_channel past session offer.channel_id)

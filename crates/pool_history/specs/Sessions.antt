@@ -1,5 +1,7 @@
--- The sessions of a history (this project's own). Every definition goes over the past: the events from the last to
--- the first, so that the number of earlier events of a kind counts the rest of the list.
+-- The sessions of a history (this project's own). Every definition goes over the past: the events
+-- from the last to the first, so that the number of earlier events of a kind counts the rest of the
+-- list.
+-- Computed on sessions that left, entered again and never entered (`IllegalEvents`, `AnswerRows`).
 use Rattle.std.specs.Prelude.{ℕ, ◌+◌, ◌==◌, Bool, true, false, if◌then◌else◌, Option, None, Some, List, [], ◌∷◌, reverse}
 use Rattle.pool_history.specs.declared.events.Event.{Event}
 use Rattle.pool_history.specs.declared.events.Event.TheVariants.{Start, Enter, Template, Open, Leave, Credit, Grant}
@@ -60,10 +62,12 @@ abbrev pub unless_left : ℕ → Option ℕ → Option ℕ
 unless_left left None = None
 unless_left left (Some session) = if session == left then None else Some session
 
--- a worker's present session: that of its last Enter, unless it left since; its number counts the Enters before
+-- a worker's present session: that of its last Enter, unless it left since; its number counts the
+-- Enters before
 abbrev pub present : List Event → ℕ → Option ℕ
 present [] worker = None
-present (Enter entering role flags ∷ older) worker = if entering == worker then Some (enters older) else present older worker
+present (Enter entering role flags ∷ older) worker =
+    if entering == worker then Some (enters older) else present older worker
 present (Leave session ∷ older) worker = unless_left session (present older worker)
 present (event ∷ older) worker = present older worker
 
@@ -77,7 +81,8 @@ pub record Entrance : Type 0 where
 abbrev pub entrance : List Event → ℕ → Option Entrance
 entrance [] session = None
 entrance (Enter worker role flags ∷ older) session =
-    if enters older == session then Some (record { worker = worker; role = role; flags = flags }) else entrance older session
+    if enters older == session then Some (record { worker = worker; role = role; flags = flags })
+    else entrance older session
 entrance (event ∷ older) session = entrance older session
 
 -- the session of an Enter is its worker's present one

@@ -1,4 +1,6 @@
--- The spaces of extranonces (Stratum V2, "Extranonces"; which lead a channel gets is this project's own).
+-- The spaces of extranonces (Stratum V2, "Extranonces"; which lead a channel gets is this project's
+-- own).
+-- Computed on a fresh space and beside held leads (`Rows`).
 use Rattle.std.specs.Prelude.{◌≡◌, ℕ, zero, suc, ◌/◌, ◌%◌, ◌^◌, Bool, true, false, not, ◌||◌, Option, None, Some, List, [], ◌∷◌, ◌++◌, length, nat_eq}
 use Rattle.std.specs.List.{starts_with, list_any}
 use Rattle.pool_history.specs.declared.events.Kind.{Kind}
@@ -27,7 +29,11 @@ string_at (suc len) place = place / 256 ^ len % 256 ∷ string_at len place
 unfoldable pub first_free : ℕ → List (List ℕ) → ℕ → ℕ → Option (List ℕ)
 first_free len held place zero = None
 first_free len held place (suc more) =
-    elim (is_free held (string_at len place)) [ true ↦ Some (string_at len place) | false ↦ first_free len held (suc place) more ]
+    elim (is_free held (string_at len place)) [
+      | true ↦ Some
+          (string_at len place)
+      | false ↦ first_free len held (suc place) more
+    ]
 
 -- the lowest free lead of so many bytes, in byte order
 abbrev pub lowest : ℕ → List (List ℕ) → Option (List ℕ)

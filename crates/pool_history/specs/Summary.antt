@@ -1,4 +1,5 @@
 -- The numbers of a history, and the text in which they are printed (this project's own).
+-- Computed on the worked session (`Settlements`, `WorkedSession` of `ledger_laws`).
 use Rattle.std.specs.Prelude.{ℕ, Option, None, Some, is_some, List, [], ◌∷◌, ◌++◌, length, map, count_by, sum_by, codes}
 use Rattle.std.specs.List.{flat_map}
 use Rattle.std.specs.Fmt.{decimal}
@@ -25,7 +26,8 @@ pub record Summary : Type 0 where
 
 -- the sums of an account
 abbrev pub sums_of : List Booked → List Settled → List ℕ → AccountSum
-sums_of credits settled account = record { account = account; work = work_for account credits; balance = balance account settled }
+sums_of credits settled account =
+    record { account = account; work = work_for account credits; balance = balance account settled }
 
 -- the numbers of credits and their settlements
 abbrev pub summed : ℕ → ℕ → List Booked → List Settled → Summary
@@ -45,7 +47,8 @@ settlements_by (Some rules) credits = settlements rules.window rules.fee credits
 
 -- the numbers of a history
 abbrev pub summary_of : List Event → Summary
-summary_of past = summed (enters past) (length past) (booked past) (settlements_by (rules_of past) (booked past))
+summary_of past =
+    summed (enters past) (length past) (booked past) (settlements_by (rules_of past) (booked past))
 
 -- a word, a blank, a number and a line feed
 abbrev pub line : List ℕ → ℕ → List ℕ
@@ -53,10 +56,14 @@ line word number = word ++ 32 ∷ decimal number ++ 10 ∷ []
 
 -- an account's line
 abbrev pub account_line : AccountSum → List ℕ
-account_line sums = codes "account " ++ sums.account ++ 32 ∷ decimal sums.work ++ 32 ∷ decimal sums.balance ++ 10 ∷ []
+account_line sums =
+    codes "account " ++ sums.account ++ 32 ∷ decimal sums.work ++ 32 ∷ decimal sums.balance
+    ++ 10 ∷ []
 
 -- the text of a summary
 abbrev pub summary_text : Summary → List ℕ
 summary_text sums =
-    line (codes "sessions") sums.sessions ++ line (codes "events") sums.events ++ line (codes "credits") sums.credits
-    ++ line (codes "blocks") sums.blocks ++ line (codes "pool") sums.pool ++ flat_map account_line sums.accounts
+    line (codes "sessions") sums.sessions ++ line (codes "events") sums.events
+    ++ line (codes "credits") sums.credits
+    ++ line (codes "blocks") sums.blocks ++ line (codes "pool") sums.pool
+    ++ flat_map account_line sums.accounts

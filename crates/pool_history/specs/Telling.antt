@@ -1,4 +1,5 @@
 -- When a note can be written as its message (Stratum V2, "Data Types Mapping").
+-- A type keeps it.
 use Rattle.std.specs.Prelude.{ℕ, ◌<◌, ◌^◌, List, length}
 use Rattle.pool_history.specs.declared.telling.Note.{Note}
 use Rattle.pool_history.specs.declared.telling.Note.TheVariants.{Extended, Solution}
@@ -11,6 +12,7 @@ pub record ExtendedFits (path : List (List ℕ)) (prefix suffix : List ℕ) : Ty
 
 -- each field of the note fits its type
 abbrev pub NoteFits : Note → Type 0
-NoteFits (Extended channel job min_ntime version rolling path prefix suffix) = ExtendedFits path prefix suffix
+NoteFits (Extended channel job min_ntime version rolling path prefix suffix) =
+    ExtendedFits path prefix suffix
 NoteFits (Solution template version timestamp nonce coinbase) = length coinbase < 2 ^ 16
 NoteFits _ = Unit {0}

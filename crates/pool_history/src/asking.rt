@@ -8,7 +8,8 @@ use crate::shares::{Checked, Submission};
 use crate::templates::{CustomData, TemplateData, TipData};
 use sv2_types::{Hashes, Str255, U256};
 
-/// An opening of a channel (Stratum V2, "OpenStandardMiningChannel" and "OpenExtendedMiningChannel").
+/// An opening of a channel (Stratum V2, "OpenStandardMiningChannel" and
+/// "OpenExtendedMiningChannel").
 #[derive(Debug, Drop)]
 pub struct OpenAsk {
     pub kind: Kind,

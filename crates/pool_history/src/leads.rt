@@ -2,7 +2,8 @@
 
 use std::marker::Model;
 
-/// The bytes that each extranonce of a channel begins with, one to four of them. Contracts see the list.
+/// The bytes that each extranonce of a channel begins with, one to four of them. Contracts see the
+/// list.
 #[derive(Clone, Copy, Debug)]
 pub struct Lead {
     len: u8,
@@ -21,7 +22,10 @@ impl Model for Lead {
 
     ghost invariant = { λ lead. IsLead lead.len lead.bytes };
 
-    ghost inverse = { λ bytes. record { len = length bytes; bytes = bytes ++ replicate (4 - length bytes) 0 } };
+    ghost inverse = { λ bytes. record {
+      len = length bytes;
+      bytes = bytes ++ replicate (4 - length bytes) 0;
+    } };
 }
 
 impl Lead {

@@ -1,9 +1,10 @@
-//! What a pool's history is made of, and everything that is defined over it. It holds no pool: the crates
-//! above keep the history, and answer by these definitions.
+//! What a pool's history is made of, and everything that is defined over it. It holds no pool: the
+//! crates above keep the history, and answer by these definitions.
 #![tactic(auto)]
 
 mod asking;
 mod causes;
+mod codes;
 mod events;
 mod laws;
 mod leads;
@@ -19,7 +20,9 @@ pub use causes::Cause;
 pub use events::{Event, JobState, Kind, Role};
 pub use laws::{classes_by_places, jobs_by_places, states_by_places};
 pub use leads::Lead;
-pub use refusals::{CustomError, Failed, GrantError, JobError, NameError, OpenError, UpdateError};
+pub use refusals::{
+    BookError, CustomError, Failed, GrantError, JobError, NameError, OpenError, UpdateError,
+};
 pub use replies::{Class, Opened, Reply, Script, SessionNumber};
 pub use settings::{Rules, Users};
 pub use shares::{Brief, Checked, Submission};

@@ -109,3 +109,12 @@ pub enum CustomError {
     #[error("invalid-coinbase: {0}")]
     Coinbase(OutputsError),
 }
+
+/// Why a request of a book isn't answered; the book is then as before.
+#[derive(Clone, Copy, Debug, PartialEq, Eq, Drop, Error)]
+pub enum BookError {
+    #[error("the keeper failed")]
+    KeeperFault,
+    #[error("out of memory")]
+    Memory,
+}

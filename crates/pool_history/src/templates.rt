@@ -33,8 +33,8 @@ pub struct TipData {
     pub target: U256,
 }
 
-/// A miner's own job (this project's form of Stratum V2, "SetCustomMiningJob"), without the number of its
-/// request.
+/// A miner's own job (this project's form of Stratum V2, "SetCustomMiningJob"), without the number
+/// of its request.
 #[derive(Debug, Drop)]
 pub struct CustomData {
     pub channel_id: u32,

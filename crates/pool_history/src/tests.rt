@@ -18,6 +18,7 @@ fn shares_are_refused_by_their_codes(rt: HostRuntime) -> Result<(), Fail> {
     ];
     for (failed, code) in codes.iter() {
         let cause = Cause::Share(*failed);
+        assert_eq!(rt; failed.code(), *code);
         assert_eq!(rt; format!(in rt.alloc(); "{failed}")?.as_str(), *code);
         assert_eq!(rt; format!(in rt.alloc(); "{cause}")?.as_str(), *code);
     }

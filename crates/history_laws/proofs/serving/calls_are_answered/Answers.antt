@@ -1,4 +1,4 @@
-use Rattle.history_laws.proofs.Called.{calls-answered}
+use Rattle.history_laws.proofs.CallsServed.{calls-answered}
 use Rattle.history_laws.proofs.serving.calls_are_answered.Goals as goal
 
 pub returns : goal.returns
