@@ -18,7 +18,7 @@ use Rattle.coinbase.specs.Coin.{Terms, pool_output, template_parts, counted_as, 
 use Rattle.coinbase.specs.CoinTx.{coinbase_input, coinbase_witness, template_tx, custom_tx, AreTerms, AreCustomTerms}
 use Rattle.coinbase.specs.Custom.{CustomTerms, custom_parts, is_foreign, some_outputs, without_foreign, total, paying_outputs, with_total, custom_assembly}
 use Rattle.coinbase.specs.Outputs.{outputs_of, commits, commitment_in}
-use Rattle.coinbase.specs.Steps.{◌>>=◌}
+use Rattle.pool_base.specs.Results.{◌>>=◌}
 use Rattle.coinbase.proofs.OutputLaws.{whole_law}
 use Rattle.coinbase.proofs.Fields.{compact_small, bind_case, guard_ok, guard_held}
 

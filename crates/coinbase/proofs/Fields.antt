@@ -9,7 +9,7 @@ use Rattle.coinbase.specs.declared.error.TxError.{TxError}
 use Rattle.coinbase.specs.declared.error.TxError.TheVariants.{Short, LongSize}
 use Rattle.coinbase.specs.Compact.{compact, sized_bytes}
 use Rattle.coinbase.specs.Form.{counted_bytes}
-use Rattle.coinbase.specs.Steps.{◌>>=◌}
+use Rattle.pool_base.specs.Results.{◌>>=◌}
 use Rattle.coinbase.specs.Reading.{Place, bytes_at, number_at, marked_at, compact_at, sized_at, many_at, counted_at}
 
 -- each is a byte

@@ -3,7 +3,7 @@ use Rattle.std.proofs.Common.{◌≡◌, ℕ, suc, ◌-◌, ◌+◌, ◌≤◌, 
 use Rattle.std.proofs.lemmas.List.{append-nil}
 use Rattle.coinbase.specs.declared.error.TxError.{TxError}
 use Rattle.coinbase.specs.declared.error.TxError.TheVariants.{Short, LongSize, BadMarker, EmptyWitness, Trailing, Memory}
-use Rattle.coinbase.specs.Steps.{◌>>=◌}
+use Rattle.pool_base.specs.Results.{◌>>=◌}
 use Rattle.coinbase.specs.Reading.{Place, many_at, FailsReading}
 
 -- what was read before, and what is still read

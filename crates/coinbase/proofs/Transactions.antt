@@ -12,7 +12,7 @@ use Rattle.coinbase.specs.declared.tx.TxIn.{TxIn}
 use Rattle.coinbase.specs.declared.tx.TxOut.{TxOut}
 use Rattle.coinbase.specs.Compact.{compact, sized_bytes}
 use Rattle.coinbase.specs.Form.{counted_bytes, input_bytes, output_bytes, stack_bytes, has_item, tx_bytes, with_witness, without_witness, IsInput, IsOutput, IsItem, IsStack, IsWitness, IsTx, TxOf}
-use Rattle.coinbase.specs.Steps.{◌>>=◌}
+use Rattle.pool_base.specs.Results.{◌>>=◌}
 use Rattle.coinbase.specs.Reading.{Place, bytes_at, number_at, compact_at, sized_at, many_at, counted_at, input_at, output_at, flagged_count_at, flagged_at, opening_at, witnesses_at, witnesses_if, tx_at, tx_of, ReadsTx}
 use Rattle.coinbase.proofs.Fields.{AreBytes, bind_case, guard_ok, guard_held, chosen, ok_is, same_place, Took, Took-then, between, Took-first, Took-second, AreBytes-rest, IsReader, bytes_found, bytes_only, number_reader, wide8, wide32, wide64, compact_reader, sized_reader, many_reader, counted_reader}
 

@@ -11,7 +11,7 @@ use Rattle.coinbase.specs.declared.outputs.Broken.TheVariants as broken
 use Rattle.coinbase.specs.declared.tx.TxOut.{TxOut}
 use Rattle.coinbase.specs.Broken.{ReadsNoOutput, EndsOutputs}
 use Rattle.coinbase.specs.Outputs.{first_of, and_more, outputs_within, outputs_of}
-use Rattle.coinbase.specs.Steps.{◌>>=◌}
+use Rattle.pool_base.specs.Results.{◌>>=◌}
 use Rattle.coinbase.specs.Reading.{Place, bytes_at, number_at, marked_at, compact_at, sized_at, output_at}
 use Rattle.coinbase.proofs.Fields.{bind_case, guard_ok, chosen, ok_is, bytes_found, Took, marked, marked_last}
 

@@ -10,7 +10,7 @@ use Rattle.coinbase.specs.declared.error.AssemblyError.TheVariants.{ScriptTooLon
 use Rattle.coinbase.specs.declared.tx.TxOut.{TxOut}
 use Rattle.coinbase.specs.Form.{output_bytes}
 use Rattle.coinbase.specs.Outputs.{outputs_of, commitment_in}
-use Rattle.coinbase.specs.Steps.{◌>>=◌}
+use Rattle.pool_base.specs.Results.{◌>>=◌}
 use Rattle.coinbase.specs.Parts.{Parts, prefix_of, suffix_of, whole_len}
 
 -- what a template says of its coinbase

@@ -10,7 +10,7 @@ use Rattle.coinbase.specs.declared.error.OutputsError.TheVariants.{ScriptTooLong
 use Rattle.coinbase.specs.declared.tx.TxOut.{TxOut}
 use Rattle.coinbase.specs.Outputs.{outputs_of, commitment_in}
 use Rattle.coinbase.specs.Parts.{Parts, prefix_of, suffix_of}
-use Rattle.coinbase.specs.Steps.{◌>>=◌}
+use Rattle.pool_base.specs.Results.{◌>>=◌}
 
 -- what a miner says of its coinbase
 pub record CustomTerms : Type 0 where

@@ -8,7 +8,6 @@ pub mod Broken
 pub mod Coin
 pub mod Recipes
 pub mod States
-pub mod Steps
 pub mod Custom
 pub mod CustomRecipes
 pub mod CoinTx

@@ -9,7 +9,7 @@ use Rattle.coinbase.specs.declared.tx.TxOut.{TxOut}
 use Rattle.coinbase.specs.declared.error.TxError.{TxError}
 use Rattle.coinbase.specs.declared.error.TxError.TheVariants.{Short, LongSize, BadMarker, EmptyWitness, Trailing, Memory}
 use Rattle.coinbase.specs.Form.{has_item}
-use Rattle.coinbase.specs.Steps.{◌>>=◌}
+use Rattle.pool_base.specs.Results.{◌>>=◌}
 
 -- how far reading has come: the place of the next byte, and the bytes from there on
 pub record Place : Type 0 where

@@ -111,11 +111,6 @@ module _ (bytes given was now : List ℕ) (old new : Lister) (holds : MayHoldFra
           partial = rw splitter partial_none;
         }
 
--- at the end of the input
-pub whole_listed : (bytes text : List ℕ) (lister : Lister) → length lister.splitter.held ≡ 0 → HasListedFrames bytes text lister → ListsGood IsNothing bytes text
-whole_listed bytes text lister none listed =
-    record { frames = listed.frames; rest = lister.splitter.held; lists = listed.tracks.lists; is_kind = nil_from_length lister.splitter.held none; listed = listed.tracks.listed }
-
 pub cut_listed : (bytes given was now : List ℕ) (lister : Lister) (count : ℕ) → count ≡ length lister.splitter.held → (count ≡ 0 → ⊥)
     → now ≡ was ++ bad_line lister.count (Cut count) → HasListedFrames bytes (given ++ was) lister → ListsFlaw IsCutFrame bytes (given ++ now)
 cut_listed bytes given was now lister count is some text listed =

@@ -42,7 +42,7 @@ use Rattle.history_laws.proofs.Holding.{bytes_eq-self, first_free-length}
 use Rattle.history_laws.proofs.Legalities.{one_more_legal, some-none}
 use Rattle.history_laws.proofs.Ranges.{class-fits, lead-fits, least-range, legal-rules}
 use Rattle.history_laws.proofs.Served.{IsServed, own-served}
-use Rattle.coinbase.specs.Steps.{◌>>=◌}
+use Rattle.pool_base.specs.Results.{◌>>=◌}
 use Rattle.pool_history.specs.Jobs.{future_of, jobs_of}
 
 -- an event, if there is one, has no cause by the rules

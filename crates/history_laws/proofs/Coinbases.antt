@@ -11,7 +11,7 @@ use Rattle.coinbase.specs.Outputs.{outputs_of}
 use Rattle.coinbase.specs.declared.tx.TxOut.{TxOut}
 use Rattle.coinbase.specs.declared.error.OutputsError.TheVariants as custom
 use Rattle.pool_history.specs.Judging.{outputs_in}
-use Rattle.coinbase.specs.Steps.{◌>>=◌}
+use Rattle.pool_base.specs.Results.{◌>>=◌}
 
 -- how long a list of three parts is
 pub length-three : (a b c : List ℕ) → length (a ++ b ++ c) ≡ length a + length b + length c

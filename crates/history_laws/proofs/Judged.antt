@@ -8,7 +8,7 @@ use Rattle.pool_history.specs.declared.events.Event.{Event}
 use Rattle.pool_history.specs.declared.events.Event.TheVariants as event
 use Rattle.pool_history.specs.declared.refusals.Failed.{Failed}
 use Rattle.pool_history.specs.declared.refusals.Failed.TheVariants as failed
-use Rattle.coinbase.specs.Steps.{◌>>=◌}
+use Rattle.pool_base.specs.Results.{◌>>=◌}
 use Rattle.block_header.specs.Hash.{dsha, meets}
 use Rattle.std.specs.List.{list_any}
 use Rattle.std.specs.Str.{bytes_eq}

@@ -6,7 +6,7 @@ use Rattle.coinbase.specs.Coin.{Terms, counted_as, outputs_said, template_assemb
 use Rattle.coinbase.specs.Custom.{CustomTerms, custom_assembly, custom_parts, is_foreign, paying_outputs, some_outputs, total, with_total, without_foreign}
 use Rattle.coinbase.specs.Outputs.{outputs_of}
 use Rattle.coinbase.specs.Parts.{Parts, whole_len}
-use Rattle.coinbase.specs.Steps.{◌>>=◌}
+use Rattle.pool_base.specs.Results.{◌>>=◌}
 use Rattle.coinbase.specs.declared.error.AssemblyError.{AssemblyError}
 use Rattle.coinbase.specs.declared.error.AssemblyError.TheVariants as assembly
 use Rattle.coinbase.specs.declared.error.OutputsError.{OutputsError}

@@ -11,7 +11,7 @@ use Rattle.std.specs.Str.{bytes_eq}
 use Rattle.coinbase.specs.Coin.{template_assembly, outputs_said, template_parts, with_reward, within_length}
 use Rattle.coinbase.specs.Custom.{custom_assembly, paying_outputs, some_outputs, with_total, without_foreign}
 use Rattle.coinbase.specs.Parts.{Parts, whole_len}
-use Rattle.coinbase.specs.Steps.{◌>>=◌}
+use Rattle.pool_base.specs.Results.{◌>>=◌}
 use Rattle.coinbase.specs.declared.error.AssemblyError.{AssemblyError}
 use Rattle.coinbase.specs.declared.error.OutputsError.{OutputsError}
 use Rattle.coinbase.specs.declared.error.OutputsError.TheVariants as outputs_error

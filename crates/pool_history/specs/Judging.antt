@@ -7,7 +7,7 @@ use Rattle.coinbase.specs.Coin.{Terms, template_parts}
 use Rattle.coinbase.specs.Custom.{CustomTerms, custom_parts}
 use Rattle.coinbase.specs.Outputs.{outputs_of}
 use Rattle.coinbase.specs.Parts.{Parts}
-use Rattle.coinbase.specs.Steps.{◌>>=◌}
+use Rattle.pool_base.specs.Results.{◌>>=◌}
 use Rattle.coinbase.specs.declared.tx.TxOut.{TxOut}
 use Rattle.pool_history.specs.declared.events.Event.{Event}
 use Rattle.pool_history.specs.declared.events.JobState.{JobState}

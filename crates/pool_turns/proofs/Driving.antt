@@ -12,7 +12,7 @@ use Rattle.pool_turns.specs.declared.tally.Tally.{Tally}
 use Rattle.pool_turns.specs.Limits.{bounds}
 use Rattle.pool_turns.specs.Duties.{Duty, IsSoundDuty, RefusesWithin}
 use Rattle.pool_turns.specs.Owing.{OwesRefusal, OwesSome, OwesFront}
-use Rattle.pool_turns.specs.Ending.{EndsRun}
+use Rattle.pool_turns.specs.Ending.{EndsCommand}
 use Rattle.pool_turns.specs.Between.{HasAnswered, EndsAfter, EndsAt, GoesOnOrEnds, TurnsOnOrEnds}
 use Rattle.pool_turns.proofs.Fronts.{free_none, cut_at}
 use Rattle.pool_turns.proofs.Puts.{Adds-none, Adds-more}
@@ -24,7 +24,7 @@ pub answered_first : (HasRead : List ℕ → List ℕ → Type 0) → HasRead []
 answered_first HasRead read before = record { free = free_none; idles = refl; bytes = refl; given = []; put = Adds-none before; read = read }
 
 -- want of memory before the first turn
-pub memory_first : (duty : Duty) → IsSoundDuty duty → (turns : Option (List Turn)) (before : Option (List ℕ)) → EndsRun duty turns turns before before end.Memory
+pub memory_first : (duty : Duty) → IsSoundDuty duty → (turns : Option (List Turn)) (before : Option (List ℕ)) → EndsCommand duty turns turns before before end.Memory
 memory_first duty sound turns before = record {
   taken = [];
   brought = brought_none turns;
@@ -227,7 +227,7 @@ turns_on duty HasRead tally (Some turns) left before now steps (Some end) brough
 
 -- the end of the input
 pub turns_to_end : (duty : Duty) (turns old left : Option (List Turn)) (before now : Option (List ℕ)) (steps : List ReadStep) (buffer : List ℕ) (end : End)
-    → Brought turns old steps → Takes old left took.End buffer → EndsAt duty before now steps end → EndsRun duty turns left before now end
+    → Brought turns old steps → Takes old left took.End buffer → EndsAt duty before now steps end → EndsCommand duty turns left before now end
 turns_to_end duty None old left before now steps buffer end brought takes ends =
     record { taken = steps; brought = tt; given = ends.given; put = ends.put; ends = λ told is. cc }
 turns_to_end duty (Some turns) old left before now steps buffer end brought takes ends = record {
@@ -243,7 +243,7 @@ turns_to_end duty (Some turns) old left before now steps buffer end brought take
 -- a failed read leaves the turns
 pub turns_to_fault : (duty : Duty) (HasRead : List ℕ → List ℕ → Type 0) → ((bytes text : List ℕ) → HasRead bytes text → duty.SoFar bytes text)
     → (tally : Tally) (turns old left : Option (List Turn)) (before now : Option (List ℕ)) (steps : List ReadStep) (buffer : List ℕ)
-    → Brought turns old steps → Takes old left took.Failed buffer → HasAnswered HasRead tally before now steps → EndsRun duty turns left before now end.ReadFault
+    → Brought turns old steps → Takes old left took.Failed buffer → HasAnswered HasRead tally before now steps → EndsCommand duty turns left before now end.ReadFault
 turns_to_fault duty HasRead so_far tally turns old left before now steps buffer brought takes answered = record {
   taken = steps;
   brought = brought_at_failure turns old left steps buffer brought takes;

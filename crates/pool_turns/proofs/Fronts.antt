@@ -20,10 +20,6 @@ free_none = (
     none_at (inl idle) = omega (arith, idle)
     none_at (inr out) = omega (arith, out)
 
--- an empty list at the end
-pub no_more : (steps rest : List ReadStep) → (steps ++ []) ++ rest ≡ steps ++ rest
-no_more steps rest = ap (λ l. l ++ rest) (append-nil steps)
-
 -- a piece and what follows it, cut within the piece
 pub cut_at : (steps : List ReadStep) (piece part left : List ℕ) (rest : List ReadStep) → piece ≡ part ++ left
     → (steps ++ map Some piece) ++ rest ≡ (steps ++ map Some part) ++ (map Some left ++ rest)

@@ -6,7 +6,7 @@ use Rattle.pool_io.specs.Steps.{ReadStep, bytes_in, idles_after, IsFree, Brought
 use Rattle.pool_turns.specs.Duties.{Duty}
 use Rattle.pool_turns.specs.Limits.{bounds}
 use Rattle.pool_turns.specs.Owing.{EndsWith}
-use Rattle.pool_turns.specs.Ending.{EndsRun}
+use Rattle.pool_turns.specs.Ending.{EndsCommand}
 use Rattle.pool_turns.specs.declared.end.End.{End}
 use Rattle.pool_turns.specs.declared.tally.Tally.{Tally}
 
@@ -62,5 +62,5 @@ abbrev pub TurnsOnOrEnds : Duty → (List ℕ → List ℕ → Type 0) → Tally
     → Option (List Turn) → Option (List ℕ) → Option (List ℕ) → Option End → Type 0
 TurnsOnOrEnds duty HasRead tally turns left before now None = IsInRun HasRead tally turns left
     before now
-TurnsOnOrEnds duty HasRead tally turns left before now (Some end) = EndsRun duty turns left before
+TurnsOnOrEnds duty HasRead tally turns left before now (Some end) = EndsCommand duty turns left before
     now end

@@ -7,7 +7,7 @@ use Rattle.pool_io.specs.Outside.{CountsFailure, is_failed_gift}
 use Rattle.pool_io.specs.Seen.{Seen}
 use Rattle.pool_io.specs.Steps.{steps_of}
 use Rattle.pool_turns.specs.Duties.{Duty}
-use Rattle.pool_turns.specs.Ending.{EndsRun, DecideEnd, is_read_fault, is_write_fault}
+use Rattle.pool_turns.specs.Ending.{EndsCommand, DecideEnd, is_read_fault, is_write_fault}
 use Rattle.pool_turns.specs.Statuses.{status_of_end, status_of_refusal}
 use Rattle.pool_turns.specs.declared.end.End.{End}
 use Rattle.pool_turns.specs.declared.status.Status.{Status}
@@ -36,7 +36,7 @@ pub record RanOnHost {S T : Type 0} (meanings : Meanings S T) (duty : Duty) (old
   pub output : new.output ≡ emptied old.output
   pub host : new.faults ≡ old.faults
   -- what the end says of the input and of what was put
-  pub ran : EndsRun duty old.input (meanings.left source) old.output (meanings.held sink) end
+  pub ran : EndsCommand duty old.input (meanings.left source) old.output (meanings.held sink) end
   -- the other way round: told input decides the end, but for a fault or want of memory
   pub decided : (told : List Turn) → old.input ≡ Some told → DecideEnd duty (steps_of told) end
   -- a failure is the end exactly where it was counted, and is counted once

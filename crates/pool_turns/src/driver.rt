@@ -6,7 +6,7 @@ ghost use Rattle.pool_io.specs.declared.turn.Turn.{Turn};
 ghost use Rattle.pool_io.specs.Outside.{CountsFailure};
 ghost use Rattle.pool_io.specs.Steps.{ReadStep, steps_of};
 ghost use Rattle.pool_turns.specs.Between.{IsBelowLimits, HasAnswered, EndsAt, GoesOnOrEnds, IsInRun, TurnsOnOrEnds, turns_left};
-ghost use Rattle.pool_turns.specs.Ending.{EndsRun, DecideEnd, is_read_fault, is_write_fault};
+ghost use Rattle.pool_turns.specs.Ending.{EndsCommand, DecideEnd, is_read_fault, is_write_fault};
 
 use crate::tally::Tally;
 use crate::{End, IDLE_TURNS, MOST_BYTES, PIECE_LEN, Stop, StreamCommand, put_all};
@@ -171,7 +171,7 @@ pub fn drive<C: StreamCommand, S: Source, T: Sink>(
     requires { C.can_run task.now }
 
     // What each end says of the input and of what was put.
-    ensures ran { EndsRun (C.duty task.now) (S.left source.old) (S.left source.new)
+    ensures ran { EndsCommand (C.duty task.now) (S.left source.old) (S.left source.new)
         (T.held sink.old) (T.held sink.new) result }
 
     // The steps that the source tells decide the end, but for a fault or want of memory.

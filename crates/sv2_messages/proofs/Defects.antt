@@ -8,7 +8,8 @@ use Rattle.sv2_types.proofs.Items.{IsBytes}
 use Rattle.sv2_messages.specs.declared.error.MsgError.{MsgError}
 use Rattle.sv2_messages.specs.declared.error.MsgError.TheVariants.{UnknownKind, BadField, Trailing}
 use Rattle.sv2_messages.specs.Messages.{AreSpelled}
-use Rattle.sv2_messages.specs.Reading.{IsBadField, IsTrailing, ◌>>=◌, Left, field_by, field_at, end_by, end_at, fields_at}
+use Rattle.sv2_messages.specs.Reading.{IsBadField, IsTrailing, Left, field_by, field_at, end_by, end_at, fields_at}
+use Rattle.pool_base.specs.Results.{◌>>=◌}
 use Rattle.sv2_messages.proofs.Numbers.{IsBytes-drop}
 use Rattle.sv2_messages.proofs.Readable.{lies}
 use Rattle.sv2_messages.proofs.Steps.{field_at-spelled, field_refused}

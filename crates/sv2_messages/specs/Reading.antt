@@ -1,5 +1,6 @@
 -- Reading a message from left to right, and the first defect that is met (this project's own).
 use Rattle.std.specs.Prelude.{◌≡◌, ◌≢◌, ℕ, ◌+◌, Option, None, Some, Result, Ok, Err, List, [], ◌∷◌, ◌++◌, length, drop}
+use Rattle.pool_base.specs.Results.{◌>>=◌}
 use Rattle.sv2_types.specs.declared.error.ReadError.{ReadError}
 use Rattle.sv2_types.specs.Fields.{FieldType, FieldValue}
 use Rattle.sv2_types.specs.Reading.{size, value_at, defect}
@@ -47,12 +48,6 @@ IsDefectBy (Some types) kind payload error = IsDefect types payload error
 -- bytes follow the last
 abbrev pub IsFirstDefect : List Row → ℕ → List ℕ → MsgError → Type 0
 IsFirstDefect table kind payload error = IsDefectBy (types_of table kind) kind payload error
-
--- one step of reading after another: the first defect ends it
-infixl 10 ◌>>=◌
-abbrev pub ◌>>=◌ : {A B : Type 0} → Result A MsgError → (A → Result B MsgError) → Result B MsgError
-(Ok x) >>= f = f x
-(Err e) >>= f = Err e
 
 -- What follows is reading from left to right, field by field, as the functions of each message do;
 -- that it is `MsgOf` and `IsFirstDefect` is proved.

@@ -1,7 +1,7 @@
 use Rattle.std.proofs.Common.{ap, ◌∙◌, ◌++◌, Err}
 use Rattle.sv2_messages.specs.declared.error.MsgError.TheVariants.{BadField, Trailing}
 use Rattle.sv2_messages.specs.Tables.{mining_table, template_table, declare_table}
-use Rattle.frame_listing.proofs.Verdicts.{first_error, answers_other, last_error}
+use Rattle.sv2_messages.proofs.Joined.{first_error, answers_other, last_error}
 use Rattle.frame_listing.proofs.verdict.check.Goals as goal
 
 pub returns-in-Err-BadField : goal.returns-in-Err-BadField

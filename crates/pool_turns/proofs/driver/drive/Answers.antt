@@ -1,7 +1,7 @@
 use Rattle.std.proofs.Common.{[], refl, subst}
 use Rattle.pool_io.specs.Steps.{steps_of}
 use Rattle.pool_io.proofs.Stepping.{brought_none}
-use Rattle.pool_turns.specs.Ending.{EndsRun, DecideEnd}
+use Rattle.pool_turns.specs.Ending.{EndsCommand, DecideEnd}
 use Rattle.pool_turns.proofs.Driving.{memory_first}
 use Rattle.pool_turns.proofs.OneEnd.{one_end}
 use Rattle.pool_turns.proofs.driver.drive.Goals as goal
@@ -28,7 +28,7 @@ returns-in_default-clause-ran g c =
 pub returns-in-Some-clause-ran : goal.returns-in-Some-clause-ran
 returns-in-Some-clause-ran g c =
     let ran = c.in-Some.ensures.goes (g.S.Source.left c.args.source.now) (g.T.Sink.held c.args.sink.now) c.loop-end.invariant.run in
-    subst (λ task. EndsRun (g.C.StreamCommand.duty task) (g.S.Source.left c.args.source.now) (g.S.Source.left c.turn.new.source) (g.T.Sink.held c.args.sink.now) (g.T.Sink.held c.turn.new.sink) c.in-Some.end)
+    subst (λ task. EndsCommand (g.C.StreamCommand.duty task) (g.S.Source.left c.args.source.now) (g.S.Source.left c.turn.new.source) (g.T.Sink.held c.args.sink.now) (g.T.Sink.held c.turn.new.sink) c.in-Some.end)
     c.loop-end.invariant.asked ran
 
 pub returns-in-Some-clause-decided : goal.returns-in-Some-clause-decided
