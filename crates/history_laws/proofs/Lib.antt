@@ -33,4 +33,5 @@ pub mod RepliesFit
 pub mod Served
 pub mod Spending
 pub mod Stepping
+pub mod WrongCallers
 pub mod WrongLaws
