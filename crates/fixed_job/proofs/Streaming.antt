@@ -4,13 +4,12 @@ use Rattle.std.proofs.lemmas.List.{take-append-le}
 use Rattle.std.proofs.lemmas.Bool.{cases_lt}
 use Rattle.sv2_messages.specs.declared.kinds.TheConstants as kinds
 use Rattle.sv2_frames.specs.Framing.{header_of, frame_of, payload_length}
-use Rattle.sv2_frames.specs.Holding.{Holding, IsCut, IsCutWithin, IsHeldFrame, HoldsOver}
+use Rattle.sv2_frames.specs.Holding.{Holding, IsCut, IsHeldFrame}
 use Rattle.sv2_frames.proofs.Cutting.{payload_length-header}
 use Rattle.mining_msgs.specs.declared.shares.SubmitSharesStandard.{SubmitSharesStandard}
 use Rattle.fixed_job.specs.declared.judge.Job.{Job}
-use Rattle.fixed_job.specs.Submitting.{SpellShares, IsShareFrame, IsShareHeader, BeginsShare, IsPartialShare, IsOtherHeader, HasFourByteFields, share_payload}
+use Rattle.fixed_job.specs.Submitting.{SpellShares, IsShareFrame, IsShareHeader, BeginsShare, IsPartialShare, HasFourByteFields, share_payload}
 use Rattle.fixed_job.specs.declared.stream.FixedJob.{FixedJob}
-use Rattle.fixed_job.specs.Duty.{AnswersShares}
 use Rattle.fixed_job.specs.Judging.{HoldsRest, HasAnsweredShares, RemembersCredits}
 use Rattle.fixed_job.specs.OneReading.{SpellShares-more}
 use Rattle.fixed_job.specs.Answers.{answer_of, answers_after, answers_to, first_refusal}
@@ -49,12 +48,6 @@ header_says ext kind payload rest held whole fits long header =
     let says : payload_length (header_of ext kind (length payload)) ≡ payload_length (header_of header.0 kinds.SUBMIT_SHARES_STANDARD 24) = ap payload_length (sym front ∙ header.2) in
     sym (payload_length-header ext kind (length payload) [] fits) ∙ says ∙ payload_length-header header.0 kinds.SUBMIT_SHARES_STANDARD 24 [] (omega arith)
 
--- a frame that begins as a share's has its length
-pub share_length : (ext kind : ℕ) (payload : List ℕ) (holding : Holding) → IsHeldFrame ext kind payload holding → BeginsShare holding.held → length payload ≡ 24
-share_length ext kind payload holding held begins =
-    let long : 6 ≤ length holding.held = omega (arith, ap length held.whole) in
-    header_says ext kind payload [] holding.held (append-nil holding.held ∙ held.whole) held.fits.length_fits long (begins long)
-
 -- a whole frame that begins as a share's, with a share's payload, is one
 pub frame_from : (holding : Holding) (ext kind : ℕ) (payload : List ℕ) (s : SubmitSharesStandard) → IsHeldFrame ext kind payload holding
     → BeginsShare holding.held → payload ≡ share_payload s → HasFourByteFields s → IsShareFrame holding.held s
@@ -85,26 +78,6 @@ partial_from held cut begins = record {
     missing_some : (missing : List ℕ) → missing ≢ [] → 0 < length missing
     missing_some [] some = absurd (some refl)
     missing_some (byte ∷ missing) some = omega arith
-
--- a header over the limit is another one
-pub over_other : (len : ℕ) (holding : Holding) → HoldsOver len holding → holding.limit ≡ 24 → IsOtherHeader holding.held
-over_other len holding over limit = record {
-  long = omega (arith, ap length over.header);
-  header = λ header.
-      let front : take 6 holding.held ≡ header_of over.ext over.kind len = ap (take 6) over.header in
-      let says : payload_length (header_of over.ext over.kind len) ≡ payload_length (header_of header.0 kinds.SUBMIT_SHARES_STANDARD 24) = ap payload_length (sym front ∙ header.2) in
-      omega (arith, says, payload_length-header over.ext over.kind len [] over.length_fits, payload_length-header header.0 kinds.SUBMIT_SHARES_STANDARD 24 [], limit, over.over);
-}
-
--- no whole frame is held, and no other one begins there
-pub none_answers : (bytes text : List ℕ) (job : FixedJob) → IsCutWithin job.splitter → BeginsShare job.splitter.held → HoldsRest bytes text job → HasAnsweredShares bytes text job
-none_answers bytes text job cut begins holds = record { holds = holds; partial = partial_from job.splitter.held cut.cut begins }
-
--- another frame begins there
-pub other_answers : (bytes text : List ℕ) (job : FixedJob) → IsOtherHeader job.splitter.held → HoldsRest bytes text job
-    → AnswersShares job.judge.class job.judge.job IsOtherHeader bytes text
-other_answers bytes text job other holds =
-    record { shares = holds.shares; rest = job.splitter.held; spelled = holds.spelled; is_kind = other; answered = holds.answered }
 
 -- a whole frame was judged and answered
 pub judged : (old new : FixedJob) (s : SubmitSharesStandard) → IsShareFrame old.splitter.held s → new.splitter ≡ record old.splitter { held = [] }

@@ -1,17 +1,15 @@
 -- A lister between its frames.
 use Rattle.std.proofs.Common.{◌≡◌, ℕ, ◌+◌, ◌-◌, ◌^◌, ◌≤◌, min, List, [], ◌∷◌, ◌++◌, length, take, refl, sym, ap, subst, ◌∙◌, append_assoc, arith, length-append}
-use Rattle.std.proofs.lemmas.List.{nil_from_length}
 use Rattle.sv2_frames.specs.Framing.{FrameValue, frame_bytes}
 use Rattle.sv2_frames.specs.Holding.{Holding, frame_end, HoldsOver, IsCutWithin, IsHeldFrame}
 use Rattle.sv2_frames.proofs.Feeding.{present_after}
-use Rattle.pool_turns.specs.Duties.{IsNothing}
 use Rattle.sv2_messages.specs.declared.error.MsgError.{MsgError}
 use Rattle.frame_listing.specs.declared.flaw.Flaw.{Flaw}
 use Rattle.frame_listing.specs.declared.flaw.Flaw.TheVariants.{Payload, Length, Cut}
 use Rattle.frame_listing.specs.declared.lister.Lister.{Lister}
 use Rattle.frame_listing.specs.Listing.{payload_limit, IsBad, IsGood, ListsFrames, IsFlawed}
 use Rattle.frame_listing.specs.Lines.{frame_line, bad_line, lines_of}
-use Rattle.frame_listing.specs.Duty.{ListsGood, ListsFlaw, IsCutFrame}
+use Rattle.frame_listing.specs.Duty.{ListsFlaw, IsCutFrame}
 use Rattle.frame_listing.specs.Tracking.{HasListedFrames, MayHoldFrame}
 use Rattle.frame_listing.specs.OneListing.{ListsFrames-none, ListsFrames-more, partial_none}
 use Rattle.frame_listing.proofs.Listed.{lines_of-push, ListsFrames-push, frames_below, partial_from}

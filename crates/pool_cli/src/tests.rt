@@ -378,19 +378,16 @@ impl Write for Broken {
     }
 }
 
-/// Counts its calls in a cell, and fails at the first one, or never.
+/// Counts its calls in the cell, and fails at the first one where the second field says so.
 #[derive(Clone, Copy)]
-struct Counting<'a> {
-    calls: &'a Cell<u8>,
-    fails_first: bool,
-}
+struct Counting<'a>(&'a Cell<u8>, bool);
 
 impl Counting<'_> {
     /// The number of this call, from 1 on, or a failure.
     fn call(self) -> io::Result<u8> {
-        let call = self.calls.get().saturating_add(1);
-        self.calls.set(call);
-        if self.fails_first && call == 1 {
+        let call = self.0.get().saturating_add(1);
+        self.0.set(call);
+        if self.1 && call == 1 {
             return Err(io::Error::from(ErrorKind::BrokenPipe));
         }
         Ok(call)
@@ -424,10 +421,7 @@ fn each_take_and_put_is_one_call_also_after_a_failure(rt: HostRuntime) {
     let mut buffer = [0; 2];
     for (fails_first, took) in [(false, Took::Bytes(1)), (true, Took::Failed)] {
         let calls = Cell::new(0);
-        let mut source = ReadSource::new(Counting {
-            calls: &calls,
-            fails_first,
-        });
+        let mut source = ReadSource::new(Counting(&calls, fails_first));
         assert_eq!(rt; source.take(&mut buffer), took);
         assert_eq!(rt; calls.get(), 1);
         assert_eq!(rt; source.take(&mut buffer), Took::Bytes(1));
@@ -435,10 +429,7 @@ fn each_take_and_put_is_one_call_also_after_a_failure(rt: HostRuntime) {
     }
     for (fails_first, put) in [(false, Ok(2)), (true, Err(SinkFailed::Failed))] {
         let calls = Cell::new(0);
-        let mut sink = WriteSink::new(Counting {
-            calls: &calls,
-            fails_first,
-        });
+        let mut sink = WriteSink::new(Counting(&calls, fails_first));
         assert_eq!(rt; sink.put(b"ab"), put);
         assert_eq!(rt; calls.get(), 1);
         assert_eq!(rt; sink.put(b"ab"), Ok(2));
@@ -450,14 +441,8 @@ fn each_take_and_put_is_one_call_also_after_a_failure(rt: HostRuntime) {
 fn a_host_neither_reads_nor_writes_by_itself(rt: HostRuntime) -> Result<(), Fail> {
     let reads = Cell::new(0);
     let writes = Cell::new(0);
-    let input = Counting {
-        calls: &reads,
-        fails_first: false,
-    };
-    let output = Counting {
-        calls: &writes,
-        fails_first: false,
-    };
+    let input = Counting(&reads, false);
+    let output = Counting(&writes, false);
     let mut host = StreamHost::new(rt.alloc(), input, output);
     let mut source = host.input()?;
     let sink = host.output()?;

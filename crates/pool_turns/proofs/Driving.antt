@@ -11,7 +11,7 @@ use Rattle.pool_turns.specs.declared.end.End.TheVariants as end
 use Rattle.pool_turns.specs.declared.tally.Tally.{Tally}
 use Rattle.pool_turns.specs.Limits.{bounds}
 use Rattle.pool_turns.specs.Duties.{Duty, IsSoundDuty, RefusesWithin}
-use Rattle.pool_turns.specs.Owing.{OwesRefusal, OwesSome, OwesFront}
+use Rattle.pool_turns.specs.Owing.{OwesRefusal, OwesSome, OwesFront, EndsWith}
 use Rattle.pool_turns.specs.Ending.{EndsCommand}
 use Rattle.pool_turns.specs.Between.{HasAnswered, EndsAfter, EndsAt, GoesOnOrEnds, TurnsOnOrEnds}
 use Rattle.pool_turns.proofs.Fronts.{free_none, cut_at}
@@ -124,18 +124,14 @@ module _ (duty : Duty) (HasRead : List ℕ → List ℕ → Type 0) (so_far : (b
       added : Adds before after (answered.given ++ put.0)
       added = Adds-more before now after answered.given put.0 answered.put put.2
 
-      pub put_fault_ends_at : OwesSome duty steps (answered.given ++ text) → EndsAt duty before after steps end.WriteFault
-      put_fault_ends_at owed = record { given = answered.given ++ put.0; put = added; ends = front_owed steps put.0 owed put.1 }
+      -- as the end by a failed write or by want of memory says
+      module _ (e : End) (says : (taken all : List ReadStep) (given : List ℕ) → OwesFront duty all given → EndsWith duty taken all given e) where
+        pub put_ends_at : OwesSome duty steps (answered.given ++ text) → EndsAt duty before after steps e
+        put_ends_at owed = record { given = answered.given ++ put.0; put = added; ends = says steps steps (answered.given ++ put.0) (front_owed steps put.0 owed put.1) }
 
-      pub put_memory_ends_at : OwesSome duty steps (answered.given ++ text) → EndsAt duty before after steps end.Memory
-      put_memory_ends_at owed = record { given = answered.given ++ put.0; put = added; ends = front_owed steps put.0 owed put.1 }
-
-      module _ (more : List ReadStep) (owed : (rest : List ReadStep) → OwesSome duty ((steps ++ more) ++ rest) (answered.given ++ text)) where
-        pub put_fault_ends : EndsAfter duty before after (steps ++ more) end.WriteFault
-        put_fault_ends = record { given = answered.given ++ put.0; put = added; ends = λ rest. front_owed ((steps ++ more) ++ rest) put.0 (owed rest) put.1 }
-
-        pub put_memory_ends : EndsAfter duty before after (steps ++ more) end.Memory
-        put_memory_ends = record { given = answered.given ++ put.0; put = added; ends = λ rest. front_owed ((steps ++ more) ++ rest) put.0 (owed rest) put.1 }
+        pub put_ends : (more : List ReadStep) → ((rest : List ReadStep) → OwesSome duty ((steps ++ more) ++ rest) (answered.given ++ text)) → EndsAfter duty before after (steps ++ more) e
+        put_ends more owed =
+            record { given = answered.given ++ put.0; put = added; ends = λ rest. says (steps ++ more) ((steps ++ more) ++ rest) (answered.given ++ put.0) (front_owed ((steps ++ more) ++ rest) put.0 (owed rest) put.1) }
 
   -- a piece came, and the command told a text
   module _ (piece text : List ℕ) (some : 0 < length piece) (room : tally.taken + length piece ≤ 2 ^ 40) where

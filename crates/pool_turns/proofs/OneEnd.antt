@@ -31,12 +31,6 @@ module _ (duty : Duty) (sound : IsSoundDuty duty) (steps : List ReadStep) where
         ]
     refused_limit text other (inr cut) limit = free_of steps limit.front limit.rest cut.free limit.split (at limit.front limit.reached.0)
 
-  at_idle : (front : List ReadStep) → IsIdleOut bounds front → IsAtLimit bounds front
-  at_idle front out = inl out
-
-  at_bytes : (front : List ReadStep) → IsBytesOut bounds front → IsAtLimit bounds front
-  at_bytes front out = inr out
-
   idle_bytes : (text other : List ℕ) → OwesAtLimit duty (IsIdleOut bounds) steps text → OwesAtLimit duty (IsBytesOut bounds) steps other → ⊥
   idle_bytes text other idle out =
       idle_or_bytes idle.front out.front idle.rest out.rest (sym idle.split ∙ out.split) idle.reached.1 out.reached.1 idle.reached.0 out.reached.0
@@ -45,8 +39,8 @@ module _ (duty : Duty) (sound : IsSoundDuty duty) (steps : List ReadStep) where
     whole_ends : (e : End) → EndsWith duty taken steps given e → OwesWhole duty steps text → EndsAs end.Done e
     whole_ends end.Done ends whole = inl refl
     whole_ends end.Refused ends whole = absurd (whole_refused text given whole ends)
-    whole_ends end.IdleOut ends whole = absurd (whole_limit (IsIdleOut bounds) at_idle text given whole ends.0)
-    whole_ends end.BytesOut ends whole = absurd (whole_limit (IsBytesOut bounds) at_bytes text given whole ends.0)
+    whole_ends end.IdleOut ends whole = absurd (whole_limit (IsIdleOut bounds) (λ front out. inl out) text given whole ends.0)
+    whole_ends end.BytesOut ends whole = absurd (whole_limit (IsBytesOut bounds) (λ front out. inr out) text given whole ends.0)
     whole_ends end.ReadFault ends whole = inr tt
     whole_ends end.WriteFault ends whole = inr tt
     whole_ends end.Memory ends whole = inr tt
@@ -54,15 +48,15 @@ module _ (duty : Duty) (sound : IsSoundDuty duty) (steps : List ReadStep) where
     refused_ends : (e : End) → EndsWith duty taken steps given e → OwesRefused duty steps text → EndsAs end.Refused e
     refused_ends end.Done ends refused = absurd (whole_refused given text ends refused)
     refused_ends end.Refused ends refused = inl refl
-    refused_ends end.IdleOut ends refused = absurd (refused_limit (IsIdleOut bounds) at_idle text given refused ends.0)
-    refused_ends end.BytesOut ends refused = absurd (refused_limit (IsBytesOut bounds) at_bytes text given refused ends.0)
+    refused_ends end.IdleOut ends refused = absurd (refused_limit (IsIdleOut bounds) (λ front out. inl out) text given refused ends.0)
+    refused_ends end.BytesOut ends refused = absurd (refused_limit (IsBytesOut bounds) (λ front out. inr out) text given refused ends.0)
     refused_ends end.ReadFault ends refused = inr tt
     refused_ends end.WriteFault ends refused = inr tt
     refused_ends end.Memory ends refused = inr tt
 
     idle_ends : (e : End) → EndsWith duty taken steps given e → OwesAtLimit duty (IsIdleOut bounds) steps text → EndsAs end.IdleOut e
-    idle_ends end.Done ends limit = absurd (whole_limit (IsIdleOut bounds) at_idle given text ends limit)
-    idle_ends end.Refused ends limit = absurd (refused_limit (IsIdleOut bounds) at_idle given text ends limit)
+    idle_ends end.Done ends limit = absurd (whole_limit (IsIdleOut bounds) (λ front out. inl out) given text ends limit)
+    idle_ends end.Refused ends limit = absurd (refused_limit (IsIdleOut bounds) (λ front out. inl out) given text ends limit)
     idle_ends end.IdleOut ends limit = inl refl
     idle_ends end.BytesOut ends limit = absurd (idle_bytes text given limit ends.0)
     idle_ends end.ReadFault ends limit = inr tt
@@ -70,8 +64,8 @@ module _ (duty : Duty) (sound : IsSoundDuty duty) (steps : List ReadStep) where
     idle_ends end.Memory ends limit = inr tt
 
     bytes_ends : (e : End) → EndsWith duty taken steps given e → OwesAtLimit duty (IsBytesOut bounds) steps text → EndsAs end.BytesOut e
-    bytes_ends end.Done ends limit = absurd (whole_limit (IsBytesOut bounds) at_bytes given text ends limit)
-    bytes_ends end.Refused ends limit = absurd (refused_limit (IsBytesOut bounds) at_bytes given text ends limit)
+    bytes_ends end.Done ends limit = absurd (whole_limit (IsBytesOut bounds) (λ front out. inr out) given text ends limit)
+    bytes_ends end.Refused ends limit = absurd (refused_limit (IsBytesOut bounds) (λ front out. inr out) given text ends limit)
     bytes_ends end.IdleOut ends limit = absurd (idle_bytes given text ends.0 limit)
     bytes_ends end.BytesOut ends limit = inl refl
     bytes_ends end.ReadFault ends limit = inr tt
