@@ -89,4 +89,5 @@ pub record BookedFits (credit : Booked) : Type 0 where
 -- so it is of each credit of a legal history
 abbrev pub CreditsFit : Type 0
 CreditsFit =
-    (history : List Event) → Legal history → AllByRecursion BookedFits (bookings_of (past_of history))
+    (history : List Event) → Legal history
+    → AllByRecursion BookedFits (bookings_of (past_of history))

@@ -181,7 +181,8 @@ CreditsOneMore =
     (history : List Event) (event : Event) (script : List ℕ) (standing : Standing)
     (channels : List OpenChannel) (seen : List Booked)
     → Shows history script standing channels → bookings_of (past_of history) ≡ seen
-    → bookings_of (past_of (history ++ event ∷ [])) ≡ booked_after script standing channels event seen
+    → bookings_of (past_of (history ++ event ∷ []))
+    ≡ booked_after script standing channels event seen
 
 -- what was granted for a token: a Grant's number is one more than the number of those before
 abbrev pub grant_after : Event → ℕ → List ℕ → Option Granted → Option Granted

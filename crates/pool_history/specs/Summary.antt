@@ -48,7 +48,8 @@ settlements_by (Some rules) credits = settlements rules.window rules.fee credits
 -- the numbers of a history
 abbrev pub summary_of : List Event → Summary
 summary_of past =
-    summed (enters past) (length past) (bookings_of past) (settlements_by (rules_of past) (bookings_of past))
+    summed (enters past) (length past) (bookings_of past)
+    (settlements_by (rules_of past) (bookings_of past))
 
 -- a word, a blank, a number and a line feed
 abbrev pub line : List ℕ → ℕ → List ℕ

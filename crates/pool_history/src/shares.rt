@@ -66,6 +66,7 @@ pub struct Checked {
     pub header: [u8; 80],
     pub hash: [u8; 32],
     ghost rebuilt: { header
-        ≡ header_by brief sub.version sub.ntime sub.nonce (take sub.extranonce_len sub.extranonce) },
+        ≡ header_by brief sub.version sub.ntime sub.nonce
+        (take sub.extranonce_len sub.extranonce) },
     ghost hashed: { hash ≡ dsha header },
 }
