@@ -11,7 +11,7 @@ use Rattle.pool_history.specs.declared.events.Kind.{Kind}
 use Rattle.pool_history.specs.declared.events.Kind.TheVariants as kind
 use Rattle.pool_history.specs.declared.settings.Rules.{Rules}
 use Rattle.pool_history.specs.Accounts.{is_known}
-use Rattle.pool_history.specs.Channels.{OpenChannel, account_or, channel_moves, channels_of, class_before, named, opened, reclassed}
+use Rattle.pool_history.specs.Channels.{OpenChannel, account_or, channel_moves, channels_of, class_before, with_name, opened, with_class}
 use Rattle.pool_history.specs.Conditions.{or_code}
 use Rattle.pool_history.specs.Legal.{LegalPast, cause_by, cause_of, is_class, is_lead_length, is_just, is_nameless, is_next_lead, is_opening_account, may_become, may_get, may_mine}
 use Rattle.pool_history.specs.Refusing.{held_leads, own_channel}
@@ -96,12 +96,12 @@ opened-allowed rules past session id k account class lead o = record {
   account = opening-account rules k account o.account_said;
 }
 
-pub named-allowed : (rules : Rules) (id : ℕ) (account : List ℕ) (c : OpenChannel) → is_known rules account ≡ true → IsAllowed rules c → IsAllowed rules (named id account c)
+pub named-allowed : (rules : Rules) (id : ℕ) (account : List ℕ) (c : OpenChannel) → is_known rules account ≡ true → IsAllowed rules c → IsAllowed rules (with_name id account c)
 named-allowed rules id account c known a =
     cond_both (eqb c.id id) (record c { account = account_or c.account account }) c (IsAllowed rules)
     (λ t. record { lead = a.lead; bytes = a.bytes; class = a.class; classes = a.classes; account = or-known rules c.kind c.account account known a.account }) (λ f. a)
 
-pub reclassed-allowed : (rules : Rules) (at id class : ℕ) (c : OpenChannel) → is_class rules class ≡ true → IsAllowed rules c → IsAllowed rules (reclassed at id class c)
+pub reclassed-allowed : (rules : Rules) (at id class : ℕ) (c : OpenChannel) → is_class rules class ≡ true → IsAllowed rules c → IsAllowed rules (with_class at id class c)
 reclassed-allowed rules at id class c may a =
     cond_both (eqb c.id id) (record c { sets = record { at = at; class = class } ∷ c.sets }) c (IsAllowed rules)
     (λ t. record {
@@ -125,11 +125,11 @@ channels-allowed (event.Open session k account class lead ∷ older) rules l are
     (rules-opening rules older session k account class lead are l.1))
 channels-allowed (event.Name session id account ∷ older) rules l are =
     let known : is_known rules account ≡ true = name-known rules older session id account are l.1 in
-    all-map (IsAllowed rules) (IsAllowed rules) (named id account) (λ c a. named-allowed rules id account c known a) (channels_of older)
+    all-map (IsAllowed rules) (IsAllowed rules) (with_name id account) (λ c a. named-allowed rules id account c known a) (channels_of older)
     (channels-allowed older rules l.0 are)
 channels-allowed (event.Class session id class ∷ older) rules l are =
     let may : is_class rules class ≡ true = class-allowed rules older session id class are l.1 in
-    all-map (IsAllowed rules) (IsAllowed rules) (reclassed (length older) id class) (λ c a. reclassed-allowed rules (length older) id class c may a)
+    all-map (IsAllowed rules) (IsAllowed rules) (with_class (length older) id class) (λ c a. reclassed-allowed rules (length older) id class c may a)
     (channels_of older) (channels-allowed older rules l.0 are)
 channels-allowed (event.Close session id ∷ older) rules l are =
     all-filter (IsAllowed rules) (λ c. not (eqb c.id id)) (channels_of older) (channels-allowed older rules l.0 are)

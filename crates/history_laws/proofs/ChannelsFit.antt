@@ -9,7 +9,7 @@ use Rattle.pool_history.specs.declared.events.Event.TheVariants as event
 use Rattle.pool_history.specs.declared.events.Kind.{Kind}
 use Rattle.pool_history.specs.declared.events.Kind.TheVariants as kind
 use Rattle.pool_history.specs.declared.settings.Rules.{Rules}
-use Rattle.pool_history.specs.Channels.{OpenChannel, account_or, channel_in, channel_moves, channels_of, named, opened, reclassed}
+use Rattle.pool_history.specs.Channels.{OpenChannel, account_or, channel_in, channel_moves, channels_of, with_name, opened, with_class}
 use Rattle.pool_history.specs.Headers.{IsBriefing}
 use Rattle.pool_history.specs.Legal.{LegalPast, is_just, is_lead_length}
 use Rattle.pool_history.specs.Refusing.{held_leads}
@@ -22,11 +22,11 @@ use Rattle.history_laws.proofs.Holding.{all-find}
 abbrev pub HasLead : OpenChannel → Type 0
 HasLead c = is_lead_length c.kind (length c.lead) ≡ true
 
-pub named-has_lead : (id : ℕ) (account : List ℕ) (c : OpenChannel) → HasLead c → HasLead (named id account c)
+pub named-has_lead : (id : ℕ) (account : List ℕ) (c : OpenChannel) → HasLead c → HasLead (with_name id account c)
 named-has_lead id account c h =
     cond_both (eqb c.id id) (record c { account = account_or c.account account }) c HasLead (λ t. h) (λ f. h)
 
-pub reclassed-has_lead : (at id class : ℕ) (c : OpenChannel) → HasLead c → HasLead (reclassed at id class c)
+pub reclassed-has_lead : (at id class : ℕ) (c : OpenChannel) → HasLead c → HasLead (with_class at id class c)
 reclassed-has_lead at id class c h =
     cond_both (eqb c.id id) (record c { sets = record { at = at; class = class } ∷ c.sets }) c HasLead (λ t. h) (λ f. h)
 
@@ -39,9 +39,9 @@ channels-have_leads (event.Open session k account class lead ∷ older) l =
     (channels-have_leads older l.0)
     (and_parts (is_lead_length k (length lead)) (is_just lead (lowest (length lead) (held_leads older))) o.1.next).0
 channels-have_leads (event.Name session id account ∷ older) l =
-    all-map HasLead HasLead (named id account) (named-has_lead id account) (channels_of older) (channels-have_leads older l.0)
+    all-map HasLead HasLead (with_name id account) (named-has_lead id account) (channels_of older) (channels-have_leads older l.0)
 channels-have_leads (event.Class session id class ∷ older) l =
-    all-map HasLead HasLead (reclassed (length older) id class) (reclassed-has_lead (length older) id class) (channels_of older) (channels-have_leads older l.0)
+    all-map HasLead HasLead (with_class (length older) id class) (reclassed-has_lead (length older) id class) (channels_of older) (channels-have_leads older l.0)
 channels-have_leads (event.Close session id ∷ older) l = all-filter HasLead (λ c. not (eqb c.id id)) (channels_of older) (channels-have_leads older l.0)
 channels-have_leads (event.Leave session ∷ older) l =
     all-filter HasLead (λ c. not (eqb c.session session)) (channels_of older) (channels-have_leads older l.0)

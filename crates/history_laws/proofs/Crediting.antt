@@ -15,7 +15,7 @@ use Rattle.pool_history.specs.declared.settings.Rules.{Rules}
 use Rattle.pool_history.specs.Accounts.{are_distinct}
 use Rattle.pool_history.specs.Channels.{OpenChannel, channel_in, channels_of}
 use Rattle.pool_history.specs.Conditions.{or_code, found, provided}
-use Rattle.pool_history.specs.Crediting.{Booked, booked, booked_with, booking, admitted_class, credit_share, first_failed, headers, last_failed, listed}
+use Rattle.pool_history.specs.Crediting.{Booked, bookings_of, booked_with, booking, admitted_class, credit_share, first_failed, headers, last_failed, listed}
 use Rattle.pool_history.specs.Headers.{rolled}
 use Rattle.pool_history.specs.declared.templates.TipData.{TipData}
 use Rattle.pool_history.specs.Jobs.{Job, jobs_of, live_job}
@@ -153,7 +153,7 @@ good_credit past session channel job nonce ntime version extranonce n =
 pub record Adds (past : List Event) (session : ℕ) (share : Share) (e : Event) (g : IsGoodCredit past session share) : Type 0 where
   pub is_booked : booked_with past share.channel share.job ≡ Some g.good.with
   pub header : headers (e ∷ past) ≡ rebuilt g.rules.pool_script g.good.with share ∷ headers past
-  pub counts : booked (e ∷ past) ≡ booking g.rules.pool_script share g.good.with ∷ booked past
+  pub counts : bookings_of (e ∷ past) ≡ booking g.rules.pool_script share g.good.with ∷ bookings_of past
 
 pub credit-adds : (past : List Event) (session channel job nonce ntime version : ℕ) (extranonce : List ℕ)
     → (g : IsGoodCredit past session (judged_share past channel job nonce ntime version extranonce))
@@ -173,9 +173,9 @@ credit-adds past session channel job nonce ntime version extranonce g =
           ∙ ap (λ s. rebuilt s with (credit_share with channel job nonce ntime version extranonce) ∷ headers past) script
           ∙ ap (λ s. rebuilt g.rules.pool_script with s ∷ headers past) same;
       counts =
-          ap (λ r. listed (λ w. booking (script_of past) (credit_share w channel job nonce ntime version extranonce) w) r ++ booked past) is
-          ∙ ap (λ s. booking s (credit_share with channel job nonce ntime version extranonce) with ∷ booked past) script
-          ∙ ap (λ s. booking g.rules.pool_script s with ∷ booked past) same;
+          ap (λ r. listed (λ w. booking (script_of past) (credit_share w channel job nonce ntime version extranonce) w) r ++ bookings_of past) is
+          ∙ ap (λ s. booking s (credit_share with channel job nonce ntime version extranonce) with ∷ bookings_of past) script
+          ∙ ap (λ s. booking g.rules.pool_script s with ∷ bookings_of past) same;
     }
 
 pub credits-booked : CreditsAreBooked
@@ -194,13 +194,13 @@ credits-booked h session channel job nonce ntime version extranonce l =
       is_booked = a.is_booked;
       meets_its_class = g.good.meets_class;
       header = ap headers (past-one h e) ∙ a.header;
-      counts = ap booked (past-one h e) ∙ a.counts;
+      counts = ap bookings_of (past-one h e) ∙ a.counts;
     }
 
 -- all credits of a legal past
 pub record Counted (past : List Event) : Type 0 where
   pub of_headers : length (headers past) ≡ credits past
-  pub of_credits : length (booked past) ≡ credits past
+  pub of_credits : length (bookings_of past) ≡ credits past
   pub distinct : are_distinct (headers past) ≡ true
 
 pub credits-counted : (past : List Event) → LegalPast past → Counted past
@@ -214,7 +214,7 @@ credits-counted (event.Credit session channel job nonce ntime version extranonce
     let header : List ℕ = rebuilt g.rules.pool_script g.good.with (judged_share older channel job nonce ntime version extranonce) in
     record {
       of_headers = ap length a.header ∙ one (headers older) header c.of_headers;
-      of_credits = ap length a.counts ∙ one (booked older) (booking g.rules.pool_script (judged_share older channel job nonce ntime version extranonce) g.good.with) c.of_credits;
+      of_credits = ap length a.counts ∙ one (bookings_of older) (booking g.rules.pool_script (judged_share older channel job nonce ntime version extranonce) g.good.with) c.of_credits;
       distinct =
           ap are_distinct a.header
           ∙ and_from (not (list_any (bytes_eq header) (headers older))) (are_distinct (headers older)) (not_from_false (list_any (bytes_eq header) (headers older)) g.good.header_new) c.distinct;
@@ -235,7 +235,7 @@ pub record Added (later past : List Event) : Type 0 where
   pub more_headers : List (List ℕ)
   pub headers_are : headers (later ++ past) ≡ more_headers ++ headers past
   pub more : List Booked
-  pub credits_are : booked (later ++ past) ≡ more ++ booked past
+  pub credits_are : bookings_of (later ++ past) ≡ more ++ bookings_of past
 
 pub added-later : (later past : List Event) → Added later past
 added-later [] past = record { more_headers = []; headers_are = refl; more = []; credits_are = refl }
@@ -250,7 +250,7 @@ added-later (event.Credit session channel job nonce ntime version extranonce ∷
       more_headers = hs ++ a.more_headers;
       headers_are = ap (λ l. hs ++ l) a.headers_are ∙ sym (append_assoc hs a.more_headers (headers past));
       more = bs ++ a.more;
-      credits_are = ap (λ l. bs ++ l) a.credits_are ∙ sym (append_assoc bs a.more (booked past));
+      credits_are = ap (λ l. bs ++ l) a.credits_are ∙ sym (append_assoc bs a.more (bookings_of past));
     }
 added-later (e ∷ later) past =
     let a : Added later past = added-later later past in
@@ -263,5 +263,5 @@ credits-stay h more =
       newer_headers = a.more_headers;
       headers_are = ap headers (past-append h more) ∙ a.headers_are;
       newer = a.more;
-      credits_are = ap booked (past-append h more) ∙ a.credits_are;
+      credits_are = ap bookings_of (past-append h more) ∙ a.credits_are;
     }

@@ -13,8 +13,8 @@ use Rattle.pool_history.specs.declared.events.Kind.{Kind}
 use Rattle.pool_history.specs.declared.events.Kind.TheVariants as kind
 use Rattle.pool_history.specs.declared.settings.Rules.{Rules}
 use Rattle.pool_history.specs.Accounts.{is_account, is_empty, is_known, is_visible}
-use Rattle.pool_history.specs.Channels.{OpenChannel, account_or, channel_in, channel_moves, channels_of, class_at, class_before, named, opened, reclassed}
-use Rattle.pool_history.specs.Crediting.{booked, booking, admitted_class, is_block, reward_of}
+use Rattle.pool_history.specs.Channels.{OpenChannel, account_or, channel_in, channel_moves, channels_of, class_at, class_before, with_name, opened, with_class}
+use Rattle.pool_history.specs.Crediting.{bookings_of, booking, admitted_class, is_block, reward_of}
 use Rattle.pool_history.specs.Jobs.{FromMiner, FromTemplate, Source, jobs_of}
 use Rattle.pool_history.specs.Judging.{Admitted, Share, agree, has_account, is_standard}
 use Rattle.pool_history.specs.Conditions.{or_code}
@@ -79,12 +79,12 @@ pub or-short : (account name : List ℕ) → length account ≤ 255 → length n
 or-short [] name a b = b
 or-short (x ∷ account) name a b = a
 
-pub named-sized : (id : ℕ) (account : List ℕ) (c : OpenChannel) → length account ≤ 255 → IsSized c → IsSized (named id account c)
+pub named-sized : (id : ℕ) (account : List ℕ) (c : OpenChannel) → length account ≤ 255 → IsSized c → IsSized (with_name id account c)
 named-sized id account c short s =
     cond_both (eqb c.id id) (record c { account = account_or c.account account }) c IsSized
     (λ t. record { account = or-short c.account account s.account short; class = s.class }) (λ f. s)
 
-pub reclassed-sized : (at id class : ℕ) (c : OpenChannel) → class ≤ 60 → IsSized c → IsSized (reclassed at id class c)
+pub reclassed-sized : (at id class : ℕ) (c : OpenChannel) → class ≤ 60 → IsSized c → IsSized (with_class at id class c)
 reclassed-sized at id class c most s =
     cond_both (eqb c.id id) (record c { sets = record { at = at; class = class } ∷ c.sets }) c IsSized
     (λ t. record {
@@ -103,10 +103,10 @@ channels-sized (event.Open session k account class lead ∷ older) l =
     (record { account = opening-short o.0 k account o.1.account_said; class = λ at. class-most o.0 class o.1.in_range })
 channels-sized (event.Name session id account ∷ older) l =
     let short : length account ≤ 255 = legal-name older session id account l.1 in
-    all-map IsSized IsSized (named id account) (λ c s. named-sized id account c short s) (channels_of older) (channels-sized older l.0)
+    all-map IsSized IsSized (with_name id account) (λ c s. named-sized id account c short s) (channels_of older) (channels-sized older l.0)
 channels-sized (event.Class session id class ∷ older) l =
     let most : class ≤ 60 = legal-class older session id class l.1 in
-    all-map IsSized IsSized (reclassed (length older) id class) (λ c s. reclassed-sized (length older) id class c most s) (channels_of older) (channels-sized older l.0)
+    all-map IsSized IsSized (with_class (length older) id class) (λ c s. reclassed-sized (length older) id class c most s) (channels_of older) (channels-sized older l.0)
 channels-sized (event.Close session id ∷ older) l = all-filter IsSized (λ c. not (eqb c.id id)) (channels_of older) (channels-sized older l.0)
 channels-sized (event.Leave session ∷ older) l = all-filter IsSized (λ c. not (eqb c.session session)) (channels_of older) (channels-sized older l.0)
 channels-sized (e ∷ older) l = channels-sized older l.0
@@ -155,7 +155,7 @@ credit-fits past session channel job nonce ntime version extranonce l g =
       reward = λ reward told. block-pays (is_block g.rules.pool_script with share) (reward_of with.job.source) reward pays told;
     }
 
-pub credits-fit-past : (past : List Event) → LegalPast past → AllByRecursion BookedFits (booked past)
+pub credits-fit-past : (past : List Event) → LegalPast past → AllByRecursion BookedFits (bookings_of past)
 credits-fit-past [] l = tt
 credits-fit-past (event.Credit session channel job nonce ntime version extranonce ∷ older) l =
     let g : IsGoodCredit older session (judged_share older channel job nonce ntime version extranonce) =

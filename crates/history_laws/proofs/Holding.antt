@@ -12,7 +12,7 @@ use Rattle.pool_history.specs.declared.events.Event.TheVariants as event
 use Rattle.pool_history.specs.declared.events.Kind.{Kind}
 use Rattle.pool_history.specs.declared.events.Kind.TheVariants as kind
 use Rattle.pool_history.specs.declared.settings.Rules.{Rules}
-use Rattle.pool_history.specs.Channels.{OpenChannel, account_or, channel_in, channel_moves, channels_of, named, opened, reclassed}
+use Rattle.pool_history.specs.Channels.{OpenChannel, account_or, channel_in, channel_moves, channels_of, with_name, opened, with_class}
 use Rattle.pool_history.specs.Headers.{extranonce_prefix}
 use Rattle.pool_history.specs.Legal.{LegalPast, is_just, is_lead_length, is_next_lead}
 use Rattle.pool_history.specs.Refusing.{held_leads}
@@ -121,11 +121,11 @@ pub apart-kept : (f : OpenChannel → OpenChannel) → ((c : OpenChannel) → (f
 apart-kept f kept c d h = ap (λ l. overlap l (f d).lead) (kept c) ∙ ap (λ l. overlap c.lead l) (kept d) ∙ h
 
 -- a name and a class leave the lead
-pub named-lead : (id : ℕ) (account : List ℕ) (c : OpenChannel) → (named id account c).lead ≡ c.lead
+pub named-lead : (id : ℕ) (account : List ℕ) (c : OpenChannel) → (with_name id account c).lead ≡ c.lead
 named-lead id account c =
     cond_both (eqb c.id id) (record c { account = account_or c.account account }) c (λ d. d.lead ≡ c.lead) (λ t. refl) (λ f. refl)
 
-pub reclassed-lead : (at id class : ℕ) (c : OpenChannel) → (reclassed at id class c).lead ≡ c.lead
+pub reclassed-lead : (at id class : ℕ) (c : OpenChannel) → (with_class at id class c).lead ≡ c.lead
 reclassed-lead at id class c =
     cond_both (eqb c.id id) (record c { sets = record { at = at; class = class } ∷ c.sets }) c (λ d. d.lead ≡ c.lead) (λ t. refl) (λ f. refl)
 
@@ -189,9 +189,9 @@ channels-apart (event.Open session k account class lead ∷ older) l =
     (free-apart (channels_of older) lead (next-free older k lead o.1.next)))
     (channels-apart older l.0)
 channels-apart (event.Name session id account ∷ older) l =
-    pairwise-map IsApart (named id account) (apart-kept (named id account) (named-lead id account)) (channels_of older) (channels-apart older l.0)
+    pairwise-map IsApart (with_name id account) (apart-kept (with_name id account) (named-lead id account)) (channels_of older) (channels-apart older l.0)
 channels-apart (event.Class session id class ∷ older) l =
-    pairwise-map IsApart (reclassed (length older) id class) (apart-kept (reclassed (length older) id class) (reclassed-lead (length older) id class))
+    pairwise-map IsApart (with_class (length older) id class) (apart-kept (with_class (length older) id class) (reclassed-lead (length older) id class))
     (channels_of older) (channels-apart older l.0)
 channels-apart (event.Close session id ∷ older) l = pairwise-filter IsApart (λ c. not (eqb c.id id)) (channels_of older) (channels-apart older l.0)
 channels-apart (event.Leave session ∷ older) l = pairwise-filter IsApart (λ c. not (eqb c.session session)) (channels_of older) (channels-apart older l.0)

@@ -11,7 +11,7 @@ use Rattle.pool_history.specs.declared.events.JobState.TheVariants as state
 use Rattle.pool_history.specs.declared.templates.CustomData.{CustomData}
 use Rattle.pool_history.specs.declared.templates.TemplateData.{TemplateData}
 use Rattle.pool_history.specs.ByPlaces.{jobs_from, jobs_in}
-use Rattle.pool_history.specs.Jobs.{Came, Tipped, Brought, Job, JobMove, Source, FromTemplate, FromMiner, Standing, at_most_sixteen, has_number, is_open_to, jobs_of, last_of, moved, numbered, state_of}
+use Rattle.pool_history.specs.Jobs.{Came, Tipped, Brought, Job, JobMove, Source, FromTemplate, FromMiner, Standing, at_most_sixteen, has_number, is_open_to, jobs_of, last_of, after_move, job_numbered, state_of}
 use Rattle.pool_history.specs.Judging.{is_known_state, is_mineable}
 use Rattle.pool_history.specs.Sessions.{past_of}
 use Rattle.pool_history.proofs.PlacesOfJobs.{jobs_are_by_places}
@@ -106,7 +106,7 @@ no-later c at k n (event.Grant session account fixed path ∷ more) less = no-la
 
 -- whose the job with a number is
 abbrev Mines : ℕ → ℕ → ℕ → List Job → Type 0
-Mines c k n jobs = is_mineable c (numbered n jobs) ≡ (within k (length jobs) n && not (list_any (is_others c n) (owns jobs)))
+Mines c k n jobs = is_mineable c (job_numbered n jobs) ≡ (within k (length jobs) n && not (list_any (is_others c n) (owns jobs)))
 
 not-not-or : (b : Bool) → not (not b || false) ≡ b
 not-not-or true = refl
@@ -118,32 +118,32 @@ mines-template c k n job template jobs number source none rest = by (nat_eq k n)
   own : owns (job ∷ jobs) ≡ owns jobs
   own = ap (λ s. own_of job.number s ++ owns jobs) source
 
-  by : (b : Bool) → nat_eq k n ≡ b → is_mineable c (cond (nat_eq job.number n) (Some job) (numbered n jobs))
+  by : (b : Bool) → nat_eq k n ≡ b → is_mineable c (cond (nat_eq job.number n) (Some job) (job_numbered n jobs))
       ≡ (within k (suc (length jobs)) n && not (list_any (is_others c n) (own_of job.number job.source ++ owns jobs)))
   by true t =
       let is : k ≡ n = eqb-true k n t in
-      ap (λ m. is_mineable c (cond (nat_eq m n) (Some job) (numbered n jobs))) number ∙ ap (λ b. is_mineable c (cond b (Some job) (numbered n jobs))) t
+      ap (λ m. is_mineable c (cond (nat_eq m n) (Some job) (job_numbered n jobs))) number ∙ ap (λ b. is_mineable c (cond b (Some job) (job_numbered n jobs))) t
       ∙ ap (is_open_to c) source
       ∙ sym (ap₂ (λ a b. a && not b) (within-first k (length jobs) n t)
       (ap (λ s. list_any (is_others c n) (own_of job.number s ++ owns jobs)) source ∙ none (omega (arith, is))))
   by false f =
-      ap (λ m. is_mineable c (cond (nat_eq m n) (Some job) (numbered n jobs))) number ∙ ap (λ b. is_mineable c (cond b (Some job) (numbered n jobs))) f
+      ap (λ m. is_mineable c (cond (nat_eq m n) (Some job) (job_numbered n jobs))) number ∙ ap (λ b. is_mineable c (cond b (Some job) (job_numbered n jobs))) f
       ∙ rest ∙ ap₂ (λ a b. a && not b) (within-more k (length jobs) n f) (ap (λ s. list_any (is_others c n) (own_of job.number s ++ owns jobs)) (sym source))
 
 mines-custom : (c k n : ℕ) (job : Job) (custom : CustomData) (jobs : List Job) → job.number ≡ k → job.source ≡ FromMiner custom
     → (n < k + 1 → list_any (is_others c n) (owns jobs) ≡ false) → Mines c (k + 1) n jobs → Mines c k n (job ∷ jobs)
 mines-custom c k n job custom jobs number source none rest = by (nat_eq k n) refl where
-  by : (b : Bool) → nat_eq k n ≡ b → is_mineable c (cond (nat_eq job.number n) (Some job) (numbered n jobs))
+  by : (b : Bool) → nat_eq k n ≡ b → is_mineable c (cond (nat_eq job.number n) (Some job) (job_numbered n jobs))
       ≡ (within k (suc (length jobs)) n && not (list_any (is_others c n) (own_of job.number job.source ++ owns jobs)))
   by true t =
       let is : k ≡ n = eqb-true k n t in
-      ap (λ m. is_mineable c (cond (nat_eq m n) (Some job) (numbered n jobs))) number ∙ ap (λ b. is_mineable c (cond b (Some job) (numbered n jobs))) t
+      ap (λ m. is_mineable c (cond (nat_eq m n) (Some job) (job_numbered n jobs))) number ∙ ap (λ b. is_mineable c (cond b (Some job) (job_numbered n jobs))) t
       ∙ ap (is_open_to c) source ∙ sym (not-not-or (nat_eq custom.channel_id c))
       ∙ sym (ap₂ (λ a b. a && not b) (within-first k (length jobs) n t)
       (ap₂ (λ m s. list_any (is_others c n) (own_of m s ++ owns jobs)) number source
       ∙ ap₂ (λ a b. (a && not (nat_eq custom.channel_id c)) || b) t (none (omega (arith, is)))))
   by false f =
-      ap (λ m. is_mineable c (cond (nat_eq m n) (Some job) (numbered n jobs))) number ∙ ap (λ b. is_mineable c (cond b (Some job) (numbered n jobs))) f
+      ap (λ m. is_mineable c (cond (nat_eq m n) (Some job) (job_numbered n jobs))) number ∙ ap (λ b. is_mineable c (cond b (Some job) (job_numbered n jobs))) f
       ∙ rest ∙ ap₂ (λ a b. a && not b) (within-more k (length jobs) n f)
       (sym (ap₂ (λ m s. list_any (is_others c n) (own_of m s ++ owns jobs)) number source
       ∙ ap (λ a. (a && not (nat_eq custom.channel_id c)) || list_any (is_others c n) (owns jobs)) f))
@@ -183,10 +183,10 @@ numbers-from n count =
     (λ h. let high : n < 1 + count = ltb-true n (1 + count) h in le-leb n count (omega (arith, high)))
     (λ h. let high : n ≤ count = leb-true n count h in lt-ltb n (1 + count) (omega (arith, high))))
 
-mineable-kept : (h : List Event) (c n : ℕ) → is_mineable c (numbered n (jobs_of (past_of h)).all) ≡ is_mineable_by (kept_of (jobs_of (past_of h))) c n
+mineable-kept : (h : List Event) (c n : ℕ) → is_mineable c (job_numbered n (jobs_of (past_of h)).all) ≡ is_mineable_by (kept_of (jobs_of (past_of h))) c n
 mineable-kept h c n =
     let all : (jobs_of (past_of h)).all ≡ jobs_in h = (jobs_are_by_places h).all in
-    subst (λ jobs. is_mineable c (numbered n jobs) ≡ ((nat_le 1 n && nat_le n (length jobs)) && not (list_any (is_others c n) (owns jobs)))) (sym all)
+    subst (λ jobs. is_mineable c (job_numbered n jobs) ≡ ((nat_le 1 n && nat_le n (length jobs)) && not (list_any (is_others c n) (owns jobs)))) (sym all)
     (mines-by c 0 1 n h ∙ ap (λ b. b && not (list_any (is_others c n) (owns (jobs_in h)))) (numbers-from n (length (jobs_in h))))
 
 has-kept : (h : List Event) (n : ℕ) → has_number n (jobs_of (past_of h)).all ≡ is_number_of (kept_of (jobs_of (past_of h))) n

@@ -8,7 +8,7 @@ use Rattle.std.specs.List.{AllByRecursion}
 use Rattle.pool_history.specs.declared.events.Event.{Event}
 use Rattle.pool_history.specs.declared.events.Event.TheVariants as event
 use Rattle.pool_history.specs.Accounts.{is_empty}
-use Rattle.pool_history.specs.Channels.{OpenChannel, account_or, channel_in, channel_moves, channels_of, class_before, named, opened, reclassed}
+use Rattle.pool_history.specs.Channels.{OpenChannel, account_or, channel_in, channel_moves, channels_of, class_before, with_name, opened, with_class}
 use Rattle.pool_history.specs.Sessions.{opens, past_of}
 use Rattle.pool_history.proofs.PlacesOfClasses.{all-end, all-filter, all-map, all-weaken}
 use Rattle.history_laws.specs.Staying.{AreInOrder, ChannelsAreNumbered, ChannelsStay, IsLater}
@@ -26,11 +26,11 @@ in-order [] p = tt
 in-order (c ∷ cs) p = (p.0, in-order cs p.1)
 
 -- a name and a class leave the id
-pub named-id : (id : ℕ) (account : List ℕ) (c : OpenChannel) → (named id account c).id ≡ c.id
+pub named-id : (id : ℕ) (account : List ℕ) (c : OpenChannel) → (with_name id account c).id ≡ c.id
 named-id id account c =
     cond_both (eqb c.id id) (record c { account = account_or c.account account }) c (λ d. d.id ≡ c.id) (λ t. refl) (λ f. refl)
 
-pub reclassed-id : (at id class : ℕ) (c : OpenChannel) → (reclassed at id class c).id ≡ c.id
+pub reclassed-id : (at id class : ℕ) (c : OpenChannel) → (with_class at id class c).id ≡ c.id
 reclassed-id at id class c =
     cond_both (eqb c.id id) (record c { sets = record { at = at; class = class } ∷ c.sets }) c (λ d. d.id ≡ c.id) (λ t. refl) (λ f. refl)
 
@@ -67,10 +67,10 @@ channels-numbered (event.Open session k account class lead ∷ older) =
           (all-weaken (λ c. c.id ≤ opens older) (λ c. c.id ≤ opens older + 1) (λ c h. omega (arith, h)) (channels_of older) n.most) (omega (arith, many));
     }
 channels-numbered (event.Name session id account ∷ older) =
-    let m = numbered-mapped older (named id account) (named-id id account) (channels-numbered older) in
+    let m = numbered-mapped older (with_name id account) (named-id id account) (channels-numbered older) in
     record { below = m.0; most = m.1 }
 channels-numbered (event.Class session id class ∷ older) =
-    let m = numbered-mapped older (reclassed (length older) id class) (reclassed-id (length older) id class) (channels-numbered older) in
+    let m = numbered-mapped older (with_class (length older) id class) (reclassed-id (length older) id class) (channels-numbered older) in
     record { below = m.0; most = m.1 }
 channels-numbered (event.Close session id ∷ older) =
     let n : Numbered older = channels-numbered older in
@@ -162,7 +162,7 @@ pub account-stays : (account name : List ℕ) → is_empty account ≡ false →
 account-stays [] name h = absurd (false≢true (sym h))
 account-stays (x ∷ account) name h = refl
 
-pub later-named : (place id : ℕ) (account : List ℕ) (c : OpenChannel) → IsLater place c (named id account c)
+pub later-named : (place id : ℕ) (account : List ℕ) (c : OpenChannel) → IsLater place c (with_name id account c)
 later-named place id account c =
     cond_both (eqb c.id id) (record c { account = account_or c.account account }) c (IsLater place c)
     (λ t. record {
@@ -174,7 +174,7 @@ later-named place id account c =
       class = λ at h. refl;
     }) (λ f. later-self place c)
 
-pub later-reclassed : (place id class : ℕ) (c : OpenChannel) → IsLater place c (reclassed place id class c)
+pub later-reclassed : (place id class : ℕ) (c : OpenChannel) → IsLater place c (with_class place id class c)
 later-reclassed place id class c =
     cond_both (eqb c.id id) (record c { sets = record { at = place; class = class } ∷ c.sets }) c (IsLater place c)
     (λ t. record {
@@ -209,12 +209,12 @@ one-before (event.Open session k account class lead) older id after few found =
           let other : eqb new.id id ≡ false = ne_eqb new.id id (λ same. omega (arith, same, is, many, few)) in
           absurd (none-some (sym (ap (λ b. cond b (Some new) None) other) ∙ here))
 one-before (event.Name session channel account) older id after few found =
-    let m : FoundMapped (λ c. eqb c.id id) (named channel account) (channels_of older) after =
-    find-map (λ c. eqb c.id id) (named channel account) (λ c. ap (λ n. eqb n id) (named-id channel account c)) (channels_of older) after found in
+    let m : FoundMapped (λ c. eqb c.id id) (with_name channel account) (channels_of older) after =
+    find-map (λ c. eqb c.id id) (with_name channel account) (λ c. ap (λ n. eqb n id) (named-id channel account c)) (channels_of older) after found in
     record { channel = m.from; found = m.found; later = subst (IsLater (length older) m.from) (sym m.is) (later-named (length older) channel account m.from) }
 one-before (event.Class session channel class) older id after few found =
-    let m : FoundMapped (λ c. eqb c.id id) (reclassed (length older) channel class) (channels_of older) after =
-    find-map (λ c. eqb c.id id) (reclassed (length older) channel class) (λ c. ap (λ n. eqb n id) (reclassed-id (length older) channel class c)) (channels_of older) after found in
+    let m : FoundMapped (λ c. eqb c.id id) (with_class (length older) channel class) (channels_of older) after =
+    find-map (λ c. eqb c.id id) (with_class (length older) channel class) (λ c. ap (λ n. eqb n id) (reclassed-id (length older) channel class c)) (channels_of older) after found in
     record { channel = m.from; found = m.found; later = subst (IsLater (length older) m.from) (sym m.is) (later-reclassed (length older) channel class m.from) }
 one-before (event.Close session channel) older id after few found =
     before-same older id after (find-filter id (λ c. not (eqb c.id channel)) (channels_of older) after (channels-numbered older).below found)

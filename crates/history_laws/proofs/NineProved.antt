@@ -21,7 +21,7 @@ use Rattle.pool_history.specs.Channels.{OpenChannel, channel_in, channels_of}
 use Rattle.pool_history.specs.Conditions.{first_false, found, or_code, provided}
 use Rattle.pool_history.specs.Crediting.{admitted_class, first_failed, headers, last_failed}
 use Rattle.pool_history.specs.Headers.{rolled}
-use Rattle.pool_history.specs.Jobs.{Job, Standing, has_number, is_open_to, is_own, job_moves, jobs_of, live_job, numbered, state_of}
+use Rattle.pool_history.specs.Jobs.{Job, Standing, has_number, is_open_to, is_own, job_moves, jobs_of, live_job, job_numbered, state_of}
 use Rattle.pool_history.specs.Judging.{Admitted, Share, admitted, agree, has_account, is_in_time, is_known_job, is_known_state, is_mineable, is_standard, is_version, min_ntime_of, outside, rebuilt, rolling_mask, serves, version_of}
 use Rattle.pool_history.specs.Sessions.{credits, past_of}
 use Rattle.pool_history.proofs.PlacesOfClasses.{classes_are_by_places}
@@ -101,23 +101,23 @@ mineable-some c (Some job) m = (job, refl, m)
 known-mineable : (h : List Event) (share : Share) → is_known_job (jobs_of (past_of h)) share ≡ true → IsMineable h share
 known-mineable h share k =
     let s : Standing = jobs_of (past_of h) in
-    let a = and_parts (is_known_state (state_of s share.job)) (is_mineable share.channel (numbered share.job s.all)) k in
+    let a = and_parts (is_known_state (state_of s share.job)) (is_mineable share.channel (job_numbered share.job s.all)) k in
     let n = known-not h share.job (state_of s share.job) (states_are_by_places h share.job) a.0 in
-    let m = mineable-some share.channel (numbered share.job s.all) a.1 in
+    let m = mineable-some share.channel (job_numbered share.job s.all) a.1 in
     record {
       not_unknown = n.0;
       not_future = n.1;
       job = m.0;
-      is_job = ap (numbered share.job) (sym (jobs_are_by_places h).all) ∙ m.1;
+      is_job = ap (job_numbered share.job) (sym (jobs_are_by_places h).all) ∙ m.1;
       not_others = m.2;
     }
 
 mineable-known : (h : List Event) (share : Share) → IsMineable h share → is_known_job (jobs_of (past_of h)) share ≡ true
 mineable-known h share m =
     let s : Standing = jobs_of (past_of h) in
-    and_from (is_known_state (state_of s share.job)) (is_mineable share.channel (numbered share.job s.all))
+    and_from (is_known_state (state_of s share.job)) (is_mineable share.channel (job_numbered share.job s.all))
     (not-known h share.job (state_of s share.job) (states_are_by_places h share.job) m.not_unknown m.not_future)
-    (ap (is_mineable share.channel) (ap (numbered share.job) (jobs_are_by_places h).all ∙ m.is_job) ∙ m.not_others)
+    (ap (is_mineable share.channel) (ap (job_numbered share.job) (jobs_are_by_places h).all ∙ m.is_job) ∙ m.not_others)
 
 -- fourth
 find-any : {X : Type 0} (p : X → Bool) (xs : List X) (x : X) → find p xs ≡ Some x → list_any p xs ≡ true

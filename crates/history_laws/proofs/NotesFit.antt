@@ -170,11 +170,11 @@ credit-fits rules past told session channel job nonce ntime version extranonce l
     find-in (λ j. eqb j.number job) ((jobs_of past).live ++ (jobs_of past).custom) with.job (booked-job past channel job with is) in
     let fits : TemplateFits rules.pool_script with.job.source ⊎ IsMiners with.job.source =
     alive-fits rules.pool_script (jobs_of past) with.job (jobs-fit past rules l are) alive in
-    let booked : Share = credit_share with channel job nonce ntime version extranonce in
+    let credited : Share = credit_share with channel job nonce ntime version extranonce in
     subst (λ r. AllByRecursion NoteFits (flat_map (λ notes. notes)
     (listed (λ w. solution_notes rules.pool_script told (credit_share w channel job nonce ntime version extranonce) w) r))) (sym is)
-    (all-append NoteFits (solution_notes rules.pool_script told booked with) []
-    (solution-fits rules.pool_script told booked with with.job.source fits refl
+    (all-append NoteFits (solution_notes rules.pool_script told credited with) []
+    (solution-fits rules.pool_script told credited with with.job.source fits refl
     (twelve-bytes with.channel.kind with.channel.lead extranonce lead rolls)) tt)
 
 -- what is owed for an event

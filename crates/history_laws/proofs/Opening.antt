@@ -11,7 +11,7 @@ use Rattle.pool_history.specs.declared.events.Event.{Event}
 use Rattle.pool_history.specs.declared.events.Event.TheVariants as event
 use Rattle.pool_history.specs.declared.events.Kind.{Kind}
 use Rattle.pool_history.specs.ByPlaces.{opens_in, sets_from}
-use Rattle.pool_history.specs.Channels.{ClassSet, OpenChannel, account_or, channels_of, named, reclassed}
+use Rattle.pool_history.specs.Channels.{ClassSet, OpenChannel, account_or, channels_of, with_name, with_class}
 use Rattle.pool_history.specs.Sessions.{opens, past_of}
 use Rattle.pool_history.proofs.PlacesOfClasses.{sets_from-snoc, opens_in-snoc}
 use Rattle.history_laws.specs.OneMore.{channels_after}
@@ -37,8 +37,8 @@ opened_as at opened session kind account class lead more = record {
 
 -- what one more event does to open channels, but for opening one
 abbrev pub changed : ℕ → Event → List OpenChannel → List OpenChannel
-changed at (event.Name session channel account) cs = map (named channel account) cs
-changed at (event.Class session channel class) cs = map (reclassed at channel class) cs
+changed at (event.Name session channel account) cs = map (with_name channel account) cs
+changed at (event.Class session channel class) cs = map (with_class at channel class) cs
 changed at (event.Close session channel) cs = filter (λ c. not (eqb c.id channel)) cs
 changed at (event.Leave session) cs = filter (λ c. not (eqb c.session session)) cs
 changed at e cs = cs
@@ -51,8 +51,8 @@ opened_by opened e = []
 
 pub after-parts : (at opened : ℕ) (e : Event) (cs : List OpenChannel) → channels_after at opened e cs ≡ changed at e cs ++ opened_by opened e
 after-parts at opened (event.Open session kind account class lead) cs = refl
-after-parts at opened (event.Name session channel account) cs = sym (append-nil (map (named channel account) cs))
-after-parts at opened (event.Class session channel class) cs = sym (append-nil (map (reclassed at channel class) cs))
+after-parts at opened (event.Name session channel account) cs = sym (append-nil (map (with_name channel account) cs))
+after-parts at opened (event.Class session channel class) cs = sym (append-nil (map (with_class at channel class) cs))
 after-parts at opened (event.Close session channel) cs = sym (append-nil (filter (λ c. not (eqb c.id channel)) cs))
 after-parts at opened (event.Leave session) cs = sym (append-nil (filter (λ c. not (eqb c.session session)) cs))
 after-parts at opened e cs = sym (append-nil cs)
@@ -62,8 +62,8 @@ changed-nil at (event.Name session channel account) = refl
 changed-nil at e = refl
 
 pub changed-append : (at : ℕ) (e : Event) (cs ds : List OpenChannel) → changed at e (cs ++ ds) ≡ changed at e cs ++ changed at e ds
-changed-append at (event.Name session channel account) cs ds = map-append (named channel account) cs ds
-changed-append at (event.Class session channel class) cs ds = map-append (reclassed at channel class) cs ds
+changed-append at (event.Name session channel account) cs ds = map-append (with_name channel account) cs ds
+changed-append at (event.Class session channel class) cs ds = map-append (with_class at channel class) cs ds
 changed-append at (event.Close session channel) cs ds = filter-append (λ c. not (eqb c.id channel)) cs ds
 changed-append at (event.Leave session) cs ds = filter-append (λ c. not (eqb c.session session)) cs ds
 changed-append at e cs ds = refl

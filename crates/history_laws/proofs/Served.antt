@@ -9,7 +9,7 @@ use Rattle.pool_history.specs.declared.events.Kind.{Kind}
 use Rattle.pool_history.specs.declared.events.Kind.TheVariants as kind
 use Rattle.pool_history.specs.declared.settings.Rules.{Rules}
 use Rattle.pool_history.specs.Accounts.{is_empty}
-use Rattle.pool_history.specs.Channels.{OpenChannel, account_or, channel_moves, channels_of, named, opened, reclassed}
+use Rattle.pool_history.specs.Channels.{OpenChannel, account_or, channel_moves, channels_of, with_name, opened, with_class}
 use Rattle.pool_history.specs.Legal.{LegalPast, is_opening_account}
 use Rattle.pool_history.specs.Refusing.{own_channel}
 use Rattle.pool_history.proofs.PlacesOfClasses.{all-end, all-filter, all-map}
@@ -33,11 +33,11 @@ pub or-empty : (account name : List ℕ) → is_empty (account_or account name) 
 or-empty [] name h = refl
 or-empty (x ∷ account) name h = h
 
-pub named-served : (id : ℕ) (account : List ℕ) (c : OpenChannel) → IsServed c → IsServed (named id account c)
+pub named-served : (id : ℕ) (account : List ℕ) (c : OpenChannel) → IsServed c → IsServed (with_name id account c)
 named-served id account c s =
     cond_both (eqb c.id id) (record c { account = account_or c.account account }) c IsServed (λ t. λ e. s (or-empty c.account account e)) (λ f. s)
 
-pub reclassed-served : (at id class : ℕ) (c : OpenChannel) → IsServed c → IsServed (reclassed at id class c)
+pub reclassed-served : (at id class : ℕ) (c : OpenChannel) → IsServed c → IsServed (with_class at id class c)
 reclassed-served at id class c s =
     cond_both (eqb c.id id) (record c { sets = record { at = at; class = class } ∷ c.sets }) c IsServed (λ t. s) (λ f. s)
 
@@ -49,9 +49,9 @@ channels-served (event.Open session k account class lead ∷ older) l =
     (record { id = opened (channel_moves older) + 1; session = session; kind = k; account = account; lead = lead; opening_class = class; sets = [] })
     (channels-served older l.0) (opening-served o.0 k account o.1.account_said)
 channels-served (event.Name session id account ∷ older) l =
-    all-map IsServed IsServed (named id account) (named-served id account) (channels_of older) (channels-served older l.0)
+    all-map IsServed IsServed (with_name id account) (named-served id account) (channels_of older) (channels-served older l.0)
 channels-served (event.Class session id class ∷ older) l =
-    all-map IsServed IsServed (reclassed (length older) id class) (reclassed-served (length older) id class) (channels_of older) (channels-served older l.0)
+    all-map IsServed IsServed (with_class (length older) id class) (reclassed-served (length older) id class) (channels_of older) (channels-served older l.0)
 channels-served (event.Close session id ∷ older) l = all-filter IsServed (λ c. not (eqb c.id id)) (channels_of older) (channels-served older l.0)
 channels-served (event.Leave session ∷ older) l = all-filter IsServed (λ c. not (eqb c.session session)) (channels_of older) (channels-served older l.0)
 channels-served (e ∷ older) l = channels-served older l.0

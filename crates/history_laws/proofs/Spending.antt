@@ -9,7 +9,7 @@ use Rattle.pool_history.specs.declared.events.Event.{Event}
 use Rattle.pool_history.specs.declared.events.Event.TheVariants as event
 use Rattle.pool_history.specs.declared.events.Kind.{Kind}
 use Rattle.pool_history.specs.declared.settings.Rules.{Rules}
-use Rattle.pool_history.specs.Channels.{OpenChannel, account_or, channel_moves, channels_of, named, opened, reclassed}
+use Rattle.pool_history.specs.Channels.{OpenChannel, account_or, channel_moves, channels_of, with_name, opened, with_class}
 use Rattle.pool_history.specs.Jobs.{FromTemplate, Job, Standing, jobs_of, with_template}
 use Rattle.pool_history.specs.Legal.{LegalPast, cause_of}
 use Rattle.pool_history.specs.Refusing.{has_too_many, is_spent, most_channels, most_opens, open_count}
@@ -58,11 +58,11 @@ count-cons session c cs =
     (λ t. rw t (omega arith)) (λ f. rw f (omega arith))
 
 -- a name and a class leave the session
-pub named-session : (id : ℕ) (account : List ℕ) (c : OpenChannel) → (named id account c).session ≡ c.session
+pub named-session : (id : ℕ) (account : List ℕ) (c : OpenChannel) → (with_name id account c).session ≡ c.session
 named-session id account c =
     cond_both (eqb c.id id) (record c { account = account_or c.account account }) c (λ d. d.session ≡ c.session) (λ t. refl) (λ f. refl)
 
-pub reclassed-session : (at id class : ℕ) (c : OpenChannel) → (reclassed at id class c).session ≡ c.session
+pub reclassed-session : (at id class : ℕ) (c : OpenChannel) → (with_class at id class c).session ≡ c.session
 reclassed-session at id class c =
     cond_both (eqb c.id id) (record c { sets = record { at = at; class = class } ∷ c.sets }) c (λ d. d.session ≡ c.session) (λ t. refl) (λ f. refl)
 
@@ -117,13 +117,13 @@ open-most (event.Open opener k account class lead ∷ older) l session =
     (λ same. let f : open_count older opener < most_channels = opener-few older opener k account class lead l.1 in subst (λ s. open_count older s < most_channels) same f) in
     omega (arith, grown, few)
 open-most (event.Name s id account ∷ older) l session =
-    let same : count_of session (map (named id account) (channels_of older)) ≡ count_of session (channels_of older) =
-    count-map session (named id account) (named-session id account) (channels_of older) in
+    let same : count_of session (map (with_name id account) (channels_of older)) ≡ count_of session (channels_of older) =
+    count-map session (with_name id account) (named-session id account) (channels_of older) in
     let few : open_count older session ≤ most_channels = open-most older l.0 session in
     omega (arith, same, few)
 open-most (event.Class s id class ∷ older) l session =
-    let same : count_of session (map (reclassed (length older) id class) (channels_of older)) ≡ count_of session (channels_of older) =
-    count-map session (reclassed (length older) id class) (reclassed-session (length older) id class) (channels_of older) in
+    let same : count_of session (map (with_class (length older) id class) (channels_of older)) ≡ count_of session (channels_of older) =
+    count-map session (with_class (length older) id class) (reclassed-session (length older) id class) (channels_of older) in
     let few : open_count older session ≤ most_channels = open-most older l.0 session in
     omega (arith, same, few)
 open-most (event.Close s id ∷ older) l session =

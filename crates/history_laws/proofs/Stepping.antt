@@ -5,7 +5,7 @@ use Rattle.std.proofs.lemmas.List.{length-reverse}
 use Rattle.pool_history.specs.declared.events.Event.{Event}
 use Rattle.pool_history.specs.declared.events.Event.TheVariants as event
 use Rattle.pool_history.specs.Channels.{channel_moves, channels_of, opened}
-use Rattle.pool_history.specs.Crediting.{booked, headers}
+use Rattle.pool_history.specs.Crediting.{bookings_of, headers}
 use Rattle.pool_history.specs.Jobs.{jobs_of}
 use Rattle.pool_history.specs.Refusing.{grant_of, is_spent}
 use Rattle.pool_history.specs.Sessions.{enters, entrance, grants, opens, past_of, present, rules_of, script_of}
@@ -111,16 +111,16 @@ headers-one_more h e script standing channels seen s is =
     ∙ ap (headers_after script standing channels e) is
 
 -- credits
-pub booked-cons : (e : Event) (past : List Event) → booked (e ∷ past) ≡ booked_after (script_of past) (jobs_of past) (channels_of past) e (booked past)
+pub booked-cons : (e : Event) (past : List Event) → bookings_of (e ∷ past) ≡ booked_after (script_of past) (jobs_of past) (channels_of past) e (bookings_of past)
 booked-cons (event.Credit session channel job nonce ntime version extranonce) past = refl
 booked-cons e past = refl
 
 pub credits-one_more : CreditsOneMore
 credits-one_more h e script standing channels seen s is =
-    ap booked (past-one h e) ∙ booked-cons e (past_of h)
-    ∙ ap (λ x. booked_after x (jobs_of (past_of h)) (channels_of (past_of h)) e (booked (past_of h))) s.script_is
-    ∙ ap (λ x. booked_after script x (channels_of (past_of h)) e (booked (past_of h))) s.jobs_are
-    ∙ ap (λ x. booked_after script standing x e (booked (past_of h))) s.channels_are
+    ap bookings_of (past-one h e) ∙ booked-cons e (past_of h)
+    ∙ ap (λ x. booked_after x (jobs_of (past_of h)) (channels_of (past_of h)) e (bookings_of (past_of h))) s.script_is
+    ∙ ap (λ x. booked_after script x (channels_of (past_of h)) e (bookings_of (past_of h))) s.jobs_are
+    ∙ ap (λ x. booked_after script standing x e (bookings_of (past_of h))) s.channels_are
     ∙ ap (booked_after script standing channels e) is
 
 -- grants

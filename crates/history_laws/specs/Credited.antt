@@ -8,7 +8,7 @@ use Rattle.pool_history.specs.declared.events.Event.TheVariants as event
 use Rattle.pool_history.specs.declared.settings.Rules.{Rules}
 use Rattle.pool_history.specs.Accounts.{are_distinct}
 use Rattle.pool_history.specs.Channels.{channel_in, channels_of}
-use Rattle.pool_history.specs.Crediting.{Booked, booked, booked_with, booking, admitted_class, headers}
+use Rattle.pool_history.specs.Crediting.{Booked, bookings_of, booked_with, booking, admitted_class, headers}
 use Rattle.pool_history.specs.Judging.{Admitted, Share, admitted, rebuilt}
 use Rattle.pool_history.specs.Legal.{Legal, is_standard_in}
 use Rattle.pool_history.specs.Sessions.{credits, past_of, rules_of}
@@ -39,8 +39,8 @@ pub record IsBookedAfter (history : List Event) (session : ℕ) (share : Share)
       (meets (dsha (rebuilt rules.pool_script with share)) (admitted_class with))
   pub header : headers (past_of (history ++ credit ∷ []))
       ≡ rebuilt rules.pool_script with share ∷ headers (past_of history)
-  pub counts : booked (past_of (history ++ credit ∷ []))
-      ≡ booking rules.pool_script share with ∷ booked (past_of history)
+  pub counts : bookings_of (past_of (history ++ credit ∷ []))
+      ≡ booking rules.pool_script share with ∷ bookings_of (past_of history)
 
 -- so each credit of a legal history was
 abbrev pub CreditsAreBooked : Type 0
@@ -70,7 +70,7 @@ CreditsHaveHeaders =
 -- twice: a share is credited once
 pub record AreCounted (history : List Event) : Type 0 where
   pub headers_counted : length (headers (past_of history)) ≡ credits (past_of history)
-  pub credits_counted : length (booked (past_of history)) ≡ credits (past_of history)
+  pub credits_counted : length (bookings_of (past_of history)) ≡ credits (past_of history)
   pub distinct : IsTrue (are_distinct (headers (past_of history)))
 
 -- so they are in each legal history
@@ -89,4 +89,5 @@ pub record BookedFits (credit : Booked) : Type 0 where
 -- so it is of each credit of a legal history
 abbrev pub CreditsFit : Type 0
 CreditsFit =
-    (history : List Event) → Legal history → AllByRecursion BookedFits (booked (past_of history))
+    (history : List Event) → Legal history
+    → AllByRecursion BookedFits (bookings_of (past_of history))

@@ -9,7 +9,7 @@ use Rattle.pool_history.specs.declared.events.JobState.{JobState}
 use Rattle.pool_history.specs.declared.events.JobState.TheVariants.{Unknown, Future, Live, Stale}
 use Rattle.pool_history.specs.declared.templates.TemplateData.{TemplateData}
 use Rattle.pool_history.specs.declared.templates.TipData.{TipData}
-use Rattle.pool_history.specs.Jobs.{Came, Tipped, Brought, Job, JobMove, Source, FromTemplate, FromMiner, Standing, at_most_sixteen, future_in, has_number, jobs_of, last, last_of, made_live, moved, numbered, state_of}
+use Rattle.pool_history.specs.Jobs.{Came, Tipped, Brought, Job, JobMove, Source, FromTemplate, FromMiner, Standing, at_most_sixteen, future_in, has_number, jobs_of, last, last_of, made_live, after_move, job_numbered, state_of}
 use Rattle.pool_history.specs.Judging.{Share, is_known_job, is_known_state, is_mineable}
 use Rattle.pool_history.specs.Sessions.{past_of}
 
@@ -82,7 +82,7 @@ kept_after (Brought at custom) kept = record kept {
 abbrev pub KeptJobsMove : Type 0
 KeptJobsMove =
     (move : JobMove) (standing : Standing)
-    → kept_of (moved move standing) ≡ kept_after move (kept_of standing)
+    → kept_of (after_move move standing) ≡ kept_after move (kept_of standing)
 
 -- a number is that of a job
 abbrev pub is_number_of : KeptJobs → ℕ → Bool
@@ -110,7 +110,7 @@ is_mineable_by kept channel number =
 pub record ReadsTheKept (history : List Event) (standing : Standing) : Type 0 where
   pub state : (number : ℕ) → state_of standing number ≡ state_by (kept_of standing) number
   pub mineable : (channel number : ℕ)
-      → is_mineable channel (numbered number standing.all)
+      → is_mineable channel (job_numbered number standing.all)
       ≡ is_mineable_by (kept_of standing) channel number
   pub known : (share : Share)
       → is_known_job standing share

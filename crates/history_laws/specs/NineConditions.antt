@@ -19,7 +19,7 @@ use Rattle.pool_history.specs.ByPlaces.{IsState, class_at_place, jobs_in, tip_in
 use Rattle.pool_history.specs.Channels.{OpenChannel, channel_in}
 use Rattle.pool_history.specs.Crediting.{booked_with, credit_share, first_failed, headers}
 use Rattle.pool_history.specs.Headers.{rolled}
-use Rattle.pool_history.specs.Jobs.{Job, is_open_to, jobs_of, live_job, numbered}
+use Rattle.pool_history.specs.Jobs.{Job, is_open_to, jobs_of, live_job, job_numbered}
 use Rattle.pool_history.specs.Judging.{Admitted, Share, is_standard, min_ntime_of, outside, rebuilt, rolling_mask, version_of}
 use Rattle.pool_history.specs.Sessions.{credits, past_of, script_of}
 use Rattle.history_laws.specs.Places.{channels_from}
@@ -57,7 +57,7 @@ pub record IsMineable (history : List Event) (share : Share) : Type 0 where
   pub not_unknown : ¬ IsState state.Unknown history share.job
   pub not_future : ¬ IsState state.Future history share.job
   pub job : Job
-  pub is_job : numbered share.job (jobs_in history) ≡ Some job
+  pub is_job : job_numbered share.job (jobs_in history) ≡ Some job
   pub not_others : is_open_to share.channel job.source ≡ true
 
 -- fourth: the job is live, over a tip

@@ -6,9 +6,9 @@ use Rattle.std.specs.Str.{bytes_eq}
 use Rattle.pool_history.specs.declared.events.Event.{Event}
 use Rattle.pool_history.specs.declared.events.Event.TheVariants as event
 use Rattle.pool_history.specs.declared.settings.Rules.{Rules}
-use Rattle.pool_history.specs.Channels.{OpenChannel, channel_in, channels_of, named, reclassed}
-use Rattle.pool_history.specs.Crediting.{Booked, booked, booking, credit_share, headers, listed}
-use Rattle.pool_history.specs.Jobs.{Came, Tipped, Brought, Standing, jobs_of, live_job, moved}
+use Rattle.pool_history.specs.Channels.{OpenChannel, channel_in, channels_of, with_name, with_class}
+use Rattle.pool_history.specs.Crediting.{Booked, bookings_of, booking, credit_share, headers, listed}
+use Rattle.pool_history.specs.Jobs.{Came, Tipped, Brought, Standing, jobs_of, live_job, after_move}
 use Rattle.pool_history.specs.Judging.{Admitted, rebuilt}
 use Rattle.pool_history.specs.Refusing.{Granted, grant_of, is_spent, token_of}
 use Rattle.pool_history.specs.Sessions.{Entrance, credits, enters, entrance, grants, opens, past_of, present, rules_of, script_of, templates, unless_left}
@@ -93,9 +93,9 @@ EntrancesOneMore =
 
 -- the jobs: a template, a tip or a miner's own job moves them, at its place
 abbrev pub jobs_after : ℕ → Event → Standing → Standing
-jobs_after at (event.Template session template) seen = moved (Came at session template) seen
-jobs_after at (event.Tip session tip) seen = moved (Tipped at tip) seen
-jobs_after at (event.Custom session custom) seen = moved (Brought at custom) seen
+jobs_after at (event.Template session template) seen = after_move (Came at session template) seen
+jobs_after at (event.Tip session tip) seen = after_move (Tipped at tip) seen
+jobs_after at (event.Custom session custom) seen = after_move (Brought at custom) seen
 jobs_after at event seen = seen
 
 -- the jobs after one more event
@@ -118,9 +118,9 @@ channels_after at opened (event.Open session kind account class lead) seen =
       sets = [];
     } ∷ []
 channels_after at opened (event.Name session channel account) seen =
-    map (named channel account) seen
+    map (with_name channel account) seen
 channels_after at opened (event.Class session channel class) seen =
-    map (reclassed at channel class) seen
+    map (with_class at channel class) seen
 channels_after at opened (event.Close session channel) seen =
     filter (λ c. not (c.id == channel)) seen
 channels_after at opened (event.Leave session) seen = filter (λ c. not (c.session == session)) seen
@@ -180,8 +180,9 @@ abbrev pub CreditsOneMore : Type 0
 CreditsOneMore =
     (history : List Event) (event : Event) (script : List ℕ) (standing : Standing)
     (channels : List OpenChannel) (seen : List Booked)
-    → Shows history script standing channels → booked (past_of history) ≡ seen
-    → booked (past_of (history ++ event ∷ [])) ≡ booked_after script standing channels event seen
+    → Shows history script standing channels → bookings_of (past_of history) ≡ seen
+    → bookings_of (past_of (history ++ event ∷ []))
+    ≡ booked_after script standing channels event seen
 
 -- what was granted for a token: a Grant's number is one more than the number of those before
 abbrev pub grant_after : Event → ℕ → List ℕ → Option Granted → Option Granted

@@ -4,7 +4,7 @@ use Rattle.std.specs.List.{AllByRecursion}
 use Rattle.pool_history.specs.declared.events.Event.{Event}
 use Rattle.pool_history.specs.Accounts.{is_empty}
 use Rattle.pool_history.specs.Channels.{OpenChannel, channel_in, channels_of, class_at}
-use Rattle.pool_history.specs.Crediting.{Booked, booked, headers}
+use Rattle.pool_history.specs.Crediting.{Booked, bookings_of, headers}
 use Rattle.pool_history.specs.Jobs.{Job, jobs_of, live_job}
 use Rattle.pool_history.specs.Sessions.{opens, past_of}
 
@@ -66,7 +66,7 @@ pub record CreditsStand (history more : List Event) : Type 0 where
   pub newer_headers : List (List ℕ)
   pub headers_are : headers (past_of (history ++ more)) ≡ newer_headers ++ headers (past_of history)
   pub newer : List Booked
-  pub credits_are : booked (past_of (history ++ more)) ≡ newer ++ booked (past_of history)
+  pub credits_are : bookings_of (past_of (history ++ more)) ≡ newer ++ bookings_of (past_of history)
 
 -- so it is however a history grows
 abbrev pub CreditsStay : Type 0

@@ -14,7 +14,7 @@ use Rattle.pool_history.specs.declared.refusals.Failed.TheVariants as failed
 use Rattle.pool_history.specs.declared.replies.Reply.TheVariants as reply
 use Rattle.pool_history.specs.declared.telling.Note.TheVariants as note
 use Rattle.pool_history.specs.Answering.{committing, with_event}
-use Rattle.pool_history.specs.Crediting.{booked, headers}
+use Rattle.pool_history.specs.Crediting.{bookings_of, headers}
 use Rattle.pool_history.specs.Judging.{admitted}
 use Rattle.pool_history.specs.Ledger.{ledger_text, record_of}
 use Rattle.pool_history.specs.Legal.{Legal, cause_of}
@@ -57,7 +57,7 @@ unfolding sha256 digest_bytes hash_after compress rounds schedule first_words co
 hash_of_header = refl
 
 -- it is one credit of work 1, and a block with the whole reward of its template
-pub booked_of_session : booked (past_of session) ≡ record { account = 0x61 ∷ []; work = 1; reward = Some 1000 } ∷ []
+pub booked_of_session : bookings_of (past_of session) ≡ record { account = 0x61 ∷ []; work = 1; reward = Some 1000 } ∷ []
 unfolding sha256 digest_bytes hash_after compress rounds schedule first_words compact
 booked_of_session = refl
 
@@ -126,7 +126,7 @@ unfolding sha256 digest_bytes hash_after compress rounds schedule first_words co
 cause_of-share_too_many = refl
 
 -- the same share under a tip whose target is zero is a credit and no block
-pub booked_without_block : booked (credits ∷ event.Tip 0 (record (tip_of 5 0x11) { target = replicate 32 0 }) ∷ templated)
+pub booked_without_block : bookings_of (credits ∷ event.Tip 0 (record (tip_of 5 0x11) { target = replicate 32 0 }) ∷ templated)
     ≡ record { account = 0x61 ∷ []; work = 1; reward = None } ∷ []
 unfolding sha256 digest_bytes hash_after compress rounds schedule first_words compact
 booked_without_block = refl

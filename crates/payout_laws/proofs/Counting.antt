@@ -6,7 +6,7 @@ use Rattle.std.proofs.lemmas.List.Sums.{sum_by-cons}
 use Rattle.pool_history.specs.declared.events.Event.{Event}
 use Rattle.pool_history.specs.declared.settings.Rules.{Rules}
 use Rattle.pool_history.specs.Accounts.{are_distinct}
-use Rattle.pool_history.specs.Crediting.{Booked, booked}
+use Rattle.pool_history.specs.Crediting.{Booked, bookings_of}
 use Rattle.pool_history.specs.Legal.{LegalPast}
 use Rattle.pool_history.specs.Sessions.{past_of, rules_of}
 use Rattle.pool_history.specs.Settling.{Settled, accounts_of, balance, fee_of, paid_to, parts_in_block, settled_at, settlement, settlements}
@@ -138,24 +138,24 @@ all_shared window basis_points accounts credits each =
 -- of a legal history
 abbrev pub AreShared : List Event → List Settled → Type 0
 AreShared past settled =
-    sum_by (λ sums. sums.balance) (map (sums_of (booked past) settled) (accounts_of (booked past))) + sum_by (λ settled. settled.pool) settled
-    ≡ sum_by (λ block. block.reward) (blocks_of (booked past))
+    sum_by (λ sums. sums.balance) (map (sums_of (bookings_of past) settled) (accounts_of (bookings_of past))) + sum_by (λ settled. settled.pool) settled
+    ≡ sum_by (λ block. block.reward) (blocks_of (bookings_of past))
 
 shared_by : (past : List Event) (rules : Rules) → LegalPast past → rules_of past ≡ Some rules
-    → AreShared past (settlements rules.window rules.fee (booked past))
+    → AreShared past (settlements rules.window rules.fee (bookings_of past))
 shared_by past rules legal is =
     let pays : PaysFrom rules = pays_from rules (rules-in_range past rules legal is) in
-    let settled : List Settled = settlements rules.window rules.fee (booked past) in
-    ap (λ n. n + sum_by (λ settled. settled.pool) settled) (sum_by-map (λ sums. sums.balance) (sums_of (booked past) settled) (accounts_of (booked past)))
-    ∙ all_shared rules.window rules.fee (accounts_of (booked past)) (booked past)
-    (blocks_shared rules.window rules.fee (accounts_of (booked past)) (booked past) pays.fee pays.room (distinct-accounts_of (booked past))
-    (booked-has_work past) (among-accounts_of (booked past)))
+    let settled : List Settled = settlements rules.window rules.fee (bookings_of past) in
+    ap (λ n. n + sum_by (λ settled. settled.pool) settled) (sum_by-map (λ sums. sums.balance) (sums_of (bookings_of past) settled) (accounts_of (bookings_of past)))
+    ∙ all_shared rules.window rules.fee (accounts_of (bookings_of past)) (bookings_of past)
+    (blocks_shared rules.window rules.fee (accounts_of (bookings_of past)) (bookings_of past) pays.fee pays.room (distinct-accounts_of (bookings_of past))
+    (booked-has_work past) (among-accounts_of (bookings_of past)))
 
-shared_past : (past : List Event) → LegalPast past → AreShared past (settlements_by (rules_of past) (booked past))
+shared_past : (past : List Event) → LegalPast past → AreShared past (settlements_by (rules_of past) (bookings_of past))
 shared_past past legal = by_rules (rules_of past) refl where
-  by_rules : (rules : Option Rules) → rules_of past ≡ rules → AreShared past (settlements_by (rules_of past) (booked past))
-  by_rules None none = subst (λ p. AreShared p (settlements_by (rules_of p) (booked p))) (sym (rules-none past legal none)) refl
-  by_rules (Some rules) is = subst (λ r. AreShared past (settlements_by r (booked past))) (sym is) (shared_by past rules legal is)
+  by_rules : (rules : Option Rules) → rules_of past ≡ rules → AreShared past (settlements_by (rules_of past) (bookings_of past))
+  by_rules None none = subst (λ p. AreShared p (settlements_by (rules_of p) (bookings_of p))) (sym (rules-none past legal none)) refl
+  by_rules (Some rules) is = subst (λ r. AreShared past (settlements_by r (bookings_of past))) (sym is) (shared_by past rules legal is)
 
 pub balances_rewards : BalancesAreRewards
 balances_rewards history legal = shared_past (past_of history) legal

@@ -3,7 +3,7 @@ use Rattle.std.proofs.Common.{◌≡◌, ℕ, Bool, true, false, cond, None, Som
 use Rattle.pool_history.specs.declared.events.Event.{Event}
 use Rattle.pool_history.specs.declared.events.Event.TheVariants as event
 use Rattle.pool_history.specs.declared.settings.Rules.{Rules}
-use Rattle.pool_history.specs.Crediting.{Booked, booked, booking, is_block, reward_of}
+use Rattle.pool_history.specs.Crediting.{Booked, bookings_of, booking, is_block, reward_of}
 use Rattle.pool_history.specs.Judging.{Share}
 use Rattle.pool_history.specs.Legal.{Legal}
 use Rattle.pool_history.specs.Sessions.{past_of, rules_of}
@@ -43,8 +43,8 @@ blocks_placed before after session channel job nonce ntime version extranonce l 
     let later : CreditsStand (before ++ credit ∷ []) after = credits-stay (before ++ credit ∷ []) after in
     let block : Booked = booking was.rules.pool_script share was.with in
     let reward : ℕ = reward_of was.with.job.source in
-    let stands : booked (past_of (before ++ credit ∷ after)) ≡ later.newer ++ block ∷ booked (past_of before) =
-    ap (λ h. booked (past_of h)) (up_to before credit after) ∙ later.credits_are ∙ ap (λ credits. later.newer ++ credits) was.counts in
+    let stands : bookings_of (past_of (before ++ credit ∷ after)) ≡ later.newer ++ block ∷ bookings_of (past_of before) =
+    ap (λ h. bookings_of (past_of h)) (up_to before credit after) ∙ later.credits_are ∙ ap (λ credits. later.newer ++ credits) was.counts in
     let rules_are : rules_of (past_of (before ++ credit ∷ after)) ≡ Some was.rules =
     ap rules_of (past-middle before credit after)
     ∙ rules-later (past_of after) (credit ∷ past_of before) was.rules (rules-later (credit ∷ []) (past_of before) was.rules was.are_rules) in

@@ -9,7 +9,7 @@ use Rattle.pool_history.specs.declared.events.Event.TheVariants as event
 use Rattle.pool_history.specs.declared.refusals.Failed.{Failed}
 use Rattle.pool_history.specs.declared.settings.Rules.{Rules}
 use Rattle.pool_history.specs.Accounts.{are_distinct, are_in_range, is_user, is_window}
-use Rattle.pool_history.specs.Crediting.{Booked, booked, booked_with, booking, admitted_class, credit_share, listed}
+use Rattle.pool_history.specs.Crediting.{Booked, bookings_of, booked_with, booking, admitted_class, credit_share, listed}
 use Rattle.pool_history.specs.Judging.{Admitted}
 use Rattle.pool_history.specs.Legal.{LegalPast}
 use Rattle.pool_history.specs.Sessions.{rules_of, script_of}
@@ -95,12 +95,12 @@ listed_has_work : (f : Admitted → Booked) (found : Option Admitted) → ((with
 listed_has_work f (Some with) each = (each with, tt)
 listed_has_work f None each = tt
 
-pub booked-has_work : (past : List Event) → AllByRecursion HasWork (booked past)
+pub booked-has_work : (past : List Event) → AllByRecursion HasWork (bookings_of past)
 booked-has_work [] = tt
 booked-has_work (event.Credit session channel job nonce ntime version extranonce ∷ older) =
     all-append HasWork
     (listed (λ with. booking (script_of older) (credit_share with channel job nonce ntime version extranonce) with) (booked_with older channel job))
-    (booked older)
+    (bookings_of older)
     (listed_has_work (λ with. booking (script_of older) (credit_share with channel job nonce ntime version extranonce) with)
     (booked_with older channel job) (λ with. pow_pos (admitted_class with)))
     (booked-has_work older)

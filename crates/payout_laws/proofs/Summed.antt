@@ -7,7 +7,7 @@ use Rattle.std.proofs.lemmas.Slice.Eq.{bytes_eq-Decides}
 use Rattle.pool_history.specs.declared.events.Event.{Event}
 use Rattle.pool_history.specs.declared.settings.Rules.{Rules}
 use Rattle.pool_history.specs.Accounts.{are_distinct}
-use Rattle.pool_history.specs.Crediting.{Booked, booked}
+use Rattle.pool_history.specs.Crediting.{Booked, bookings_of}
 use Rattle.pool_history.specs.Sessions.{enters, past_of}
 use Rattle.pool_history.specs.Settling.{Settled, accounts_of, settlements}
 use Rattle.pool_history.specs.Summary.{settlements_by, summed, sums_of}
@@ -66,10 +66,10 @@ credited-among account accounts (credit ∷ older) all there =
 
 -- of the settlements under the rules
 summed_up : (history : List Event) (rules : Rules)
-    → IsSummedUp history rules (summed (enters (past_of history)) (length (past_of history)) (booked (past_of history))
-    (settlements rules.window rules.fee (booked (past_of history))))
+    → IsSummedUp history rules (summed (enters (past_of history)) (length (past_of history)) (bookings_of (past_of history))
+    (settlements rules.window rules.fee (bookings_of (past_of history))))
 summed_up history rules =
-    let credits : List Booked = booked (past_of history) in
+    let credits : List Booked = bookings_of (past_of history) in
     let settled : List Settled = settlements rules.window rules.fee credits in
     let accounts : map (λ sum. sum.account) (map (sums_of credits settled) (accounts_of credits)) ≡ accounts_of credits =
     accounts-sums credits settled (accounts_of credits) in
@@ -90,5 +90,5 @@ summed_up history rules =
 pub summaries_summed : SummariesAreOfBlocks
 summaries_summed history rules are =
     subst (IsSummedUp history rules)
-    (sym (ap (λ those. summed (enters (past_of history)) (length (past_of history)) (booked (past_of history)) (settlements_by those (booked (past_of history)))) are))
+    (sym (ap (λ those. summed (enters (past_of history)) (length (past_of history)) (bookings_of (past_of history)) (settlements_by those (bookings_of (past_of history)))) are))
     (summed_up history rules)

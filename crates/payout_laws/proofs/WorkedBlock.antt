@@ -5,7 +5,7 @@ use Rattle.sha2.specs.Sha256.{sha256, digest_bytes, hash_after, compress, rounds
 use Rattle.coinbase.specs.Compact.{compact}
 use Rattle.pool_history.specs.declared.events.Event.{Event}
 use Rattle.pool_history.specs.declared.settings.Rules.{Rules}
-use Rattle.pool_history.specs.Crediting.{Booked, booked}
+use Rattle.pool_history.specs.Crediting.{Booked, bookings_of}
 use Rattle.pool_history.specs.Legal.{Legal, cause_of}
 use Rattle.pool_history.specs.Sessions.{past_of}
 use Rattle.pool_history.specs.Settling.{settlement}
@@ -41,7 +41,7 @@ credit_is_booked = record {
 abbrev pub block_credit : Booked
 block_credit = record { account = 0x61 ∷ []; work = 1; reward = Some 1000 }
 
-pub booked_of_session : booked (past_of session) ≡ block_credit ∷ []
+pub booked_of_session : bookings_of (past_of session) ≡ block_credit ∷ []
 unfolding sha256 digest_bytes hash_after compress rounds schedule first_words compact
 booked_of_session = refl
 

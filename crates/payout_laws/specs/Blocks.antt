@@ -1,7 +1,7 @@
 -- The blocks of a list of credits, and what all of them are paid (this project's own).
 use Rattle.std.specs.Prelude.{◌≡◌, ℕ, ◌+◌, Option, None, Some, is_some, List, [], ◌∷◌, ◌++◌, length, map, count_by, sum_by}
 use Rattle.pool_history.specs.declared.events.Event.{Event}
-use Rattle.pool_history.specs.Crediting.{Booked, booked}
+use Rattle.pool_history.specs.Crediting.{Booked, bookings_of}
 use Rattle.pool_history.specs.Legal.{Legal}
 use Rattle.pool_history.specs.Sessions.{past_of}
 use Rattle.pool_history.specs.Settling.{Settled, settlement, settlements}
@@ -56,4 +56,4 @@ BalancesAreRewards =
     (history : List Event) → Legal history
     → sum_by (λ sums. sums.balance) (summary_of (past_of history)).accounts +
     (summary_of (past_of history)).pool
-    ≡ sum_by (λ block. block.reward) (blocks_of (booked (past_of history)))
+    ≡ sum_by (λ block. block.reward) (blocks_of (bookings_of (past_of history)))

@@ -6,7 +6,7 @@ use Rattle.std.specs.List.{AllByRecursion}
 use Rattle.pool_history.specs.declared.events.Event.{Event}
 use Rattle.pool_history.specs.declared.settings.Rules.{Rules}
 use Rattle.pool_history.specs.Accounts.{are_distinct}
-use Rattle.pool_history.specs.Crediting.{Booked, booked}
+use Rattle.pool_history.specs.Crediting.{Booked, bookings_of}
 use Rattle.pool_history.specs.Legal.{Legal}
 use Rattle.pool_history.specs.Sessions.{past_of, rules_of}
 use Rattle.pool_history.specs.Settling.{Part, Payment, Settled, all_weights, fee_of, parts_in_block, settlement, weight}
@@ -40,7 +40,7 @@ pub record IsBlockOf (history : List Event) (rules : Rules) (credit : Booked) (o
     (reward : ℕ) : Type 0 where
   pub rules_are : rules_of (past_of history) ≡ Some rules
   pub newer : List Booked
-  pub stands : booked (past_of history) ≡ newer ++ credit ∷ older
+  pub stands : bookings_of (past_of history) ≡ newer ++ credit ∷ older
   pub rewarded : credit.reward ≡ Some reward
 
 -- each block's reward is its payouts plus the pool's part

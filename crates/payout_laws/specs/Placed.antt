@@ -2,7 +2,7 @@
 use Rattle.std.specs.Prelude.{IsTrue, ◌↔◌, ℕ, List, ◌∷◌, ◌++◌}
 use Rattle.pool_history.specs.declared.events.Event.{Event}
 use Rattle.pool_history.specs.declared.events.Event.TheVariants as event
-use Rattle.pool_history.specs.Crediting.{booked, booking, is_block, reward_of}
+use Rattle.pool_history.specs.Crediting.{bookings_of, booking, is_block, reward_of}
 use Rattle.pool_history.specs.Judging.{Share}
 use Rattle.pool_history.specs.Legal.{Legal}
 use Rattle.pool_history.specs.Sessions.{past_of}
@@ -17,7 +17,7 @@ pub record IsBlockByPlace (before after : List Event) (session : ℕ) (share : S
   pub was : IsBookedAfter before session share credit
   pub exactly : IsTrue (is_block was.rules.pool_script was.with share)
       ↔ IsBlockOf (before ++ credit ∷ after) was.rules
-      (booking was.rules.pool_script share was.with) (booked (past_of before))
+      (booking was.rules.pool_script share was.with) (bookings_of (past_of before))
       (reward_of was.with.job.source)
 
 -- so it is with each credit of a legal history

@@ -5,7 +5,7 @@ use Rattle.std.specs.Str.{bytes_eq}
 use Rattle.pool_history.specs.declared.events.Event.{Event}
 use Rattle.pool_history.specs.declared.settings.Rules.{Rules}
 use Rattle.pool_history.specs.Accounts.{are_distinct}
-use Rattle.pool_history.specs.Crediting.{Booked, booked}
+use Rattle.pool_history.specs.Crediting.{Booked, bookings_of}
 use Rattle.pool_history.specs.Legal.{Legal}
 use Rattle.pool_history.specs.Sessions.{past_of, rules_of}
 use Rattle.pool_history.specs.Sessions as sessions
@@ -29,17 +29,17 @@ pub record IsOfBlocks (rules : Rules) (credits : List Booked) (sum : AccountSum)
 -- a summary of a history under its rules
 pub record IsSummedUp (history : List Event) (rules : Rules) (summary : Summary) : Type 0 where
   -- each account with a credit stands in it once, and no other
-  pub each : AllByRecursion (IsOfBlocks rules (booked (past_of history))) summary.accounts
+  pub each : AllByRecursion (IsOfBlocks rules (bookings_of (past_of history))) summary.accounts
   pub once : IsTrue (are_distinct (map (λ sum. sum.account) summary.accounts))
   pub exactly : (account : List ℕ)
       → IsTrue (is_listed summary.accounts account)
-      ↔ IsTrue (has_credit (booked (past_of history)) account)
+      ↔ IsTrue (has_credit (bookings_of (past_of history)) account)
   -- the pool has what it keeps of each block
   pub pool : summary.pool
       ≡ sum_by (λ block. (settled_block rules.window rules.fee block).pool)
-      (blocks_of (booked (past_of history)))
-  pub blocks : summary.blocks ≡ length (blocks_of (booked (past_of history)))
-  pub credits : summary.credits ≡ length (booked (past_of history))
+      (blocks_of (bookings_of (past_of history)))
+  pub blocks : summary.blocks ≡ length (blocks_of (bookings_of (past_of history)))
+  pub credits : summary.credits ≡ length (bookings_of (past_of history))
   -- in a legal history those are its Credit events
   pub counted : Legal history → summary.credits ≡ sessions.credits (past_of history)
 

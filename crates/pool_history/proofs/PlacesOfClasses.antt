@@ -9,7 +9,7 @@ use Rattle.pool_history.specs.declared.events.Event.{Event}
 use Rattle.pool_history.specs.declared.events.Event.TheVariants as event
 use Rattle.pool_history.specs.declared.events.Kind.{Kind}
 use Rattle.pool_history.specs.ByPlaces.{ClassesByPlaces, HasClasses, class_of_last, opening_class_from, opens_in, sets_from}
-use Rattle.pool_history.specs.Channels.{ClassSet, OpenChannel, account_or, channel_moves, channels_of, class_before, named, opened, reclassed}
+use Rattle.pool_history.specs.Channels.{ClassSet, OpenChannel, account_or, channel_moves, channels_of, class_before, with_name, opened, with_class}
 use Rattle.pool_history.specs.Sessions.{past_of}
 use Rattle.pool_history.proofs.PlacesOfJobs.{filter-dropped, filter-kept, past-last}
 
@@ -113,7 +113,7 @@ tracked-later h e c none t = record {
 }
 
 -- a name changes none of it
-pub tracked-named : (h : List Event) (id : ℕ) (account : List ℕ) (c : OpenChannel) → IsTracked h c → IsTracked h (named id account c)
+pub tracked-named : (h : List Event) (id : ℕ) (account : List ℕ) (c : OpenChannel) → IsTracked h c → IsTracked h (with_name id account c)
 tracked-named h id account c t =
     elim (eqb c.id id) as (λ b. IsTracked h (cond b (record c { account = account_or c.account account }) c)) [
       | true ↦ record { known = t.known; opening = t.opening; sets = t.sets }
@@ -149,7 +149,7 @@ tracked-by_id h session id class at c false t s = record {
 }
 
 pub tracked-set : (h : List Event) (session id class at : ℕ) (c : OpenChannel) → at ≡ length h → IsTracked h c
-    → IsTracked (h ++ event.Class session id class ∷ []) (reclassed at id class c)
+    → IsTracked (h ++ event.Class session id class ∷ []) (with_class at id class c)
 tracked-set h session id class at c p t = tracked-by_id h session id class at c (eqb c.id id) t (sets-later h session id class at c p t)
 
 -- the openings of the past
@@ -197,13 +197,13 @@ tracked_past (event.Name session channel account ∷ past) =
     let h : List Event = reverse past in
     let e : Event = event.Name session channel account in
     subst (λ g. AreTracked g (channels_of (e ∷ past))) (past-last e past)
-    (all-map (IsTracked (h ++ e ∷ [])) (IsTracked (h ++ e ∷ [])) (named channel account) (λ c t. tracked-named (h ++ e ∷ []) channel account c t) (channels_of past)
+    (all-map (IsTracked (h ++ e ∷ [])) (IsTracked (h ++ e ∷ [])) (with_name channel account) (λ c t. tracked-named (h ++ e ∷ []) channel account c t) (channels_of past)
     (all-later h e (λ id. refl) (channels_of past) (tracked_past past)))
 tracked_past (event.Class session channel class ∷ past) =
     let h : List Event = reverse past in
     let e : Event = event.Class session channel class in
     subst (λ g. AreTracked g (channels_of (e ∷ past))) (past-last e past)
-    (all-map (IsTracked h) (IsTracked (h ++ e ∷ [])) (reclassed (length past) channel class)
+    (all-map (IsTracked h) (IsTracked (h ++ e ∷ [])) (with_class (length past) channel class)
     (λ c t. tracked-set h session channel class (length past) c (sym (length-reverse past)) t) (channels_of past) (tracked_past past))
 tracked_past (event.Close session channel ∷ past) =
     let h : List Event = reverse past in

@@ -15,7 +15,7 @@ use Rattle.pool_history.specs.declared.refusals.JobError.TheVariants as job
 use Rattle.pool_history.specs.declared.refusals.OpenError.TheVariants as open_error
 use Rattle.coinbase.specs.declared.error.AssemblyError.TheVariants as assembly
 use Rattle.pool_history.specs.Channels.{OpenChannel, channel_in, channels_of, class_at, present_class}
-use Rattle.pool_history.specs.Crediting.{booked, first_failed}
+use Rattle.pool_history.specs.Crediting.{bookings_of, first_failed}
 use Rattle.pool_history.specs.Jobs.{Job, jobs_of, live_job, state_of}
 use Rattle.pool_history.specs.Judging.{Admitted, admitted}
 use Rattle.pool_history.specs.Refusing.{class_of_target, lead_for, openable, template_refusal}
@@ -89,11 +89,11 @@ unfolding first_class
 class_61_refused = refl
 
 -- the class of job 1 was set before the channel's present class, which counts for the job after it
-abbrev pub reclassed : List Event
-reclassed = event.Class 0 1 60 ∷ tipped
+abbrev pub set_later : List Event
+set_later = event.Class 0 1 60 ∷ tipped
 
 abbrev pub next_job : List Event
-next_job = event.Template 0 (template_of 6 false) ∷ reclassed
+next_job = event.Template 0 (template_of 6 false) ∷ set_later
 
 -- the class of channel 1 at a job
 abbrev pub class_with : Option OpenChannel → Option Job → Option ℕ
@@ -119,10 +119,10 @@ set_before_tip = tips ∷ event.Class 0 1 5 ∷ templated
 pub class_set_before_tip : class_for set_before_tip 1 ≡ Some 5
 class_set_before_tip = refl
 
-pub work_set_before_tip : map (λ credit. credit.work) (booked (credits ∷ set_before_tip)) ≡ 32 ∷ []
+pub work_set_before_tip : map (λ credit. credit.work) (bookings_of (credits ∷ set_before_tip)) ≡ 32 ∷ []
 work_set_before_tip = refl
 
-pub work_by_old_class : map (λ credit. credit.work) (booked (credits ∷ next_job)) ≡ 1 ∷ []
+pub work_by_old_class : map (λ credit. credit.work) (bookings_of (credits ∷ next_job)) ≡ 1 ∷ []
 work_by_old_class = refl
 
 -- job 1 is future, live, and stale after the next tip; a number that no job has is unknown

@@ -38,18 +38,18 @@ opened (move ∷ older) = opened older
 
 -- the first account stays
 abbrev pub account_or : List ℕ → List ℕ → List ℕ
-account_or [] named = named
-account_or (byte ∷ bytes) named = byte ∷ bytes
+account_or [] name = name
+account_or (byte ∷ bytes) name = byte ∷ bytes
 
 -- the channel with this account, where it is the one that is named and has none
-abbrev pub named : ℕ → List ℕ → OpenChannel → OpenChannel
-named id account channel =
+abbrev pub with_name : ℕ → List ℕ → OpenChannel → OpenChannel
+with_name id account channel =
     if channel.id == id then record channel { account = account_or channel.account account }
     else channel
 
 -- the channel with this class, where it is the one that is set
-abbrev pub reclassed : ℕ → ℕ → ℕ → OpenChannel → OpenChannel
-reclassed at id class channel =
+abbrev pub with_class : ℕ → ℕ → ℕ → OpenChannel → OpenChannel
+with_class at id class channel =
     if channel.id == id
     then record channel { sets = record { at = at; class = class } ∷ channel.sets } else channel
 
@@ -67,8 +67,8 @@ channels_told (Opens at session kind account class lead ∷ older) =
       opening_class = class;
       sets = [];
     } ∷ []
-channels_told (Names id account ∷ older) = map (named id account) (channels_told older)
-channels_told (Sets at id class ∷ older) = map (reclassed at id class) (channels_told older)
+channels_told (Names id account ∷ older) = map (with_name id account) (channels_told older)
+channels_told (Sets at id class ∷ older) = map (with_class at id class) (channels_told older)
 channels_told (Closes id ∷ older) = filter (λ channel. not (channel.id == id)) (channels_told older)
 channels_told (Leaves session ∷ older) =
     filter (λ channel. not (channel.session == session)) (channels_told older)

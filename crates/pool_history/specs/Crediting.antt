@@ -107,10 +107,10 @@ booking script share with = record {
 }
 
 -- the credits of a history, the last first
-abbrev pub booked : List Event → List Booked
-booked [] = []
-booked (event.Credit session channel job nonce ntime version extranonce ∷ older) =
+abbrev pub bookings_of : List Event → List Booked
+bookings_of [] = []
+bookings_of (event.Credit session channel job nonce ntime version extranonce ∷ older) =
     listed (λ with. booking (script_of older)
     (credit_share with channel job nonce ntime version extranonce) with)
-    (booked_with older channel job) ++ booked older
-booked (event ∷ older) = booked older
+    (booked_with older channel job) ++ bookings_of older
+bookings_of (event ∷ older) = bookings_of older

@@ -114,8 +114,8 @@ with_custom job channel standing =
     }
 
 -- one more move
-abbrev pub moved : JobMove → Standing → Standing
-moved (Came at session template) standing =
+abbrev pub after_move : JobMove → Standing → Standing
+after_move (Came at session template) standing =
     with_template
     (record {
       number = length standing.all + 1;
@@ -123,8 +123,8 @@ moved (Came at session template) standing =
       since = at;
       source = FromTemplate template;
     }) template.future_template standing
-moved (Tipped at tip) standing = with_tip at tip standing
-moved (Brought at custom) standing =
+after_move (Tipped at tip) standing = with_tip at tip standing
+after_move (Brought at custom) standing =
     with_custom
     (record {
       number = length standing.all + 1;
@@ -136,7 +136,7 @@ moved (Brought at custom) standing =
 -- the jobs after these moves, the last of which stands first
 abbrev pub jobs_told : List JobMove → Standing
 jobs_told [] = record { all = []; future = []; live = []; custom = []; tip = None }
-jobs_told (move ∷ older) = moved move (jobs_told older)
+jobs_told (move ∷ older) = after_move move (jobs_told older)
 
 -- the moves of a history, with the places of its events
 abbrev pub job_moves : List Event → List JobMove
@@ -152,8 +152,8 @@ abbrev pub jobs_of : List Event → Standing
 jobs_of past = jobs_told (job_moves past)
 
 -- the job with a number
-abbrev pub numbered : ℕ → List Job → Option Job
-numbered number jobs = find (λ job. job.number == number) jobs
+abbrev pub job_numbered : ℕ → List Job → Option Job
+job_numbered number jobs = find (λ job. job.number == number) jobs
 
 -- whether there is one
 abbrev pub has_number : ℕ → List Job → Bool
@@ -169,7 +169,7 @@ state_of standing number =
 
 -- the live job with a number
 abbrev pub live_job : Standing → ℕ → Option Job
-live_job standing number = numbered number (standing.live ++ standing.custom)
+live_job standing number = job_numbered number (standing.live ++ standing.custom)
 
 -- the last of a list
 abbrev pub last_of : {X : Type 0} → List X → Option X

@@ -24,7 +24,7 @@ use Rattle.pool_history.specs.declared.templates.TipData.{TipData}
 use Rattle.pool_history.specs.Channels.{OpenChannel, channel_in, channels_of}
 use Rattle.pool_history.specs.Conditions.{found, provided}
 use Rattle.pool_history.specs.Headers.{Briefing, header_by, rolled}
-use Rattle.pool_history.specs.Jobs.{Source, FromTemplate, FromMiner, Job, Standing, is_open_to, jobs_of, live_job, numbered, state_of}
+use Rattle.pool_history.specs.Jobs.{Source, FromTemplate, FromMiner, Job, Standing, is_open_to, jobs_of, live_job, job_numbered, state_of}
 
 -- what is judged: the fields of a submission or of a credit
 pub record Share : Type 0 where
@@ -159,7 +159,7 @@ is_mineable channel (Some job) = is_open_to channel job.source
 abbrev pub is_known_job : Standing → Share → Bool
 is_known_job standing share =
     is_known_state (state_of standing share.job)
-    && is_mineable share.channel (numbered share.job standing.all)
+    && is_mineable share.channel (job_numbered share.job standing.all)
 
 -- the bits of a version that a miner may roll (BIP 320)
 abbrev pub rolling_mask : Rules → ℕ

@@ -5,7 +5,7 @@ use Rattle.std.specs.List.{flat_map}
 use Rattle.std.specs.Fmt.{decimal}
 use Rattle.pool_history.specs.declared.events.Event.{Event}
 use Rattle.pool_history.specs.declared.settings.Rules.{Rules}
-use Rattle.pool_history.specs.Crediting.{Booked, booked}
+use Rattle.pool_history.specs.Crediting.{Booked, bookings_of}
 use Rattle.pool_history.specs.Sessions.{enters, rules_of}
 use Rattle.pool_history.specs.Settling.{Settled, accounts_of, balance, settlements, work_for}
 
@@ -48,7 +48,8 @@ settlements_by (Some rules) credits = settlements rules.window rules.fee credits
 -- the numbers of a history
 abbrev pub summary_of : List Event → Summary
 summary_of past =
-    summed (enters past) (length past) (booked past) (settlements_by (rules_of past) (booked past))
+    summed (enters past) (length past) (bookings_of past)
+    (settlements_by (rules_of past) (bookings_of past))
 
 -- a word, a blank, a number and a line feed
 abbrev pub line : List ℕ → ℕ → List ℕ

@@ -65,9 +65,8 @@ pub struct Checked {
     /// The 80 bytes of the rebuilt header.
     pub header: [u8; 80],
     pub hash: [u8; 32],
-    ghost rebuilt: {
-        header
-        ≡ header_by brief sub.version sub.ntime sub.nonce (take sub.extranonce_len sub.extranonce)
-    },
+    ghost rebuilt: { header
+        ≡ header_by brief sub.version sub.ntime sub.nonce
+        (take sub.extranonce_len sub.extranonce) },
     ghost hashed: { hash ≡ dsha header },
 }
