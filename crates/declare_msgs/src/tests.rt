@@ -61,6 +61,9 @@ fn is_read_whole_alone(rt: &impl Abort, alloc: Global, case: &Case) -> Result<()
     assert!(rt; frame.len() >= 6, "{name}");
     let kind = frame[2];
     let payload = &frame[6..];
+    // What stands behind a blank tells two cases of one message apart.
+    let message_name = name.split_once(' ').map_or(name, |(first, _)| first);
+    assert!(rt; sv2_messages::name_of(kind) == Some(message_name), "{name}");
     match read(kind, payload) {
         Err(error) => assert!(rt; false, "{name}: {error}"),
         Ok(message) => {
