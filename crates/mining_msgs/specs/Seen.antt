@@ -1,5 +1,5 @@
--- The messages as contracts see them: their kinds and the values of their fields (this project's own;
--- the order of the fields is that of the table).
+-- The messages as contracts see them: their kinds and the values of their fields (this project's
+-- own; the order of the fields is that of the table).
 use Rattle.std.specs.Prelude.{ℕ, Result, List, [], ◌∷◌}
 use Rattle.sv2_types.specs.Fields.{FieldValue, Number, Truth, Bytes, Perhaps, Parts}
 use Rattle.sv2_messages.specs.declared.kinds.TheConstants as kinds

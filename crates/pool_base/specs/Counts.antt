@@ -1,5 +1,5 @@
--- Counts of faults (this project's own). A counter is a `u64` that stays at its last value once it is
--- there.
+-- Counts of faults (this project's own). A counter is a `u64` that stays at its last value once it
+-- is there.
 use Rattle.std.specs.Prelude.{ℕ, ◌+◌, ◌-◌, ◌^◌, ◌≤◌, min}
 
 -- a count rose; a counter that stands at its last value meets it

@@ -60,7 +60,7 @@ pub record IsInRun (HasRead : List ℕ → List ℕ → Type 0) (tally : Tally)
 -- a turn leads to the next one, or the run has ended
 abbrev pub TurnsOnOrEnds : Duty → (List ℕ → List ℕ → Type 0) → Tally → Option (List Turn)
     → Option (List Turn) → Option (List ℕ) → Option (List ℕ) → Option End → Type 0
-TurnsOnOrEnds duty HasRead tally turns left before now None = IsInRun HasRead tally turns left
-    before now
-TurnsOnOrEnds duty HasRead tally turns left before now (Some end) = EndsCommand duty turns left before
-    now end
+TurnsOnOrEnds duty HasRead tally turns left before now None =
+    IsInRun HasRead tally turns left before now
+TurnsOnOrEnds duty HasRead tally turns left before now (Some end) =
+    EndsCommand duty turns left before now end
