@@ -12,8 +12,7 @@ use Rattle.pool_turns.specs.declared.end.End.TheVariants.{Done, Refused, IdleOut
 -- between these turns to come and these held bytes, before and after: the steps taken, the text
 -- put, and what the end says of them
 pub record EndsCommand (duty : Duty) (turns left : Option (List Turn))
-    (before after : Option (List ℕ))
-    (end : End) : Type 0 where
+    (before after : Option (List ℕ)) (end : End) : Type 0 where
   pub taken : List ReadStep
   pub brought : Brought turns left taken
   pub given : List ℕ
