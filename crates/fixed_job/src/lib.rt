@@ -12,3 +12,4 @@ mod submission;
 pub use command::judge_shares;
 pub use judge::{Job, Refusal};
 pub use laws::has_one_reading;
+pub use stream::{FixedJob, FixedTask};

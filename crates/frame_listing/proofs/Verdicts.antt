@@ -28,4 +28,3 @@ bad_if frame result e plain exact is known =
     found : (row : Option (List FieldType)) → types_of all_messages frame.kind ≡ row → IsDefectBy row frame.kind frame.payload e → IsBad frame e
     found None row defect = absurd (known frame.kind defect)
     found (Some types) row defect = record { plain = plain; types = types; row = row; defect = defect }
-

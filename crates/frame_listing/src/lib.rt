@@ -10,6 +10,7 @@ mod verdict;
 
 pub use command::list_frames;
 pub use flaw::Flaw;
+pub use lister::Lister;
 
 #[cfg(test)]
 mod tests;

@@ -26,7 +26,7 @@ impl<R: Read + Drop> ReadSource<R> {
 
 impl<R: Read + Drop> Source for ReadSource<R> {
     ghost use Rattle.std.specs.Prelude.{None, ◌<◌, ◌≤◌, length};
-    ghost use Rattle.pool_io.specs.Outside.{IsWithinRoom, Takes, CountsFailure, is_failed_take};
+    ghost use Rattle.pool_io.specs.Outside.{IsWithinRoom, TakesTurn, CountsFailure, is_failed_take};
     ghost use Rattle.pool_cli.specs.Edges.{ReadsOn};
 
     ghost faults = { λ s. s.faults };
@@ -36,7 +36,7 @@ impl<R: Read + Drop> Source for ReadSource<R> {
     fn take(&mut self, buffer: &mut [u8]) -> Took
         requires { 0 < length buffer.old }
         ensures bound { IsWithinRoom result (length buffer.new) }
-        ensures turns { Takes None None result buffer.new }
+        ensures turns { TakesTurn None None result buffer.new }
         ensures counts { CountsFailure (is_failed_take result) self.old.faults self.new.faults }
 
         // Where the reader tells its bytes, they are those that come.
@@ -76,7 +76,7 @@ impl<W: Write + Drop> WriteSink<W> {
 impl<W: Write + Drop> Sink for WriteSink<W> {
     ghost use Rattle.std.specs.Prelude.{None, ◌<◌, ◌≤◌, length, take, IfOk, OnErr};
     ghost use Rattle.std.specs.Io.KnownBytes.{Appends, Keeps};
-    ghost use Rattle.pool_io.specs.Outside.{Adds, CountsFailure, is_failed_put};
+    ghost use Rattle.pool_io.specs.Outside.{AddsBytes, CountsFailure, is_failed_put};
 
     ghost faults = { λ s. s.faults };
 
@@ -86,7 +86,7 @@ impl<W: Write + Drop> Sink for WriteSink<W> {
         requires { 0 < length piece.now }
         ensures some { IfOk result (λ n. 0 < n) }
         ensures bound { IfOk result (λ n. n ≤ length piece.now) }
-        ensures taken { IfOk result (λ n. Adds None None (take n piece.now)) }
+        ensures taken { IfOk result (λ n. AddsBytes None None (take n piece.now)) }
         ensures counts { CountsFailure (is_failed_put result) self.old.faults self.new.faults }
 
         // Where the writer tells its bytes, it has those that were taken, and after a failure no
@@ -133,8 +133,8 @@ impl<R: Read + Copy + Drop, W: Write + Copy + Drop> StreamHost<R, W> {
 }
 
 impl<R: Read + Copy + Drop, W: Write + Copy + Drop> Host for StreamHost<R, W> {
-    ghost use Rattle.std.specs.Prelude.{None, ◌≢◌, IfOk, OnOk, OnErr};
-    ghost use Rattle.pool_io.specs.Lending.{lent_one};
+    ghost use Rattle.std.specs.Prelude.{None, ◌≢◌, ◌<◌, IfOk, OnOk, OnErr};
+    ghost use Rattle.pool_io.specs.Lending.{lent_one, with_back};
 
     type S = ReadSource<R>;
 
@@ -180,11 +180,18 @@ impl<R: Read + Copy + Drop, W: Write + Copy + Drop> Host for StreamHost<R, W> {
         Ok(WriteSink::new(self.output))
     }
 
-    fn done_source(&mut self, source: ReadSource<R>) {
+    // What was used isn't kept for the next.
+    fn done_source(&mut self, source: ReadSource<R>)
+        requires { 0 < self.old.sources.lent }
+        ensures { self.new ≡ record self.old { sources = with_back self.old.sources source } }
+    {
         self.sources.take_back(source);
     }
 
-    fn done_sink(&mut self, sink: WriteSink<W>) {
+    fn done_sink(&mut self, sink: WriteSink<W>)
+        requires { 0 < self.old.sinks.lent }
+        ensures { self.new ≡ record self.old { sinks = with_back self.old.sinks sink } }
+    {
         self.sinks.take_back(sink);
     }
 }

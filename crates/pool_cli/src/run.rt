@@ -1,6 +1,6 @@
 //! The top call: it picks the command that the words name, and hands everything back.
 
-ghost use Rattle.std.specs.Prelude.{◌≡◌, ◌==◌, ◌↔◌};
+ghost use Rattle.std.specs.Prelude.{◌≡◌, ◌==◌, ◌↔◌, ◌⊎◌};
 ghost use Rattle.pool_io.specs.Outside.{CountsFailure};
 ghost use Rattle.pool_turns.specs.declared.status.Status.{Status as Answer};
 ghost use Rattle.pool_turns.specs.Statuses.{status_code};
@@ -32,6 +32,17 @@ pub fn run<H: Host>(alloc: Global, host: &mut H, words: &[Word]) -> u8
               H.T.faults;
         })
         form (H.seen host.old) (H.seen host.new) result }
+
+    // So for each words: 2, or a form that they have was done.
+    ensures formed { (result ≡ 2) ⊎ ((form : Asked) × IsForm words.now form × DoesForm
+        (record {
+          left = H.S.left;
+          read_faults = H.S.faults;
+          held = H.T.held;
+          write_faults =
+              H.T.faults;
+        })
+        form (H.seen host.old) (H.seen host.new) result) }
 
     // Whatever the words: there are no other statuses, everything that the host gave has come back,
     // and 7 is answered exactly where the host's count rose, by one.

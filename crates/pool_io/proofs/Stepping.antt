@@ -4,8 +4,8 @@ use Rattle.std.proofs.lemmas.List.{take-append-drop, map-append, length-map}
 use Rattle.pool_io.specs.declared.turn.Turn.{Turn}
 use Rattle.pool_io.specs.declared.turn.Turn.TheVariants as turn
 use Rattle.pool_io.specs.declared.source.Took.TheVariants.{Bytes, Idle, End}
-use Rattle.pool_io.specs.Outside.{Takes, TakesBytes, turns_behind, IsEnded}
-use Rattle.pool_io.specs.Steps.{ReadStep, steps_of, bytes_in, idles_after, Bounds, IsAtLimit, IsFree, IsFreeBefore, Brought}
+use Rattle.pool_io.specs.Outside.{TakesTurn, TakesBytes, turns_behind, IsEnded}
+use Rattle.pool_io.specs.Steps.{ReadStep, steps_of, bytes_in, idles_after, Bounds, IsAtLimit, IsFree, IsFreeBefore, BringsSteps}
 
 pub bytes_in-append : (a b : List ReadStep) → bytes_in (a ++ b) ≡ bytes_in a ++ bytes_in b
 bytes_in-append [] b = refl
@@ -125,13 +125,13 @@ steps_of-taken old new n buffer takes =
     ∙ ap (λ l. l ++ steps_of takes.later) joined)
 
 -- nothing was taken yet
-pub brought_none : (turns : Option (List Turn)) → Brought turns turns []
+pub brought_none : (turns : Option (List Turn)) → BringsSteps turns turns []
 brought_none None = tt
 brought_none (Some turns) = (turns, refl, refl)
 
 -- bytes were taken
 pub brought_bytes : (turns old new : Option (List Turn)) (steps : List ReadStep) (n : ℕ) (buffer : List ℕ)
-    → Brought turns old steps → Takes old new (Bytes n) buffer → Brought turns new (steps ++ map Some (take n buffer))
+    → BringsSteps turns old steps → TakesTurn old new (Bytes n) buffer → BringsSteps turns new (steps ++ map Some (take n buffer))
 brought_bytes None old new steps n buffer brought takes = tt
 brought_bytes (Some told) old new steps n buffer brought takes =
     let took = rw brought.1 at takes in (
@@ -143,7 +143,7 @@ brought_bytes (Some told) old new steps n buffer brought takes =
 
 -- an Idle answer came
 pub brought_idle : (turns old new : Option (List Turn)) (steps : List ReadStep) (buffer : List ℕ)
-    → Brought turns old steps → Takes old new Idle buffer → Brought turns new (steps ++ None ∷ [])
+    → BringsSteps turns old steps → TakesTurn old new Idle buffer → BringsSteps turns new (steps ++ None ∷ [])
 brought_idle None old new steps buffer brought takes = tt
 brought_idle (Some told) old new steps buffer brought takes =
     let took = rw brought.1 at takes in (
@@ -154,7 +154,46 @@ brought_idle (Some told) old new steps buffer brought takes =
 
 -- End came: these are all steps
 pub brought_all : (told : List Turn) (old new : Option (List Turn)) (steps : List ReadStep) (buffer : List ℕ)
-    → Brought (Some told) old steps → Takes old new End buffer → steps_of told ≡ steps
+    → BringsSteps (Some told) old steps → TakesTurn old new End buffer → steps_of told ≡ steps
 brought_all told old new steps buffer brought takes =
     let took = rw brought.1 at takes in
     brought.2 ∙ ap (λ l. steps ++ l) (steps_of-ended brought.0 took.2.0) ∙ append-nil steps
+
+-- a piece and what follows it, cut within the piece
+pub cut_at : (steps : List ReadStep) (piece part left : List ℕ) (rest : List ReadStep) → piece ≡ part ++ left
+    → (steps ++ map Some piece) ++ rest ≡ (steps ++ map Some part) ++ (map Some left ++ rest)
+cut_at steps piece part left rest split =
+    ap (λ p. (steps ++ map Some p) ++ rest) split
+    ∙ ap (λ m. (steps ++ m) ++ rest) (map-append Some part left)
+    ∙ ap (λ l. l ++ rest) (sym (append_assoc steps (map Some part) (map Some left)))
+    ∙ append_assoc (steps ++ map Some part) (map Some left) rest
+
+-- which of two fronts of one list is the longer
+pub data Fronts {A : Type 0} (a b : List A) : Type 0 where
+  longer : (part : List A) → b ≡ a ++ part → Fronts a b
+  shorter : (x : A) (part : List A) → a ≡ b ++ x ∷ part → Fronts a b
+
+pub fronts_of : {A : Type 0} (a b x y : List A) → a ++ x ≡ b ++ y → Fronts a b
+fronts_of [] b x y same = longer b refl
+fronts_of (p ∷ a) [] x y same = shorter p a refl
+fronts_of (p ∷ a) (q ∷ b) x y same =
+    let head : p ≡ q = cc in
+    let tail : a ++ x ≡ b ++ y = cc in
+    elim (fronts_of a b x y tail) [
+      | longer part is ↦ longer part (ap (λ l. q ∷ l) is ∙ ap (λ h. h ∷ (a ++ part)) (sym head))
+      | shorter z part is ↦ shorter z part (ap (λ l. p ∷ l) is ∙ ap (λ h. h ∷ (b ++ z ∷ part)) head)
+    ]
+
+-- a limit that a front reaches isn't free
+pub free_of : (bounds : Bounds) (steps front rest : List ReadStep) → IsFree bounds steps → steps ≡ front ++ rest → IsAtLimit bounds front → ⊥
+free_of bounds steps front [] free split at = free.1 (rw (split, append-nil front) at)
+free_of bounds steps front (x ∷ rest) free split at = free.0 front x rest split at
+
+-- a row of Idle answers ends with one
+pub last_idle : (n : ℕ) (x : ReadStep) (steps : List ReadStep) → 0 < idles_after n (x ∷ steps) → (front : List ReadStep) × (x ∷ steps ≡ front ++ None ∷ [])
+last_idle n (Some byte) [] some = absurd (omega arith)
+last_idle n None [] some = ([], refl)
+last_idle n (Some byte) (y ∷ steps) some =
+    let more = last_idle 0 y steps some in (Some byte ∷ more.0, ap (λ l. Some byte ∷ l) more.1)
+last_idle n None (y ∷ steps) some =
+    let more = last_idle (n + 1) y steps some in (None ∷ more.0, ap (λ l. None ∷ l) more.1)

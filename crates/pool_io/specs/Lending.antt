@@ -15,6 +15,6 @@ abbrev pub with_back : {T : Type 0} → Lending T → T → Lending T
 with_back shelf item = record { lent = shelf.lent - 1; back = shelf.back ++ item ∷ [] }
 
 -- what is left to give once it was given, where it is told: nothing
-abbrev pub emptied : {A : Type 0} → Option (List A) → Option (List A)
-emptied None = None
-emptied (Some items) = Some []
+abbrev pub nothing_left : {A : Type 0} → Option (List A) → Option (List A)
+nothing_left None = None
+nothing_left (Some items) = Some []

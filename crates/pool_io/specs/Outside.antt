@@ -45,13 +45,13 @@ TakesFrom old new End buffer = IsEnded old × (new ≡ old)
 TakesFrom old new Failed buffer = new ≡ old
 
 -- the same of what a source tells, where it tells
-abbrev pub Takes : Option (List Turn) → Option (List Turn) → Took → List ℕ → Type 0
-Takes old new took buffer = IfSome old (λ turns. (left : List Turn) × (new ≡ Some left)
+abbrev pub TakesTurn : Option (List Turn) → Option (List Turn) → Took → List ℕ → Type 0
+TakesTurn old new took buffer = IfSome old (λ turns. (left : List Turn) × (new ≡ Some left)
     × TakesFrom turns left took buffer)
 
 -- a sink that tells what it holds holds these bytes more
-abbrev pub Adds : Option (List ℕ) → Option (List ℕ) → List ℕ → Type 0
-Adds old new bytes = IfSome old (λ held. new ≡ Some (held ++ bytes))
+abbrev pub AddsBytes : Option (List ℕ) → Option (List ℕ) → List ℕ → Type 0
+AddsBytes old new bytes = IfSome old (λ held. new ≡ Some (held ++ bytes))
 
 -- the count after one more failure: it stands still at its type's end
 abbrev pub next_count : ℕ → ℕ

@@ -20,10 +20,6 @@ bytes_in [] = []
 bytes_in (Some byte ∷ steps) = byte ∷ bytes_in steps
 bytes_in (None ∷ steps) = bytes_in steps
 
--- all bytes that the turns bring up to the first End
-abbrev pub bytes_of : List Turn → List ℕ
-bytes_of turns = bytes_in (steps_of turns)
-
 -- how many Idle answers stand in a row at the end of the steps, where n stood before them
 abbrev pub idles_after : ℕ → List ReadStep → ℕ
 idles_after n [] = n
@@ -57,6 +53,6 @@ abbrev pub IsFree : Bounds → List ReadStep → Type 0
 IsFree bounds steps = IsFreeBefore bounds steps × (IsAtLimit bounds steps → ⊥)
 
 -- between these turns to come and those, where the source tells them, it brought these steps
-abbrev pub Brought : Option (List Turn) → Option (List Turn) → List ReadStep → Type 0
-Brought before now steps = IfSome before (λ turns. (left : List Turn) × (now ≡ Some left)
+abbrev pub BringsSteps : Option (List Turn) → Option (List Turn) → List ReadStep → Type 0
+BringsSteps before now steps = IfSome before (λ turns. (left : List Turn) × (now ≡ Some left)
     × (steps_of turns ≡ steps ++ steps_of left))

@@ -1,7 +1,7 @@
 //! What a program gets from the system that runs it.
 
 ghost use Rattle.std.specs.Prelude.{◌≡◌, ◌<◌, ◌≤◌, ℕ, OnOk, OnErr, IfOk};
-ghost use Rattle.pool_io.specs.Lending.{lent_one, with_back, emptied};
+ghost use Rattle.pool_io.specs.Lending.{lent_one, with_back, nothing_left};
 ghost use Rattle.pool_io.specs.Outside.{CountsFailure, is_failed_gift};
 ghost use Rattle.pool_io.specs.Seen.{Seen};
 
@@ -31,7 +31,7 @@ pub trait Host {
         ensures told { IfOk result (λ source. Self.S.left source ≡ (seen self.old).input) }
         ensures fresh { IfOk result (λ source. Self.S.faults source ≡ 0) }
         ensures given { OnOk result (seen self.new ≡ record (seen self.old) {
-          input = emptied (seen self.old).input;
+          input = nothing_left (seen self.old).input;
           sources = lent_one (seen self.old).sources;
         }) }
         ensures refused { OnErr result (seen self.new
@@ -44,7 +44,7 @@ pub trait Host {
         ensures told { IfOk result (λ sink. Self.T.held sink ≡ (seen self.old).output) }
         ensures fresh { IfOk result (λ sink. Self.T.faults sink ≡ 0) }
         ensures given { OnOk result (seen self.new ≡ record (seen self.old) {
-          output = emptied (seen self.old).output;
+          output = nothing_left (seen self.old).output;
           sinks = lent_one (seen self.old).sinks;
         }) }
         ensures refused { OnErr result (seen self.new

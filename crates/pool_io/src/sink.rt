@@ -1,7 +1,7 @@
 //! Where bytes go.
 
 ghost use Rattle.std.specs.Prelude.{◌≡◌, ◌<◌, ◌≤◌, ℕ, List, Option, length, take, IfOk, OnErr};
-ghost use Rattle.pool_io.specs.Outside.{Adds, CountsFailure, is_failed_put};
+ghost use Rattle.pool_io.specs.Outside.{AddsBytes, CountsFailure, is_failed_put};
 
 use thiserror::Error;
 
@@ -28,7 +28,8 @@ pub trait Sink {
         requires { 0 < length piece.now }
         ensures some { IfOk result (λ n. 0 < n) }
         ensures bound { IfOk result (λ n. n ≤ length piece.now) }
-        ensures taken { IfOk result (λ n. Adds (held self.old) (held self.new) (take n piece.now)) }
+        ensures taken { IfOk result (λ n. AddsBytes (held self.old) (held self.new)
+            (take n piece.now)) }
         ensures refused { OnErr result (held self.new ≡ held self.old) }
         ensures counts { CountsFailure (is_failed_put result) (faults self.old) (faults self.new) };
 }

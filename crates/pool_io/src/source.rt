@@ -2,7 +2,7 @@
 
 ghost use Rattle.std.specs.Prelude.{◌≡◌, ◌<◌, ◌≤◌, ℕ, List, Option, length};
 ghost use Rattle.pool_io.specs.declared.turn.Turn.{Turn};
-ghost use Rattle.pool_io.specs.Outside.{IsWithinRoom, Takes, CountsFailure, is_failed_take};
+ghost use Rattle.pool_io.specs.Outside.{IsWithinRoom, TakesTurn, CountsFailure, is_failed_take};
 
 /// What a source answered.
 #[derive(Clone, Copy, Debug, PartialEq, Eq)]
@@ -30,7 +30,7 @@ pub trait Source {
     fn take(&mut self, buffer: &mut [u8]) -> Took
         requires { 0 < length buffer.old }
         ensures bound { IsWithinRoom result (length buffer.new) }
-        ensures turns { Takes (left self.old) (left self.new) result buffer.new }
+        ensures turns { TakesTurn (left self.old) (left self.new) result buffer.new }
         ensures counts { CountsFailure (is_failed_take result) (faults self.old)
             (faults self.new) };
 }

@@ -3,18 +3,18 @@ use Rattle.std.proofs.Common.{◌≡◌, ℕ, ◌+◌, ◌^◌, ◌<◌, ◌≤�
 use Rattle.pool_base.specs.Lists.{Begins}
 use Rattle.pool_io.specs.declared.turn.Turn.{Turn}
 use Rattle.pool_io.specs.declared.source.Took.TheVariants as took
-use Rattle.pool_io.specs.Outside.{Adds, Takes}
-use Rattle.pool_io.specs.Steps.{ReadStep, bytes_in, steps_of, idles_after, IsIdleOut, IsBytesOut, Brought}
-use Rattle.pool_io.proofs.Stepping.{bytes_in-more, bytes_in-idle, idles_after-more, idles_after-idle, free_bytes, free_idle, within_limits, brought_none, brought_all}
+use Rattle.pool_io.specs.Outside.{AddsBytes, TakesTurn}
+use Rattle.pool_io.specs.Steps.{ReadStep, bytes_in, steps_of, idles_after, IsFreeBefore, IsIdleOut, IsBytesOut, BringsSteps}
+use Rattle.pool_io.proofs.Stepping.{cut_at, bytes_in-more, bytes_in-idle, idles_after-more, idles_after-idle, free_bytes, free_idle, within_limits, brought_none, brought_all}
 use Rattle.pool_turns.specs.declared.end.End.{End}
 use Rattle.pool_turns.specs.declared.end.End.TheVariants as end
 use Rattle.pool_turns.specs.declared.tally.Tally.{Tally}
 use Rattle.pool_turns.specs.Limits.{bounds}
 use Rattle.pool_turns.specs.Duties.{Duty, IsSoundDuty, RefusesWithin}
-use Rattle.pool_turns.specs.Owing.{OwesRefusal, OwesSome, OwesFront, EndsWith}
+use Rattle.pool_turns.specs.Owing.{OwesRefusal, OwesSome, OwesFront}
 use Rattle.pool_turns.specs.Ending.{EndsCommand}
 use Rattle.pool_turns.specs.Between.{HasAnswered, EndsAfter, EndsAt, GoesOnOrEnds, TurnsOnOrEnds}
-use Rattle.pool_turns.proofs.Fronts.{free_none, cut_at}
+use Rattle.pool_turns.proofs.Fronts.{free_none}
 use Rattle.pool_turns.proofs.Puts.{Adds-none, Adds-more}
 use Rattle.pool_turns.proofs.Staying.{brought_at_end, brought_at_failure}
 
@@ -25,38 +25,28 @@ answered_first HasRead read before = record { free = free_none; idles = refl; by
 
 -- want of memory before the first turn
 pub memory_first : (duty : Duty) → IsSoundDuty duty → (turns : Option (List Turn)) (before : Option (List ℕ)) → EndsCommand duty turns turns before before end.Memory
-memory_first duty sound turns before = record {
-  taken = [];
-  brought = brought_none turns;
-  given = [];
-  put = Adds-none before;
-  ends = λ told is. ([], inl ([], steps_of told, refl, sound.nothing), ([], refl));
-}
+memory_first duty sound turns before =
+    record { taken = []; within = free_none.0; brought = brought_none turns; given = []; put = Adds-none before; ends = λ told is. (([], inl ([], steps_of told, refl, sound.nothing), ([], refl)), λ out. omega (arith, out)) }
 
 module _ (duty : Duty) (HasRead : List ℕ → List ℕ → Type 0) (so_far : (bytes text : List ℕ) → HasRead bytes text → duty.SoFar bytes text)
     (tally : Tally) (before now : Option (List ℕ)) (steps : List ReadStep) (answered : HasAnswered HasRead tally before now steps) where
   -- what was put is owed for a front of the steps
-  pub memory_ends : (more : List ReadStep) → EndsAfter duty before now (steps ++ more) end.Memory
-  memory_ends more = record {
+  front_answered : (all more : List ReadStep) → all ≡ steps ++ more → OwesFront duty all answered.given
+  front_answered all more is = (answered.given, inl (steps, more, is, so_far (bytes_in steps) answered.given answered.read), ([], append-nil answered.given))
+
+  pub memory_ends : (more : List ReadStep) → IsFreeBefore bounds (steps ++ more) → (IsIdleOut bounds (steps ++ more) → ⊥) → EndsAfter duty before now (steps ++ more) end.Memory
+  memory_ends more within busy = record {
+    within = within;
     given = answered.given;
     put = answered.put;
-    ends = λ rest. (
-      answered.given,
-      inl (steps, more ++ rest, append_assoc steps more rest, so_far (bytes_in steps) answered.given answered.read),
-      ([], append-nil answered.given),
-    );
+    ends = λ rest. (front_answered ((steps ++ more) ++ rest) (more ++ rest) (append_assoc steps more rest), busy);
   }
 
+  not_idle : IsIdleOut bounds steps → ⊥
+  not_idle out = answered.free.1 (inl out)
+
   pub memory_ends_at : EndsAt duty before now steps end.Memory
-  memory_ends_at = record {
-    given = answered.given;
-    put = answered.put;
-    ends = (
-      answered.given,
-      inl (steps, [], sym (append-nil steps), so_far (bytes_in steps) answered.given answered.read),
-      ([], append-nil answered.given),
-    );
-  }
+  memory_ends_at = record { within = answered.free.0; given = answered.given; put = answered.put; ends = (front_answered steps [] (sym (append-nil steps)), not_idle) }
 
   -- the last of the Idle answers
   pub idle_ends : tally.idles + 1 ≡ 36000 → EndsAfter duty before now (steps ++ None ∷ []) end.IdleOut
@@ -64,6 +54,7 @@ module _ (duty : Duty) (HasRead : List ℕ → List ℕ → Type 0) (so_far : (b
       let reached : IsIdleOut bounds (steps ++ None ∷ []) = omega (arith, last, answered.idles, idles_after-idle steps) in
       let free = free_idle bounds steps answered.free in
       record {
+        within = free;
         given = answered.given;
         put = answered.put;
         ends = λ rest. (
@@ -95,15 +86,17 @@ module _ (duty : Duty) (HasRead : List ℕ → List ℕ → Type 0) (so_far : (b
 
   -- the text that is put at the end of the input
   module _ (after : Option (List ℕ)) (text : List ℕ) where
-    pub done_ends_at : duty.Whole (bytes_in steps) (answered.given ++ text) → Adds now after text → EndsAt duty before after steps end.Done
+    pub done_ends_at : duty.Whole (bytes_in steps) (answered.given ++ text) → AddsBytes now after text → EndsAt duty before after steps end.Done
     done_ends_at whole put = record {
+      within = answered.free.0;
       given = answered.given ++ text;
       put = Adds-more before now after answered.given text answered.put put;
-      ends = record { owed = whole; free = answered.free };
+      ends = (record { owed = whole; free = answered.free }, refl);
     }
 
-    pub cut_ends_at : duty.Cut (bytes_in steps) (answered.given ++ text) → Adds now after text → EndsAt duty before after steps end.Refused
+    pub cut_ends_at : duty.Cut (bytes_in steps) (answered.given ++ text) → AddsBytes now after text → EndsAt duty before after steps end.Refused
     cut_ends_at cut put = record {
+      within = answered.free.0;
       given = answered.given ++ text;
       put = Adds-more before now after answered.given text answered.put put;
       ends = inr (record { owed = cut; free = answered.free });
@@ -120,23 +113,38 @@ module _ (duty : Duty) (HasRead : List ℕ → List ℕ → Type 0) (so_far : (b
     front_owed all front owed begins =
         (answered.given ++ text, owed, (begins.0, append_assoc answered.given front begins.0 ∙ ap (λ l. answered.given ++ l) begins.1))
 
-    module _ (put : (front : List ℕ) × Begins front text × Adds now after front) where
-      added : Adds before after (answered.given ++ put.0)
+    module _ (put : (front : List ℕ) × Begins front text × AddsBytes now after front) where
+      added : AddsBytes before after (answered.given ++ put.0)
       added = Adds-more before now after answered.given put.0 answered.put put.2
 
-      -- as the end by a failed write or by want of memory says
-      module _ (e : End) (says : (taken all : List ReadStep) (given : List ℕ) → OwesFront duty all given → EndsWith duty taken all given e) where
-        pub put_ends_at : OwesSome duty steps (answered.given ++ text) → EndsAt duty before after steps e
-        put_ends_at owed = record { given = answered.given ++ put.0; put = added; ends = says steps steps (answered.given ++ put.0) (front_owed steps put.0 owed put.1) }
+      pub put_fault_ends_at : OwesSome duty steps (answered.given ++ text) → EndsAt duty before after steps end.WriteFault
+      put_fault_ends_at owed = record { within = answered.free.0; given = answered.given ++ put.0; put = added; ends = front_owed steps put.0 owed put.1 }
 
-        pub put_ends : (more : List ReadStep) → ((rest : List ReadStep) → OwesSome duty ((steps ++ more) ++ rest) (answered.given ++ text)) → EndsAfter duty before after (steps ++ more) e
-        put_ends more owed =
-            record { given = answered.given ++ put.0; put = added; ends = λ rest. says (steps ++ more) ((steps ++ more) ++ rest) (answered.given ++ put.0) (front_owed ((steps ++ more) ++ rest) put.0 (owed rest) put.1) }
+      pub put_memory_ends_at : OwesSome duty steps (answered.given ++ text) → EndsAt duty before after steps end.Memory
+      put_memory_ends_at owed = record { within = answered.free.0; given = answered.given ++ put.0; put = added; ends = (front_owed steps put.0 owed put.1, not_idle) }
 
   -- a piece came, and the command told a text
   module _ (piece text : List ℕ) (some : 0 < length piece) (room : tally.taken + length piece ≤ 2 ^ 40) where
     room_left : length (bytes_in steps) + length piece ≤ 2 ^ 40
     room_left = rw answered.bytes room
+
+    pub piece_within : IsFreeBefore bounds (steps ++ map Some piece)
+    piece_within = free_bytes bounds steps answered.free piece (omega arith) room_left
+
+    pub piece_busy : IsIdleOut bounds (steps ++ map Some piece) → ⊥
+    piece_busy out = omega (arith, out, idles_after-more steps piece some)
+
+    -- a put of the text that failed
+    module _ (after : Option (List ℕ)) (put : (front : List ℕ) × Begins front text × AddsBytes now after front)
+        (owed : (rest : List ReadStep) → OwesSome duty ((steps ++ map Some piece) ++ rest) (answered.given ++ text)) where
+      front_put : (rest : List ReadStep) → OwesFront duty ((steps ++ map Some piece) ++ rest) (answered.given ++ put.0)
+      front_put rest = front_owed after text ((steps ++ map Some piece) ++ rest) put.0 (owed rest) put.1
+
+      pub put_fault_ends : EndsAfter duty before after (steps ++ map Some piece) end.WriteFault
+      put_fault_ends = record { within = piece_within; given = answered.given ++ put.0; put = added after text put; ends = front_put }
+
+      pub put_memory_ends : EndsAfter duty before after (steps ++ map Some piece) end.Memory
+      put_memory_ends = record { within = piece_within; given = answered.given ++ put.0; put = added after text put; ends = λ rest. (front_put rest, piece_busy) }
 
     pub short : length (bytes_in steps ++ piece) ≤ 2 ^ 40
     short = omega (arith, room_left, length-append (bytes_in steps) piece)
@@ -156,9 +164,10 @@ module _ (duty : Duty) (HasRead : List ℕ → List ℕ → Type 0) (so_far : (b
     pub refused_some : RefusesWithin HasRead duty.Refused piece [] text → (rest : List ReadStep) → OwesSome duty ((steps ++ map Some piece) ++ rest) (answered.given ++ text)
     refused_some refused rest = inr (inl (inl (refusal refused rest)))
 
-    pub refused_ends : (after : Option (List ℕ)) → RefusesWithin HasRead duty.Refused piece [] text → Adds now after text
+    pub refused_ends : (after : Option (List ℕ)) → RefusesWithin HasRead duty.Refused piece [] text → AddsBytes now after text
         → EndsAfter duty before after (steps ++ map Some piece) end.Refused
     refused_ends after refused put = record {
+      within = piece_within;
       given = answered.given ++ text;
       put = Adds-more before now after answered.given text answered.put put;
       ends = λ rest. inl (refusal refused rest);
@@ -173,12 +182,13 @@ module _ (duty : Duty) (HasRead : List ℕ → List ℕ → Type 0) (so_far : (b
       pub read_some : (rest : List ReadStep) → OwesSome duty ((steps ++ map Some piece) ++ rest) (answered.given ++ text)
       read_some rest = inl (steps ++ map Some piece, rest, refl, owed)
 
-      module _ (after : Option (List ℕ)) (put : Adds now after text) where
+      module _ (after : Option (List ℕ)) (put : AddsBytes now after text) where
         pub bytes_end : length (bytes_in steps) + length piece ≡ 2 ^ 40 → EndsAfter duty before after (steps ++ map Some piece) end.BytesOut
         bytes_end all =
             let reached : IsBytesOut bounds (steps ++ map Some piece) = omega (arith, all, ap length (bytes_in-more steps piece), length-append (bytes_in steps) piece) in
             let free = free_bytes bounds steps answered.free piece (omega arith) room_left in
             record {
+              within = free;
               given = answered.given ++ text;
               put = Adds-more before now after answered.given text answered.put put;
               ends = λ rest. (
@@ -207,12 +217,13 @@ module _ (duty : Duty) (HasRead : List ℕ → List ℕ → Type 0) (so_far : (b
 
 -- what happened after the steps happened in the run
 pub turns_on : (duty : Duty) (HasRead : List ℕ → List ℕ → Type 0) (tally : Tally) (turns left : Option (List Turn)) (before now : Option (List ℕ)) (steps : List ReadStep) (result : Option End)
-    → Brought turns left steps → GoesOnOrEnds duty HasRead tally before now steps result → TurnsOnOrEnds duty HasRead tally turns left before now result
+    → BringsSteps turns left steps → GoesOnOrEnds duty HasRead tally before now steps result → TurnsOnOrEnds duty HasRead tally turns left before now result
 turns_on duty HasRead tally turns left before now steps None brought answered = record { steps = steps; brought = brought; answered = answered }
 turns_on duty HasRead tally None left before now steps (Some end) brought ends =
-    record { taken = steps; brought = brought; given = ends.given; put = ends.put; ends = λ told is. cc }
+    record { taken = steps; brought = brought; given = ends.given; put = ends.put; ends = λ told is. cc; within = ends.within }
 turns_on duty HasRead tally (Some turns) left before now steps (Some end) brought ends = record {
   taken = steps;
+  within = ends.within;
   brought = brought;
   given = ends.given;
   put = ends.put;
@@ -223,11 +234,12 @@ turns_on duty HasRead tally (Some turns) left before now steps (Some end) brough
 
 -- the end of the input
 pub turns_to_end : (duty : Duty) (turns old left : Option (List Turn)) (before now : Option (List ℕ)) (steps : List ReadStep) (buffer : List ℕ) (end : End)
-    → Brought turns old steps → Takes old left took.End buffer → EndsAt duty before now steps end → EndsCommand duty turns left before now end
+    → BringsSteps turns old steps → TakesTurn old left took.End buffer → EndsAt duty before now steps end → EndsCommand duty turns left before now end
 turns_to_end duty None old left before now steps buffer end brought takes ends =
-    record { taken = steps; brought = tt; given = ends.given; put = ends.put; ends = λ told is. cc }
+    record { taken = steps; brought = tt; given = ends.given; put = ends.put; ends = λ told is. cc; within = ends.within }
 turns_to_end duty (Some turns) old left before now steps buffer end brought takes ends = record {
   taken = steps;
+  within = ends.within;
   brought = brought_at_end (Some turns) old left steps buffer brought takes;
   given = ends.given;
   put = ends.put;
@@ -239,9 +251,10 @@ turns_to_end duty (Some turns) old left before now steps buffer end brought take
 -- a failed read leaves the turns
 pub turns_to_fault : (duty : Duty) (HasRead : List ℕ → List ℕ → Type 0) → ((bytes text : List ℕ) → HasRead bytes text → duty.SoFar bytes text)
     → (tally : Tally) (turns old left : Option (List Turn)) (before now : Option (List ℕ)) (steps : List ReadStep) (buffer : List ℕ)
-    → Brought turns old steps → Takes old left took.Failed buffer → HasAnswered HasRead tally before now steps → EndsCommand duty turns left before now end.ReadFault
+    → BringsSteps turns old steps → TakesTurn old left took.Failed buffer → HasAnswered HasRead tally before now steps → EndsCommand duty turns left before now end.ReadFault
 turns_to_fault duty HasRead so_far tally turns old left before now steps buffer brought takes answered = record {
   taken = steps;
+  within = answered.free.0;
   brought = brought_at_failure turns old left steps buffer brought takes;
   given = answered.given;
   put = answered.put;

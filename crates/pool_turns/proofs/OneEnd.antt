@@ -1,14 +1,14 @@
 -- The steps that a source brings decide the end, but for faults and want of memory.
 use Rattle.std.proofs.Common.{◌≡◌, ℕ, List, ◌++◌, refl, sym, ap, subst, ◌∙◌, inl, inr}
 use Rattle.pool_io.specs.Steps.{ReadStep, bytes_in, IsAtLimit, IsIdleOut, IsBytesOut}
-use Rattle.pool_io.proofs.Stepping.{bytes_in-append}
+use Rattle.pool_io.proofs.Stepping.{bytes_in-append, longer, shorter, fronts_of, free_of}
 use Rattle.pool_turns.specs.declared.end.End.{End}
 use Rattle.pool_turns.specs.declared.end.End.TheVariants as end
 use Rattle.pool_turns.specs.Duties.{Duty, IsSoundDuty}
 use Rattle.pool_turns.specs.Limits.{bounds}
 use Rattle.pool_turns.specs.Owing.{OwesWhole, OwesRefused, OwesAtLimit, EndsWith}
 use Rattle.pool_turns.specs.Ending.{EndsAs, DecideEnd}
-use Rattle.pool_turns.proofs.Fronts.{longer, shorter, fronts_of, free_of, idle_or_bytes}
+use Rattle.pool_turns.proofs.Fronts.{idle_or_bytes}
 
 module _ (duty : Duty) (sound : IsSoundDuty duty) (steps : List ReadStep) where
   whole_refused : (text other : List ℕ) → OwesWhole duty steps text → OwesRefused duty steps other → ⊥
@@ -19,7 +19,7 @@ module _ (duty : Duty) (sound : IsSoundDuty duty) (steps : List ReadStep) where
 
   module _ (IsOut : List ReadStep → Type 0) (at : (front : List ReadStep) → IsOut front → IsAtLimit bounds front) where
     whole_limit : (text other : List ℕ) → OwesWhole duty steps text → OwesAtLimit duty IsOut steps other → ⊥
-    whole_limit text other whole limit = free_of steps limit.front limit.rest whole.free limit.split (at limit.front limit.reached.0)
+    whole_limit text other whole limit = free_of bounds steps limit.front limit.rest whole.free limit.split (at limit.front limit.reached.0)
 
     refused_limit : (text other : List ℕ) → OwesRefused duty steps text → OwesAtLimit duty IsOut steps other → ⊥
     refused_limit text other (inl refusal) limit =
@@ -29,7 +29,7 @@ module _ (duty : Duty) (sound : IsSoundDuty duty) (steps : List ReadStep) where
               let bytes : bytes_in limit.front ≡ bytes_in refusal.front ++ bytes_in part = ap bytes_in is ∙ bytes_in-append refusal.front part in
               sound.so_far_or_refused (bytes_in refusal.front) (bytes_in part) other text (subst (λ (b : List ℕ). duty.SoFar b other) bytes limit.owed) refusal.owed
         ]
-    refused_limit text other (inr cut) limit = free_of steps limit.front limit.rest cut.free limit.split (at limit.front limit.reached.0)
+    refused_limit text other (inr cut) limit = free_of bounds steps limit.front limit.rest cut.free limit.split (at limit.front limit.reached.0)
 
   idle_bytes : (text other : List ℕ) → OwesAtLimit duty (IsIdleOut bounds) steps text → OwesAtLimit duty (IsBytesOut bounds) steps other → ⊥
   idle_bytes text other idle out =
@@ -46,7 +46,7 @@ module _ (duty : Duty) (sound : IsSoundDuty duty) (steps : List ReadStep) where
     whole_ends end.Memory ends whole = inr tt
 
     refused_ends : (e : End) → EndsWith duty taken steps given e → OwesRefused duty steps text → EndsAs end.Refused e
-    refused_ends end.Done ends refused = absurd (whole_refused given text ends refused)
+    refused_ends end.Done ends refused = absurd (whole_refused given text ends.0 refused)
     refused_ends end.Refused ends refused = inl refl
     refused_ends end.IdleOut ends refused = absurd (refused_limit (IsIdleOut bounds) (λ front out. inl out) text given refused ends.0)
     refused_ends end.BytesOut ends refused = absurd (refused_limit (IsBytesOut bounds) (λ front out. inr out) text given refused ends.0)
@@ -55,7 +55,7 @@ module _ (duty : Duty) (sound : IsSoundDuty duty) (steps : List ReadStep) where
     refused_ends end.Memory ends refused = inr tt
 
     idle_ends : (e : End) → EndsWith duty taken steps given e → OwesAtLimit duty (IsIdleOut bounds) steps text → EndsAs end.IdleOut e
-    idle_ends end.Done ends limit = absurd (whole_limit (IsIdleOut bounds) (λ front out. inl out) given text ends limit)
+    idle_ends end.Done ends limit = absurd (whole_limit (IsIdleOut bounds) (λ front out. inl out) given text ends.0 limit)
     idle_ends end.Refused ends limit = absurd (refused_limit (IsIdleOut bounds) (λ front out. inl out) given text ends limit)
     idle_ends end.IdleOut ends limit = inl refl
     idle_ends end.BytesOut ends limit = absurd (idle_bytes text given limit ends.0)
@@ -64,7 +64,7 @@ module _ (duty : Duty) (sound : IsSoundDuty duty) (steps : List ReadStep) where
     idle_ends end.Memory ends limit = inr tt
 
     bytes_ends : (e : End) → EndsWith duty taken steps given e → OwesAtLimit duty (IsBytesOut bounds) steps text → EndsAs end.BytesOut e
-    bytes_ends end.Done ends limit = absurd (whole_limit (IsBytesOut bounds) (λ front out. inr out) given text ends limit)
+    bytes_ends end.Done ends limit = absurd (whole_limit (IsBytesOut bounds) (λ front out. inr out) given text ends.0 limit)
     bytes_ends end.Refused ends limit = absurd (refused_limit (IsBytesOut bounds) (λ front out. inr out) given text ends limit)
     bytes_ends end.IdleOut ends limit = absurd (idle_bytes given text ends.0 limit)
     bytes_ends end.BytesOut ends limit = inl refl

@@ -2,9 +2,9 @@
 use Rattle.std.proofs.Common.{◌≡◌, ℕ, ◌-◌, List, ◌++◌, length, take, drop, Option, Some, None, sym, ap, ◌∙◌, append_assoc, append-nil, length-drop, []}
 use Rattle.std.proofs.lemmas.List.{take-append-drop}
 use Rattle.std.proofs.Math.Seq.{take-length}
-use Rattle.pool_io.specs.Outside.{Adds}
+use Rattle.pool_io.specs.Outside.{AddsBytes}
 
-pub Adds-more : (a b c : Option (List ℕ)) (x y : List ℕ) → Adds a b x → Adds b c y → Adds a c (x ++ y)
+pub Adds-more : (a b c : Option (List ℕ)) (x y : List ℕ) → AddsBytes a b x → AddsBytes b c y → AddsBytes a c (x ++ y)
 Adds-more None b c x y first then = tt
 Adds-more (Some held) b c x y first then =
     let more = rw first at then in
@@ -12,9 +12,9 @@ Adds-more (Some held) b c x y first then =
 
 -- the first n bytes of the rest were put
 pub put_more : (before now after : Option (List ℕ)) (bytes rest : List ℕ) (n : ℕ)
-    → (front : List ℕ) × (front ++ rest ≡ bytes) × Adds before now front
-    → Adds now after (take n rest)
-    → (front : List ℕ) × (front ++ take (length rest - n) (drop n rest) ≡ bytes) × Adds before after front
+    → (front : List ℕ) × (front ++ rest ≡ bytes) × AddsBytes before now front
+    → AddsBytes now after (take n rest)
+    → (front : List ℕ) × (front ++ take (length rest - n) (drop n rest) ≡ bytes) × AddsBytes before after front
 put_more before now after bytes rest n put taken =
     let whole : take (length rest - n) (drop n rest) ≡ drop n rest = rw (← length-drop n rest) (take-length (drop n rest)) in (
       put.0 ++ take n rest,
@@ -23,6 +23,6 @@ put_more before now after bytes rest n put taken =
     )
 
 -- nothing more is held
-pub Adds-none : (held : Option (List ℕ)) → Adds held held []
+pub Adds-none : (held : Option (List ℕ)) → AddsBytes held held []
 Adds-none None = tt
 Adds-none (Some bytes) = ap Some (sym (append-nil bytes))

@@ -1,8 +1,8 @@
 -- Where a reading stands between two turns (this project's own).
 use Rattle.std.specs.Prelude.{ℕ, ◌+◌, ◌-◌, ◌*◌, ◌^◌, ◌<◌, ◌≡◌, List, ◌++◌, length, Option, Some, None}
 use Rattle.pool_io.specs.declared.turn.Turn.{Turn}
-use Rattle.pool_io.specs.Outside.{Adds}
-use Rattle.pool_io.specs.Steps.{ReadStep, bytes_in, idles_after, IsFree, Brought}
+use Rattle.pool_io.specs.Outside.{AddsBytes}
+use Rattle.pool_io.specs.Steps.{ReadStep, bytes_in, idles_after, IsFree, IsFreeBefore, BringsSteps}
 use Rattle.pool_turns.specs.Duties.{Duty}
 use Rattle.pool_turns.specs.Limits.{bounds}
 use Rattle.pool_turns.specs.Owing.{EndsWith}
@@ -27,21 +27,23 @@ pub record HasAnswered (HasRead : List ℕ → List ℕ → Type 0) (tally : Tal
   pub idles : idles_after 0 steps ≡ tally.idles
   pub bytes : length (bytes_in steps) ≡ tally.taken
   pub given : List ℕ
-  pub put : Adds before now given
+  pub put : AddsBytes before now given
   pub read : HasRead (bytes_in steps) given
 
 -- the end after these steps, whatever the source has to bring after them
 pub record EndsAfter (duty : Duty) (before now : Option (List ℕ)) (steps : List ReadStep)
     (end : End) : Type 0 where
+  pub within : IsFreeBefore bounds steps
   pub given : List ℕ
-  pub put : Adds before now given
+  pub put : AddsBytes before now given
   pub ends : (rest : List ReadStep) → EndsWith duty steps (steps ++ rest) given end
 
 -- the end where these are all steps
 pub record EndsAt (duty : Duty) (before now : Option (List ℕ)) (steps : List ReadStep)
     (end : End) : Type 0 where
+  pub within : IsFreeBefore bounds steps
   pub given : List ℕ
-  pub put : Adds before now given
+  pub put : AddsBytes before now given
   pub ends : EndsWith duty steps steps given end
 
 -- the command goes on after these steps, or has ended
@@ -54,7 +56,7 @@ GoesOnOrEnds duty HasRead tally before now steps (Some end) = EndsAfter duty bef
 pub record IsInRun (HasRead : List ℕ → List ℕ → Type 0) (tally : Tally)
     (turns left : Option (List Turn)) (before now : Option (List ℕ)) : Type 0 where
   pub steps : List ReadStep
-  pub brought : Brought turns left steps
+  pub brought : BringsSteps turns left steps
   pub answered : HasAnswered HasRead tally before now steps
 
 -- a turn leads to the next one, or the run has ended

@@ -16,8 +16,8 @@ pub record Duty : Type 1 where
 abbrev pub IsNothing : List ℕ → Type 0
 IsNothing rest = rest ≡ []
 
--- Nothing is owed for nothing, and bytes have one verdict: what is refused is refused whatever
--- follows, and where the input ends it is whole or cut.
+-- Nothing is owed so far for nothing, and no bytes have two verdicts: what is refused isn't whole
+-- and doesn't go on, whatever follows, and what is whole at its end isn't cut.
 pub record IsSoundDuty (duty : Duty) : Type 0 where
   pub nothing : duty.SoFar [] []
   pub whole_or_refused : (bytes more text other : List ℕ) → duty.Whole (bytes ++ more) text

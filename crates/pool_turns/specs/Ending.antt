@@ -1,22 +1,23 @@
 -- How a run of a command over a source and a sink ends (this project's own).
 use Rattle.std.specs.Prelude.{ℕ, ◌≡◌, ◌⊎◌, Bool, true, false, List, Option, Some, None}
 use Rattle.pool_io.specs.declared.turn.Turn.{Turn}
-use Rattle.pool_io.specs.Outside.{Adds}
-use Rattle.pool_io.specs.Steps.{ReadStep, steps_of, Brought, IsIdleOut, IsBytesOut}
+use Rattle.pool_io.specs.Outside.{AddsBytes}
+use Rattle.pool_io.specs.Steps.{ReadStep, steps_of, BringsSteps, IsFreeBefore, IsIdleOut, IsBytesOut}
 use Rattle.pool_turns.specs.Duties.{Duty}
 use Rattle.pool_turns.specs.Limits.{bounds}
 use Rattle.pool_turns.specs.Owing.{OwesWhole, OwesRefused, OwesAtLimit, EndsWith}
 use Rattle.pool_turns.specs.declared.end.End.{End}
 use Rattle.pool_turns.specs.declared.end.End.TheVariants.{Done, Refused, IdleOut, BytesOut, ReadFault, WriteFault, Memory}
 
--- between these turns to come and these held bytes, before and after: the steps taken, the text
--- put, and what the end says of them
+-- between these turns to come and these held bytes, before and after: the steps taken, no more than
+-- reach a limit, the text put, and what the end says of them
 pub record EndsCommand (duty : Duty) (turns left : Option (List Turn))
     (before after : Option (List ℕ)) (end : End) : Type 0 where
   pub taken : List ReadStep
-  pub brought : Brought turns left taken
+  pub within : IsFreeBefore bounds taken
+  pub brought : BringsSteps turns left taken
   pub given : List ℕ
-  pub put : Adds before after given
+  pub put : AddsBytes before after given
   pub ends : (told : List Turn) → turns ≡ Some told → EndsWith duty taken (steps_of told) given end
 
 -- an end that the input alone doesn't decide

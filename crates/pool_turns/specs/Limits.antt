@@ -7,5 +7,5 @@ abbrev pub bounds : Bounds
 bounds = record { idle_turns = 36000; bytes = 2 ^ 40 }
 
 -- the steps reach this limit, and no shorter front of them reaches one
-abbrev pub JustReaches : (List ReadStep → Type 0) → List ReadStep → Type 0
-JustReaches IsOut taken = IsOut taken × IsFreeBefore bounds taken
+abbrev pub JustReachesLimit : (List ReadStep → Type 0) → List ReadStep → Type 0
+JustReachesLimit IsOut taken = IsOut taken × IsFreeBefore bounds taken

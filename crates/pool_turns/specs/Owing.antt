@@ -1,9 +1,9 @@
--- What a command owes for the steps of a reading, within the limits (this project's own).
+-- What a command owes for the steps of a reading, and within which limits (this project's own).
 use Rattle.std.specs.Prelude.{ℕ, ◌≡◌, ◌⊎◌, List, ◌++◌}
 use Rattle.pool_base.specs.Lists.{Begins}
 use Rattle.pool_io.specs.Steps.{ReadStep, bytes_in, IsFree, IsFreeBefore, IsIdleOut, IsBytesOut}
 use Rattle.pool_turns.specs.Duties.{Duty}
-use Rattle.pool_turns.specs.Limits.{bounds, JustReaches}
+use Rattle.pool_turns.specs.Limits.{bounds, JustReachesLimit}
 use Rattle.pool_turns.specs.declared.end.End.{End}
 use Rattle.pool_turns.specs.declared.end.End.TheVariants.{Done, Refused, IdleOut, BytesOut, ReadFault, WriteFault, Memory}
 
@@ -36,7 +36,7 @@ pub record OwesAtLimit (duty : Duty) (IsOut : List ReadStep → Type 0) (steps :
   pub rest : List ReadStep
   pub split : steps ≡ front ++ rest
   pub owed : duty.SoFar (bytes_in front) text
-  pub reached : JustReaches IsOut front
+  pub reached : JustReachesLimit IsOut front
 
 -- the steps so far aren't refused, and none of their fronts reaches a limit
 pub record OwesSoFar (duty : Duty) (steps : List ReadStep) (text : List ℕ) : Type 0 where
@@ -58,12 +58,13 @@ OwesFront duty steps given = (text : List ℕ) × OwesSome duty steps text × Be
 -- what an end says of the steps that were taken, of all that the source had, and of the text that
 -- was put
 abbrev pub EndsWith : Duty → List ReadStep → List ReadStep → List ℕ → End → Type 0
-EndsWith duty taken steps given Done = OwesWhole duty steps given
+EndsWith duty taken steps given Done = OwesWhole duty steps given × (taken ≡ steps)
 EndsWith duty taken steps given Refused = OwesRefused duty steps given
 EndsWith duty taken steps given IdleOut = OwesAtLimit duty (IsIdleOut bounds) steps given
-    × JustReaches (IsIdleOut bounds) taken
+    × JustReachesLimit (IsIdleOut bounds) taken
 EndsWith duty taken steps given BytesOut = OwesAtLimit duty (IsBytesOut bounds) steps given
-    × JustReaches (IsBytesOut bounds) taken
+    × JustReachesLimit (IsBytesOut bounds) taken
 EndsWith duty taken steps given ReadFault = OwesSoFar duty taken given
 EndsWith duty taken steps given WriteFault = OwesFront duty steps given
-EndsWith duty taken steps given Memory = OwesFront duty steps given
+EndsWith duty taken steps given Memory =
+    OwesFront duty steps given × (IsIdleOut bounds taken → ⊥)

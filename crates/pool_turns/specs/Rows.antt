@@ -2,7 +2,7 @@
 use Rattle.std.specs.Prelude.{ℕ, ◌≡◌, ◌⊎◌, List, [], ◌∷◌, ◌++◌, Option, Some, Err}
 use Rattle.pool_io.specs.declared.host.HostError.{HostError}
 use Rattle.pool_io.specs.declared.turn.Turn.{Turn}
-use Rattle.pool_io.specs.Lending.{Lending, emptied}
+use Rattle.pool_io.specs.Lending.{Lending, nothing_left}
 use Rattle.pool_io.specs.Outside.{CountsFailure, is_failed_gift}
 use Rattle.pool_io.specs.Seen.{Seen}
 use Rattle.pool_io.specs.Steps.{steps_of}
@@ -32,8 +32,8 @@ pub record RanOnHost {S T : Type 0} (meanings : Meanings S T) (duty : Duty) (old
   pub sink : T
   pub sources : CameBack old.sources new.sources source
   pub sinks : CameBack old.sinks new.sinks sink
-  pub input : new.input ≡ emptied old.input
-  pub output : new.output ≡ emptied old.output
+  pub input : new.input ≡ nothing_left old.input
+  pub output : new.output ≡ nothing_left old.output
   pub host : new.faults ≡ old.faults
   -- what the end says of the input and of what was put
   pub ran : EndsCommand duty old.input (meanings.left source) old.output (meanings.held sink) end
@@ -52,14 +52,17 @@ pub record CameBackUnread {S T : Type 0} (meanings : Meanings S T) (old new : Se
     pub reads : meanings.read_faults source ≡ 0
 
 -- The host gave no source, or a source and no sink; no sink came back.
-pub record WasRefused {S T : Type 0} (meanings : Meanings S T) (old new : Seen S T)
+pub record IsRefusedByHost {S T : Type 0} (meanings : Meanings S T) (old new : Seen S T)
     (error : HostError) : Type 0 where
-  pub source : (new.sources ≡ old.sources) ⊎ CameBackUnread meanings old new
+  pub source : ((new.sources ≡ old.sources) × (new.input ≡ old.input))
+      ⊎ CameBackUnread meanings old new
   pub sinks : new.sinks ≡ old.sinks
+  pub output : new.output ≡ old.output
   pub counts : CountsFailure (is_failed_gift {A = Unit {0}} (Err error)) old.faults new.faults
 
 -- the row of a command over standard input and output: what it owes at each status
 abbrev pub StreamRow : {S T : Type 0} → Meanings S T → Duty → Seen S T → Seen S T → Status → Type 0
 StreamRow meanings duty old new status =
     ((end : End) × (status ≡ status_of_end end) × RanOnHost meanings duty old new end)
-    ⊎ ((error : HostError) × (status ≡ status_of_refusal error) × WasRefused meanings old new error)
+    ⊎ ((error : HostError) × (status ≡ status_of_refusal error)
+    × IsRefusedByHost meanings old new error)

@@ -77,6 +77,6 @@ pub trait StreamCommand: Drop {
     ghost owes_so_far: { (command : Self) (bytes text : List ℕ) → has_read command bytes text
         → (duty (asked command)).SoFar bytes text };
 
-    /// Nothing is owed for nothing, and bytes have one verdict.
+    /// Nothing is owed so far for nothing, and no bytes have two verdicts.
     ghost is_sound: { (task : Self.Task) → IsSoundDuty (duty task) };
 }

@@ -2,15 +2,15 @@
 
 ghost use Rattle.std.specs.Prelude.{ℕ, List, OnOk, OnErr};
 ghost use Rattle.pool_base.specs.Lists.{Begins};
-ghost use Rattle.pool_io.specs.Outside.{Adds, CountsFailure, is_failed_put};
+ghost use Rattle.pool_io.specs.Outside.{AddsBytes, CountsFailure, is_failed_put};
 
 use pool_io::{Sink, SinkFailed};
 
 /// Puts all bytes. After an `Err` the sink has some front of them.
 pub fn put_all<T: Sink>(sink: &mut T, bytes: &[u8]) -> Result<(), SinkFailed>
-    ensures ok { OnOk result (Adds (T.held sink.old) (T.held sink.new) bytes.now) }
+    ensures ok { OnOk result (AddsBytes (T.held sink.old) (T.held sink.new) bytes.now) }
     ensures err { OnErr result ((front : List ℕ) × Begins front bytes.now
-        × Adds (T.held sink.old) (T.held sink.new) front) }
+        × AddsBytes (T.held sink.old) (T.held sink.new) front) }
     ensures counts { CountsFailure (is_failed_put result) (T.faults sink.old) (T.faults sink.new) }
 {
     let mut rest = bytes;

@@ -1,9 +1,8 @@
 use Rattle.std.proofs.Common.{ℕ, List, ◌++◌, Option, append-nil, refl}
 use Rattle.pool_io.specs.Steps.{ReadStep, bytes_in}
 use Rattle.pool_turns.specs.Between.{HasAnswered}
-use Rattle.pool_turns.specs.declared.end.End.TheVariants as end
 use Rattle.pool_turns.specs.Owing.{OwesSome}
-use Rattle.pool_turns.proofs.Driving.{memory_ends_at, done_ends_at, cut_ends_at, whole_some, cut_some, put_ends_at}
+use Rattle.pool_turns.proofs.Driving.{memory_ends_at, done_ends_at, cut_ends_at, whole_some, cut_some, put_fault_ends_at, put_memory_ends_at}
 use Rattle.pool_turns.proofs.driver.Reading.finish.Goals as goal
 use Rattle.pool_turns.proofs.driver.Reading.finish.Goals.{After-put_all, in-Ok, in-Err-Refused}
 
@@ -53,12 +52,12 @@ pub returns-in-Err-Failed-clause-ends : goal.returns-in-Err-Failed-clause-ends
 returns-in-Err-Failed-clause-ends g c = λ before steps answered.
     let duty = g.C.StreamCommand.duty (g.C.StreamCommand.asked c.args.self.now.command) in
     let put = rw c.deref.ensures.value at c.in-Err-Failed.ensures.err in
-    put_ends_at duty _ (g.met.C.StreamCommand.owes_so_far c.args.self.now.command) _ before _ steps answered (g.T.Sink.held c.put_all.new.sink) _ put end.WriteFault (λ taken all given owed. owed)
+    put_fault_ends_at duty _ (g.met.C.StreamCommand.owes_so_far c.args.self.now.command) _ before _ steps answered (g.T.Sink.held c.put_all.new.sink) _ put
     (owed_at g (goal.at-returns-in-Err-Failed-clause-ends g c).After-put_all before steps answered)
 
 pub returns-in-Err-Memory-put_all-clause-ends : goal.returns-in-Err-Memory-put_all-clause-ends
 returns-in-Err-Memory-put_all-clause-ends g c = λ before steps answered.
     let duty = g.C.StreamCommand.duty (g.C.StreamCommand.asked c.args.self.now.command) in
     let put = rw c.deref.ensures.value at c.in-Err-Memory-put_all.ensures.err in
-    put_ends_at duty _ (g.met.C.StreamCommand.owes_so_far c.args.self.now.command) _ before _ steps answered (g.T.Sink.held c.put_all.new.sink) _ put end.Memory (λ taken all given owed. owed)
+    put_memory_ends_at duty _ (g.met.C.StreamCommand.owes_so_far c.args.self.now.command) _ before _ steps answered (g.T.Sink.held c.put_all.new.sink) _ put
     (owed_at g (goal.at-returns-in-Err-Memory-put_all-clause-ends g c).After-put_all before steps answered)

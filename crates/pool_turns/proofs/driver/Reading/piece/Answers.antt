@@ -1,10 +1,9 @@
 use Rattle.std.proofs.Common.{◌≡◌, ◌+◌, ◌^◌, ◌<◌, ◌≤◌, ℕ, List, [], ◌++◌, Option, Some, length, map, refl, sym, subst, ◌∙◌, append-nil, arith}
 use Rattle.pool_io.specs.Steps.{ReadStep, bytes_in}
 use Rattle.pool_turns.specs.Between.{HasAnswered}
-use Rattle.pool_turns.specs.declared.end.End.TheVariants as end
 use Rattle.pool_turns.specs.Owing.{OwesSome}
 use Rattle.pool_turns.specs.Duties.{RefusesWithin}
-use Rattle.pool_turns.proofs.Driving.{memory_ends, short, refused_some, refused_ends, read_some, bytes_end, answered_more, put_ends}
+use Rattle.pool_turns.proofs.Driving.{memory_ends, short, refused_some, refused_ends, read_some, bytes_end, answered_more, piece_within, piece_busy, put_fault_ends, put_memory_ends}
 use Rattle.pool_turns.proofs.driver.Reading.piece.Goals as goal
 use Rattle.pool_turns.proofs.driver.Reading.piece.Goals.{After-put_all, Else-refused, in-Ok, in-Err-Refused}
 
@@ -48,18 +47,20 @@ module _ (g : _) (c : After-put_all g) (before : Option (List ℕ)) (steps : Lis
 pub returns-in-Err-Memory-clause-goes : goal.returns-in-Err-Memory-clause-goes
 returns-in-Err-Memory-clause-goes g c = λ before steps answered.
     memory_ends (g.C.StreamCommand.duty (g.C.StreamCommand.asked c.args.self.now.command)) _ (g.met.C.StreamCommand.owes_so_far c.args.self.now.command) _ before _ steps answered _
+    (piece_within (g.C.StreamCommand.duty (g.C.StreamCommand.asked c.args.self.now.command)) _ (g.met.C.StreamCommand.owes_so_far c.args.self.now.command) _ before _ steps answered c.args.piece.now c.read.new.text.items c.requires.some c.requires.room)
+    (piece_busy (g.C.StreamCommand.duty (g.C.StreamCommand.asked c.args.self.now.command)) _ (g.met.C.StreamCommand.owes_so_far c.args.self.now.command) _ before _ steps answered c.args.piece.now c.read.new.text.items c.requires.some c.requires.room)
 
 pub returns-in-Err-Failed-clause-goes : goal.returns-in-Err-Failed-clause-goes
 returns-in-Err-Failed-clause-goes g c = λ before steps answered.
     let put = rw c.deref.ensures.value at c.in-Err-Failed.ensures.err in
-    put_ends (g.C.StreamCommand.duty (g.C.StreamCommand.asked c.args.self.now.command)) _ (g.met.C.StreamCommand.owes_so_far c.args.self.now.command) _ before _ steps answered
-    (g.T.Sink.held c.put_all.new.sink) c.read.new.text.items put end.WriteFault (λ taken all given owed. owed) _ (owed_at g (goal.at-returns-in-Err-Failed-clause-goes g c).After-put_all before steps answered)
+    put_fault_ends (g.C.StreamCommand.duty (g.C.StreamCommand.asked c.args.self.now.command)) _ (g.met.C.StreamCommand.owes_so_far c.args.self.now.command) _ before _ steps answered
+    c.args.piece.now c.read.new.text.items c.requires.some c.requires.room (g.T.Sink.held c.put_all.new.sink) put (owed_at g (goal.at-returns-in-Err-Failed-clause-goes g c).After-put_all before steps answered)
 
 pub returns-in-Err-Memory-put_all-clause-goes : goal.returns-in-Err-Memory-put_all-clause-goes
 returns-in-Err-Memory-put_all-clause-goes g c = λ before steps answered.
     let put = rw c.deref.ensures.value at c.in-Err-Memory-put_all.ensures.err in
-    put_ends (g.C.StreamCommand.duty (g.C.StreamCommand.asked c.args.self.now.command)) _ (g.met.C.StreamCommand.owes_so_far c.args.self.now.command) _ before _ steps answered
-    (g.T.Sink.held c.put_all.new.sink) c.read.new.text.items put end.Memory (λ taken all given owed. owed) _ (owed_at g (goal.at-returns-in-Err-Memory-put_all-clause-goes g c).After-put_all before steps answered)
+    put_memory_ends (g.C.StreamCommand.duty (g.C.StreamCommand.asked c.args.self.now.command)) _ (g.met.C.StreamCommand.owes_so_far c.args.self.now.command) _ before _ steps answered
+    c.args.piece.now c.read.new.text.items c.requires.some c.requires.room (g.T.Sink.held c.put_all.new.sink) put (owed_at g (goal.at-returns-in-Err-Memory-put_all-clause-goes g c).After-put_all before steps answered)
 
 pub returns-then-refused-clause-goes : goal.returns-then-refused-clause-goes
 returns-then-refused-clause-goes g c = λ before steps answered.
