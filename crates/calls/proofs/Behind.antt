@@ -45,11 +45,20 @@ front-of reached number least events most (first ∷ earlier) later call p =
     front-of (reached ++ first.added) (number + 1) first.faults_after events most earlier later call p.4
     ∙ append_assoc reached first.added (flat_map (λ c. c.added) earlier)
 
+-- the number of any of them
+number-of : {E Q R F : Type 0} (reached : List E) (number least : ℕ) (events : List E) (most : ℕ) (earlier later : List (Call E Q R F)) (call : Call E Q R F)
+    → PartsFrom reached number least events most (earlier ++ call ∷ later) → call.number ≡ number + length earlier
+number-of reached number least events most [] later call p = omega (arith, p.1)
+number-of reached number least events most (first ∷ earlier) later call p =
+    omega (arith, number-of (reached ++ first.added) (number + 1) first.faults_after events most earlier later call p.4)
+
 pub calls-all : {E Q R F : Type 0} → CallsAreAll E Q R F
 calls-all start events least most calls parted = record {
   whole = whole-of start 0 least events most parted.ordered parted.parts;
   fronts = λ earlier later call is.
       front-of start 0 least events most earlier later call (subst (PartsFrom start 0 least events most) is parted.parts);
+  numbers = λ earlier later call is.
+      omega (arith, number-of start 0 least events most earlier later call (subst (PartsFrom start 0 least events most) is parted.parts));
 }
 
 -- the events before a good call

@@ -1,5 +1,5 @@
 -- Where calls stand (this project's own).
-use Rattle.std.specs.Prelude.{◌≡◌, ℕ, ◌<◌, List, [], ◌∷◌, ◌++◌, take}
+use Rattle.std.specs.Prelude.{◌≡◌, ℕ, ◌<◌, List, [], ◌∷◌, ◌++◌, length, take}
 use Rattle.std.specs.List.{AllByRecursion, flat_map}
 use Rattle.calls.specs.Calls.{Call, Parted, PartsFrom, RiseFrom}
 
@@ -25,6 +25,8 @@ pub record AreAll {E Q R F : Type 0} (start events : List E)
   pub fronts : (earlier later : List (Call E Q R F)) (call : Call E Q R F)
       → ordered ≡ earlier ++ call ∷ later
       → take call.front events ≡ start ++ flat_map (λ call. call.added) earlier
+  pub numbers : (earlier later : List (Call E Q R F)) (call : Call E Q R F)
+      → ordered ≡ earlier ++ call ∷ later → call.number ≡ length earlier
 
 -- so it is with the calls that part them, and the events before a call are what the calls before it
 -- left

@@ -30,47 +30,54 @@ said reply.NoSession = None
 said (reply.PoolFull most) = None
 said answer = None
 
--- a step that answers so made the Enter of that session
-record MadeEnter (past : List Event) (worker : ℕ) (role : Role) (session : ℕ) (step : Effect) : Type 0 where
-  flags : ℕ
-  event_is : step.event ≡ Some (event.Enter worker role flags)
+-- a step that answers so made the Enter of that session, with the flags that the rules allow
+record MadeEnter (past : List Event) (o : Option Rules) (worker : ℕ) (role : Role) (flags session : ℕ) (step : Effect) : Type 0 where
+  rules : Rules
+  are_rules : o ≡ Some rules
+  event_is : step.event ≡ Some (event.Enter worker role (bit_and flags (allowed_flags rules)))
   number : enters past ≡ session
 
 step-made : (past : List Event) (worker : ℕ) (role : Role) (flags session : ℕ) (o : Option Rules)
     → (step_under o past worker (request.Enter role flags)).reply ≡ reply.Entered session
-    → MadeEnter past worker role session (step_under o past worker (request.Enter role flags))
+    → MadeEnter past o worker role flags session (step_under o past worker (request.Enter role flags))
 step-made past worker role flags session None is =
     let no : ◌≡◌ {A = Option ℕ} None (Some session) = ap said is in
     absurd (none-some no)
 step-made past worker role flags session (Some rules) was =
     cond_both (nat_lt (enters past) most_enters) (with_event (event.Enter worker role (bit_and flags (allowed_flags rules))) (reply.Entered (enters past)))
-    (without_event (reply.PoolFull most_enters)) (λ s. s.reply ≡ reply.Entered session → MadeEnter past worker role session s)
-    (λ few is. record { flags = bit_and flags (allowed_flags rules); event_is = refl; number = some-same (ap said is) })
+    (without_event (reply.PoolFull most_enters)) (λ s. s.reply ≡ reply.Entered session → MadeEnter past (Some rules) worker role flags session s)
+    (λ few is. record { rules = rules; are_rules = refl; event_is = refl; number = some-same (ap said is) })
     (λ full is. absurd (none-some (ap said is))) was
 
 -- the call that entered a session added its Enter
+record AddedEnter (history : List Event) (enter : PoolCall) (role : Role) (flags session : ℕ) : Type 0 where
+  rules : Rules
+  are_rules : rules_of (past_of (take enter.front history)) ≡ Some rules
+  added : enter.added ≡ event.Enter enter.worker role (bit_and flags (allowed_flags rules)) ∷ []
+  number : enters (past_of (take enter.front history)) ≡ session
+
 entered-it : (history : List Event) (enter : PoolCall) (role : Role) (flags session : ℕ) → IsGoodPoolCall history enter → Enters enter role flags session
-    → (made : ℕ) × (enter.added ≡ event.Enter enter.worker role made ∷ []) × (enters (past_of (take enter.front history)) ≡ session)
+    → AddedEnter history enter role flags session
 entered-it history enter role flags session g e =
     let before : List Event = take enter.front history in
     let a : Answer before enter.worker (request.Enter role flags) enter.added (reply.Entered session) =
     subst (λ asked. Answer before enter.worker asked enter.added (reply.Entered session)) e.asked
     (calls-answered history enter (reply.Entered session) g e.entered) in
-    let m : MadeEnter (past_of before) enter.worker role session (step_under (rules_of (past_of before)) (past_of before) enter.worker (request.Enter role flags)) =
+    let m : MadeEnter (past_of before) (rules_of (past_of before)) enter.worker role flags session (step_under (rules_of (past_of before)) (past_of before) enter.worker (request.Enter role flags)) =
     step-made (past_of before) enter.worker role flags session (rules_of (past_of before)) (sym a.reply_is) in
-    (m.flags, a.events_are ∙ ap option_to_list m.event_is, m.number)
+    record { rules = m.rules; are_rules = m.are_rules; added = a.events_are ∙ ap option_to_list m.event_is; number = m.number }
 
-finds-it : (history : List Event) (enter : PoolCall) (role : Role) (session made : ℕ) → enter.added ≡ event.Enter enter.worker role made ∷ []
-    → enters (past_of (take enter.front history)) ≡ session → (call : PoolCall) → StandsBehind history enter call
-    → FindsEntered history enter.worker role session call
-finds-it history enter role session made added number call s = record {
-  kept_flags = made;
+finds-it : (history : List Event) (enter : PoolCall) (role : Role) (flags session : ℕ) → AddedEnter history enter role flags session
+    → (call : PoolCall) → StandsBehind history enter call → FindsEntered history (take enter.front history) enter.worker role flags session call
+finds-it history enter role flags session made call s = record {
+  rules = made.rules;
+  are_rules = made.are_rules;
   has_entered = record {
     before = take enter.front history;
     after = s.between;
-    parts = s.behind ∙ ap (λ l. (take enter.front history ++ l) ++ s.between) added
-        ∙ append_assoc (take enter.front history) (event.Enter enter.worker role made ∷ []) s.between;
-    number = number;
+    parts = s.behind ∙ ap (λ l. (take enter.front history ++ l) ++ s.between) made.added
+        ∙ append_assoc (take enter.front history) (event.Enter enter.worker role (bit_and flags (allowed_flags made.rules)) ∷ []) s.between;
+    number = made.number;
   };
 }
 
@@ -82,7 +89,6 @@ behind-it history (first ∷ earlier) later call h = behind-it history earlier l
 
 pub sessions-behind : SessionsAskBehindTheirEnter
 sessions-behind start history least most known now earlier later others enter role flags session parted rising g e =
-    let made : (made : ℕ) × (enter.added ≡ event.Enter enter.worker role made ∷ []) × (enters (past_of (take enter.front history)) ≡ session) =
-    entered-it history enter role flags session g e in
-    all-map (StandsBehind history enter) (FindsEntered history enter.worker role session) (finds-it history enter role session made.0 made.1 made.2) later
+    all-map (StandsBehind history enter) (FindsEntered history (take enter.front history) enter.worker role flags session)
+    (finds-it history enter role flags session (entered-it history enter role flags session g e)) later
     (behind-it history earlier later enter (callers-go_on start history least most known now (earlier ++ enter ∷ later) others parted rising))

@@ -1,5 +1,5 @@
 -- Of calls whose numbers don't rise, one needn't find its session entered.
-use Rattle.std.proofs.Common.{◌≡◌, ℕ, ◌+◌, List, [], ◌∷◌, ◌++◌, length, refl, ap, ◌∙◌, arith}
+use Rattle.std.proofs.Common.{◌≡◌, ℕ, ◌+◌, List, [], ◌∷◌, ◌++◌, length, take, refl, ap, ◌∙◌, arith}
 use Rattle.std.proofs.lemmas.List.{length-append}
 use Rattle.std.proofs.lemmas.List.Sorted.{IsPermutation-swap}
 use Rattle.std.specs.List.{AllByRecursion}
@@ -10,7 +10,9 @@ use Rattle.pool_history.specs.declared.events.Event.TheVariants as event
 use Rattle.pool_history.specs.declared.events.Role.{Role}
 use Rattle.pool_history.specs.declared.events.Role.TheVariants as role
 use Rattle.pool_history.specs.declared.replies.Reply.TheVariants as reply
+use Rattle.std.specs.Prelude.{bit_and}
 use Rattle.pool_history.specs.Calls.{IsGoodPoolCall, PoolCall}
+use Rattle.pool_history.specs.Legal.{allowed_flags}
 use Rattle.pool_history.proofs.Given.{enters, start}
 use Rattle.history_laws.specs.Places.{HasEntered}
 use Rattle.history_laws.specs.Serving.{Enters, FindsEntered}
@@ -47,7 +49,7 @@ abbrev pub SessionsAskAnyhow : Type 0
 SessionsAskAnyhow =
     (first history : List Event) (least most : ℕ) (earlier later others : List PoolCall) (enter : PoolCall) (role : Role) (flags session : ℕ)
     → Parted first history least most ((earlier ++ enter ∷ later) ++ others) → IsGoodPoolCall history enter → Enters enter role flags session
-    → AllByRecursion (FindsEntered history enter.worker role session) later
+    → AllByRecursion (FindsEntered history (take enter.front history) enter.worker role flags session) later
 
 both-in_order : PartsFrom (start ∷ []) 0 0 entered_late 0 (asks_early ∷ enters_then ∷ [])
 both-in_order = (refl, refl, omega arith, omega arith, (refl, refl, omega arith, omega arith, (refl, omega arith)))
@@ -83,6 +85,6 @@ no-entered kept h = none h.before h.parts where
 
 pub no-asking_anyhow : SessionsAskAnyhow → ⊥
 no-asking_anyhow law =
-    let f : FindsEntered entered_late 0 role.Solo 0 asks_early =
+    let f : FindsEntered entered_late (start ∷ []) 0 role.Solo 0 0 asks_early =
     (law (start ∷ []) entered_late 0 0 [] (asks_early ∷ []) [] enters_then role.Solo 0 0 both-part enter-good (record { asked = refl; entered = refl })).0 in
-    no-entered f.kept_flags f.has_entered
+    no-entered (bit_and 0 (allowed_flags f.rules)) f.has_entered

@@ -1,6 +1,6 @@
 -- What has to be kept of jobs (this project's own): how many there are, whose each miner's own job
 -- is, the future and live ones whole, and the tip. Each move and each reader of the jobs goes
--- through it, so stale templates needn't be kept. Computed in `WrongLaws`.
+-- through it, so stale templates needn't be kept.
 use Rattle.std.specs.Prelude.{◌≡◌, ℕ, ◌+◌, ◌==◌, ◌&&◌, ◌||◌, Bool, true, false, not, if◌then◌else◌, Option, Some, List, [], ◌∷◌, ◌++◌, length, nat_le}
 use Rattle.std.specs.List.{flat_map, list_any}
 use Rattle.pool_history.specs.declared.events.Event.{Event}

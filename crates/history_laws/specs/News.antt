@@ -1,5 +1,5 @@
 -- What is owed to a session, place by place, and that it goes on where it ended (this project's
--- own). Computed in `NewsRows` of `pool_history`.
+-- own). The news of one event is computed in `NewsRows` of `pool_history`.
 use Rattle.std.specs.Prelude.{◌≡◌, ℕ, ◌≤◌, if◌then◌else◌, List, [], ◌∷◌, ◌++◌, length, nat_le}
 use Rattle.pool_history.specs.declared.events.Event.{Event}
 use Rattle.pool_history.specs.declared.telling.Note.{Note}

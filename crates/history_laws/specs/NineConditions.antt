@@ -1,7 +1,8 @@
 -- The nine conditions of a share, each by itself (Stratum V2, "SubmitShares.Error"; their order is
--- this project's own). Channels, states and headers are those by places over the history from its
--- front; the live job is the one of `jobs_by_places`. A code is told exactly where its condition
--- fails and all before it hold. Computed in `Rows`.
+-- this project's own). Channels, states, tips and credits are those by places over the history from
+-- its front; which job is live, and what a credit was booked with, is told by the recursions over
+-- jobs, of which `jobs_by_places` and `states_by_places` say the places. A code is told exactly where
+-- its condition fails and all before it hold. What the recursion tells is computed in `Rows`.
 use Rattle.std.specs.Prelude.{IsTrue, ◌≡◌, ◌↔◌, ◌⊎◌, ℕ, ◌+◌, ◌≤◌, ◌<◌, Bool, true, Option, None, Some, List, [], ◌∷◌, ◌++◌, length}
 use Rattle.std.specs.List.{list_any}
 use Rattle.std.specs.Option.{option_map}

@@ -13,7 +13,16 @@ use Rattle.pool_history.specs.Sessions.{Entrance, entrance, enters, is_present, 
 abbrev pub ends_session : ℕ → ℕ → Event → Bool
 ends_session worker session (event.Enter entering role flags) = entering == worker
 ends_session worker session (event.Leave leaving) = session == leaving
-ends_session worker session event = false
+ends_session worker session (event.Start rules) = false
+ends_session worker session (event.Template naming template) = false
+ends_session worker session (event.Tip naming tip) = false
+ends_session worker session (event.Open naming kind account class lead) = false
+ends_session worker session (event.Name naming channel account) = false
+ends_session worker session (event.Class naming channel class) = false
+ends_session worker session (event.Close naming channel) = false
+ends_session worker session (event.Credit naming channel job nonce ntime version extranonce) = false
+ends_session worker session (event.Grant naming account fixed path) = false
+ends_session worker session (event.Custom naming custom) = false
 
 -- the Enter of a session: its number is that of the Enters before it
 pub record HasEntered (history : List Event) (worker : ℕ) (role : Role)
@@ -57,7 +66,16 @@ PresentIsSomeWorkers =
 abbrev pub ends_channel : ℕ → ℕ → Event → Bool
 ends_channel id session (event.Close closing channel) = id == channel
 ends_channel id session (event.Leave leaving) = session == leaving
-ends_channel id session event = false
+ends_channel id session (event.Start rules) = false
+ends_channel id session (event.Enter worker role flags) = false
+ends_channel id session (event.Template naming template) = false
+ends_channel id session (event.Tip naming tip) = false
+ends_channel id session (event.Open naming kind account class lead) = false
+ends_channel id session (event.Name naming channel account) = false
+ends_channel id session (event.Class naming channel class) = false
+ends_channel id session (event.Credit naming channel job nonce ntime version extranonce) = false
+ends_channel id session (event.Grant naming account fixed path) = false
+ends_channel id session (event.Custom naming custom) = false
 
 -- the account of the first Name of a channel that says one
 abbrev pub account_named : ℕ → List Event → List ℕ

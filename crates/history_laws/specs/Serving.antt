@@ -1,5 +1,5 @@
 -- What the calls that made a history leave (this project's own).
-use Rattle.std.specs.Prelude.{◌≡◌, ℕ, ◌≤◌, List, ◌∷◌, ◌++◌, length, take}
+use Rattle.std.specs.Prelude.{◌≡◌, ℕ, ◌≤◌, Some, List, ◌∷◌, ◌++◌, bit_and, length, take}
 use Rattle.std.specs.List.{AllByRecursion}
 use Rattle.calls.specs.Calls.{Parted, Replied, RiseFrom}
 use Rattle.pool_history.specs.declared.asking.Request.{Request}
@@ -12,7 +12,9 @@ use Rattle.pool_history.specs.declared.shares.Checked.{Checked}
 use Rattle.pool_history.specs.Answering.{Answer}
 use Rattle.pool_history.specs.Calls.{GoodPoolCalls, IsGoodPoolCall, PoolCall}
 use Rattle.pool_history.specs.Judging.{Share, share_of}
-use Rattle.pool_history.specs.Legal.{Legal}
+use Rattle.pool_history.specs.declared.settings.Rules.{Rules}
+use Rattle.pool_history.specs.Legal.{Legal, allowed_flags}
+use Rattle.pool_history.specs.Sessions.{past_of, rules_of}
 use Rattle.history_laws.specs.Answered.{IsCommitted, IsJudged, MaySubmit, credit_of}
 use Rattle.history_laws.specs.Places.{HasEntered}
 
@@ -67,11 +69,14 @@ pub record Enters (call : PoolCall) (role : Role) (flags session : ℕ) : Type 0
   pub asked : call.asked ≡ request.Enter role flags
   pub entered : call.outcome ≡ Replied (reply.Entered session)
 
--- a call finds the session entered, with those of its flags that were kept
-pub record FindsEntered (history : List Event) (worker : ℕ) (role : Role) (session : ℕ)
+-- a call finds the session entered, with those of the asked flags that the rules before its Enter
+-- allow
+pub record FindsEntered (history before : List Event) (worker : ℕ) (role : Role) (flags session : ℕ)
     (call : PoolCall) : Type 0 where
-  pub kept_flags : ℕ
-  pub has_entered : HasEntered (take call.front history) worker role kept_flags session
+  pub rules : Rules
+  pub are_rules : rules_of (past_of before) ≡ Some rules
+  pub has_entered :
+      HasEntered (take call.front history) worker role (bit_and flags (allowed_flags rules)) session
 
 -- all that one caller asks behind the call that entered its session finds it entered, whatever
 -- others called: none of its requests stands before its Enter
@@ -83,4 +88,5 @@ SessionsAskBehindTheirEnter =
     → Parted start history least most ((earlier ++ enter ∷ later) ++ others)
     → RiseFrom known (earlier ++ enter ∷ later) now
     → IsGoodPoolCall history enter → Enters enter role flags session
-    → AllByRecursion (FindsEntered history enter.worker role session) later
+    → AllByRecursion
+    (FindsEntered history (take enter.front history) enter.worker role flags session) later

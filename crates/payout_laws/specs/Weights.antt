@@ -1,7 +1,8 @@
 -- Weights by the places of credits, without a running total (Rosenfeld, "Analysis of Bitcoin Pooled
 -- Mining Reward Systems": the proportional method, and the idea of PPLNS; that credits weigh their
 -- work, the window and the cut are this project's own). The credits up to and with a block's own
--- stand last first, as the block's is the last. Computed in `Settlements` of `pool_history`.
+-- stand last first, as the block's is the last. What they are equal
+-- to, the running weights, is computed in `Settlements` of `pool_history`.
 use Rattle.std.specs.Prelude.{◌≡◌, ℕ, ◌+◌, ◌-◌, ◌*◌, ◌/◌, ◌&&◌, Bool, true, not, if◌then◌else◌, min, Option, None, Some, is_some, List, [], ◌∷◌, ◌++◌, sum_by}
 use Rattle.std.specs.List.{list_any}
 use Rattle.std.specs.Str.{bytes_eq}

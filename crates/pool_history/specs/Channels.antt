@@ -84,7 +84,14 @@ channel_moves (event.Class session channel class ∷ older) =
     Sets (length older) channel class ∷ channel_moves older
 channel_moves (event.Close session channel ∷ older) = Closes channel ∷ channel_moves older
 channel_moves (event.Leave session ∷ older) = Leaves session ∷ channel_moves older
-channel_moves (event ∷ older) = channel_moves older
+channel_moves (event.Start rules ∷ older) = channel_moves older
+channel_moves (event.Enter worker role flags ∷ older) = channel_moves older
+channel_moves (event.Template session template ∷ older) = channel_moves older
+channel_moves (event.Tip session tip ∷ older) = channel_moves older
+channel_moves (event.Credit session channel job nonce ntime version extranonce ∷ older) =
+    channel_moves older
+channel_moves (event.Grant session account fixed path ∷ older) = channel_moves older
+channel_moves (event.Custom session custom ∷ older) = channel_moves older
 
 -- the open channels of a history
 abbrev pub channels_of : List Event → List OpenChannel

@@ -1,6 +1,6 @@
 -- The codes of refusals in messages (Stratum V2, "SubmitShares.Error", "OpenMiningChannel.Error",
 -- "UpdateChannel.Error" and "SetCustomMiningJob.Error"; codes that the standard lacks are this
--- project's own). Computed in the tests of `refusals`.
+-- project's own). Compared in the tests.
 use Rattle.std.specs.Prelude.{ℕ, List, codes}
 use Rattle.pool_history.specs.declared.refusals.CustomError.{CustomError}
 use Rattle.pool_history.specs.declared.refusals.CustomError.TheVariants as custom

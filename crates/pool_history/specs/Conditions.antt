@@ -1,5 +1,5 @@
--- Conditions in their order, each with the code of its failure (this project's own). Computed in
--- `WrongDefinitions` and in the rows of `IllegalEvents`.
+-- Conditions in their order, each with the code of its failure (this project's own). Computed in the
+-- rows of `IllegalEvents`.
 use Rattle.std.specs.Prelude.{Bool, true, false, Option, None, Some, Result, Ok, Err, List, [], ◌∷◌}
 
 -- what comes next where a condition holds, and else its code

@@ -145,7 +145,16 @@ job_moves (event.Template session template ∷ older) =
     Came (length older) session template ∷ job_moves older
 job_moves (event.Tip session tip ∷ older) = Tipped (length older) tip ∷ job_moves older
 job_moves (event.Custom session custom ∷ older) = Brought (length older) custom ∷ job_moves older
-job_moves (event ∷ older) = job_moves older
+job_moves (event.Start rules ∷ older) = job_moves older
+job_moves (event.Enter worker role flags ∷ older) = job_moves older
+job_moves (event.Open session kind account class lead ∷ older) = job_moves older
+job_moves (event.Name session channel account ∷ older) = job_moves older
+job_moves (event.Class session channel class ∷ older) = job_moves older
+job_moves (event.Close session channel ∷ older) = job_moves older
+job_moves (event.Leave session ∷ older) = job_moves older
+job_moves (event.Credit session channel job nonce ntime version extranonce ∷ older) = job_moves
+    older
+job_moves (event.Grant session account fixed path ∷ older) = job_moves older
 
 -- the jobs of a history
 abbrev pub jobs_of : List Event → Standing

@@ -2,7 +2,7 @@
 -- A type keeps it.
 use Rattle.std.specs.Prelude.{ℕ, ◌<◌, ◌^◌, List, length}
 use Rattle.pool_history.specs.declared.telling.Note.{Note}
-use Rattle.pool_history.specs.declared.telling.Note.TheVariants.{Extended, Solution}
+use Rattle.pool_history.specs.declared.telling.Note.TheVariants.{Extended, Standard, PrevHash, Solution}
 
 -- the lists of a NewExtendedMiningJob fit their types
 pub record ExtendedFits (path : List (List ℕ)) (prefix suffix : List ℕ) : Type 0 where
@@ -15,4 +15,5 @@ abbrev pub NoteFits : Note → Type 0
 NoteFits (Extended channel job min_ntime version rolling path prefix suffix) =
     ExtendedFits path prefix suffix
 NoteFits (Solution template version timestamp nonce coinbase) = length coinbase < 2 ^ 16
-NoteFits _ = Unit {0}
+NoteFits (Standard channel job min_ntime version root) = Unit {0}
+NoteFits (PrevHash channel job prev_hash min_ntime nbits) = Unit {0}

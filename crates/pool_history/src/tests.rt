@@ -1,6 +1,6 @@
 //! What no clause says: that codes and causes print as their words.
 
-use crate::{Cause, Failed};
+use crate::{Cause, CustomError, Failed, OpenError, UpdateError};
 use std::test::Fail;
 
 #[test]
@@ -23,6 +23,38 @@ fn shares_are_refused_by_their_codes(rt: HostRuntime) -> Result<(), Fail> {
         assert_eq!(rt; format!(in rt.alloc(); "{cause}")?.as_str(), *code);
     }
     Ok(())
+}
+
+#[test]
+fn other_refusals_have_their_codes(rt: HostRuntime) {
+    for (code, word) in [
+        (OpenError::UnknownUser.code(), "unknown-user"),
+        (
+            OpenError::TargetOutOfRange(61).code(),
+            "max-target-out-of-range",
+        ),
+        (
+            OpenError::SizeTooLarge(12).code(),
+            "min-extranonce-size-too-large",
+        ),
+        (
+            OpenError::TooManyChannels(1024, 0).code(),
+            "too-many-channels",
+        ),
+        (OpenError::NoSpace.code(), "no-extranonce-space"),
+        (UpdateError::NotOpen.code(), "invalid-channel-id"),
+        (
+            UpdateError::TargetOutOfRange(61).code(),
+            "max-target-out-of-range",
+        ),
+        (CustomError::NotOpen.code(), "invalid-channel-id"),
+        (CustomError::BadToken.code(), "invalid-mining-job-token"),
+        (CustomError::StaleTip.code(), "stale-prev-hash"),
+        (CustomError::EarlyTime(0).code(), "invalid-min-ntime"),
+        (CustomError::BadPath(0).code(), "invalid-merkle-path"),
+    ] {
+        assert_eq!(rt; code, word);
+    }
 }
 
 #[test]
