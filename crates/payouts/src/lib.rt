@@ -1,0 +1,8 @@
+//! Payouts: the tally of credits, and the settlements of blocks. It keeps no credit that counts
+//! nothing for a later block, and pays nobody: what is paid is what its settlements say.
+#![tactic(auto)]
+
+mod quotients;
+mod window;
+
+pub use quotients::quotient;
