@@ -4,6 +4,7 @@ use Rattle.std.specs.List.{AllByRecursion}
 use Rattle.std.proofs.lemmas.Bool.{leb-true}
 use Rattle.std.proofs.lemmas.List.{length-replicate}
 use Rattle.std.proofs.lemmas.List.Sums.{sum_by-cons}
+use Rattle.payout_laws.proofs.Sums.{all-append}
 use Rattle.payouts.specs.declared.window.Kept.{Kept}
 use Rattle.payouts.specs.Window.{IsKept, IsWindow, added, total, weights_of, without_oldest}
 
@@ -193,3 +194,30 @@ total-empty (kept ∷ newer) weights is none = absurd (filled none) where
 -- so the loop ends with nothing to cut
 pub dropped : (all : List Kept) (weights : List ℕ) (excess : ℕ) → IsWindow all weights → excess ≡ 0 → without_oldest excess all ≡ all
 dropped all weights excess is none = ap (λ n. without_oldest n all) none ∙ nothing_dropped (length weights) all is.each
+
+-- one credit more in the window
+pub window-push : (all : List Kept) (weights : List ℕ) (kept : Kept) → IsWindow all weights → IsKept (length weights) kept
+    → IsWindow (all ++ kept ∷ []) (added weights kept.place kept.part)
+window-push all weights kept is known = record {
+  each = subst (λ n. AllByRecursion (IsKept n) (all ++ kept ∷ [])) (sym (length-added weights kept.place kept.part))
+      (all-append (IsKept (length weights)) all (kept ∷ []) is.each (known, tt));
+  weighed = subst (λ n. added weights kept.place kept.part ≡ weights_of n (all ++ kept ∷ [])) (sym (length-added weights kept.place kept.part))
+      (ap (λ ns. added ns kept.place kept.part) is.weighed ∙ sym (weights_of-push (length weights) all kept));
+}
+
+-- as a push and its weight leave it
+pub record IsEntered (all : List Kept) (weights : List ℕ) (kept : Kept) (all' : List Kept) (weights' : List ℕ) : Type 0 where
+  pub window : IsWindow all' weights'
+  pub summed : total weights' ≡ total weights + kept.part
+  pub nothing : (excess : ℕ) → excess ≡ 0 → all' ≡ without_oldest excess (all ++ kept ∷ [])
+
+pub entered : (all : List Kept) (weights : List ℕ) (kept : Kept) (all' : List Kept) (weights' : List ℕ) → IsWindow all weights → IsKept (length weights) kept
+    → all' ≡ all ++ kept ∷ [] → weights' ≡ added weights kept.place kept.part → IsEntered all weights kept all' weights'
+entered all weights kept all' weights' is known pushed grown = record {
+  window = window;
+  summed = ap total grown ∙ total-added weights kept.place kept.part known.known;
+  nothing = λ excess none. sym (dropped all' weights' excess window none) ∙ ap (without_oldest excess) pushed;
+} where
+  window : IsWindow all' weights'
+  window = subst (λ xs. IsWindow xs weights') (sym pushed)
+      (subst (λ ns. IsWindow (all ++ kept ∷ []) ns) (sym grown) (window-push all weights kept is known))

@@ -1,1 +1,6 @@
 pub mod Added
+pub mod Fitted
+pub mod Names
+pub mod Placed
+pub mod Tallied
+pub mod Told

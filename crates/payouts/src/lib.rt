@@ -2,7 +2,10 @@
 //! nothing for a later block, and pays nobody: what is paid is what its settlements say.
 #![tactic(auto)]
 
+mod accounts;
 mod quotients;
+mod tally;
 mod window;
 
 pub use quotients::quotient;
+pub use tally::{Rule, Tally};

@@ -1,9 +1,9 @@
 //! The credits in the window of PPLNS, and the weights of their accounts.
 
-ghost use Rattle.std.specs.Prelude.{◌≡◌, ◌+◌, ◌-◌, ◌<◌, ◌≤◌, length};
+ghost use Rattle.std.specs.Prelude.{◌≡◌, ◌+◌, ◌-◌, ◌<◌, ◌≤◌, ◌^◌, [], ◌∷◌, ◌++◌, length};
 ghost use Rattle.std.specs.VecDeque.{deque_len, deque_capacity};
 ghost use Rattle.std.specs.Vec.{vec_len, vec_capacity};
-ghost use Rattle.payouts.specs.Window.{IsWindow, without_oldest, total};
+ghost use Rattle.payouts.specs.Window.{IsKept, IsWindow, added, without_oldest, total};
 
 use std::collections::VecDeque;
 
@@ -71,4 +71,49 @@ pub(crate) fn drop_oldest(kept: &mut VecDeque<Kept>, weights: &mut Vec<u128>, ex
     while left > 0 && !kept.is_empty() {
         left = cut_oldest(kept, weights, left);
     }
+}
+
+/// Adds work to the weight at a place.
+pub(crate) fn add_work(weights: &mut Vec<u128>, place: usize, work: u64)
+    requires within { place < length weights.old.items }
+    requires small { total weights.old.items + work < 2 ^ 128 }
+    ensures added { weights.new.items ≡ added weights.old.items place work }
+    ensures length { vec_len weights.new ≡ vec_len weights.old }
+    ensures room { vec_capacity weights.new ≡ vec_capacity weights.old }
+{
+    weights[place] += u128::from(work);
+}
+
+/// Takes a credit into the window, and as much work out of the oldest as the window is
+/// exceeded by; answers the work that is in it.
+pub(crate) fn enter(
+    kept: &mut VecDeque<Kept>,
+    weights: &mut Vec<u128>,
+    sum: u128,
+    credit: Kept,
+    window: u64,
+) -> u128
+    requires weighed { IsWindow kept.old.items weights.old.items }
+    requires known { IsKept (length weights.old.items) credit }
+    requires room { deque_len kept.old < deque_capacity kept.old }
+    requires summed { sum ≡ total weights.old.items }
+    requires within { sum ≤ window }
+    ensures kept { kept.new.items ≡ without_oldest
+        (total weights.old.items + credit.part - window) (kept.old.items ++ credit ∷ []) }
+    ensures weighed { IsWindow kept.new.items weights.new.items }
+    ensures summed { result ≡ total weights.new.items }
+    ensures within { result ≤ window }
+    ensures grown { result ≤ sum + credit.part }
+    ensures length { vec_len weights.new ≡ vec_len weights.old }
+    ensures weights_room { vec_capacity weights.new ≡ vec_capacity weights.old }
+{
+    add_work(weights, credit.place, credit.part);
+    kept.push_back_reserved(credit);
+    let grown = sum + u128::from(credit.part);
+    let window = u128::from(window);
+    if grown <= window {
+        return grown;
+    }
+    drop_oldest(kept, weights, grown - window);
+    window
 }
