@@ -1,7 +1,6 @@
 -- The accounts of texts, in the order in which they are kept.
-use Rattle.std.proofs.Common.{◌≡◌, ℕ, ◌+◌, ◌||◌, Bool, true, false, not, cond, bytes_eq, map, List, [], ◌∷◌, ◌++◌, refl, sym, ap, ◌∙◌}
-use Rattle.std.specs.List.{list_any, position_or_len}
-use Rattle.std.proofs.lemmas.Bool.{both_ways}
+use Rattle.std.proofs.Common.{◌≡◌, ℕ, ◌+◌, ◌<◌, ◌||◌, suc, zero, get_or, length, subst, arith, Bool, true, false, not, cond, bytes_eq, map, List, [], ◌∷◌, ◌++◌, refl, sym, ap, ◌∙◌}
+use Rattle.std.specs.List.{AllByRecursion, list_any, position_or_len}
 use Rattle.std.proofs.lemmas.List.{map-append}
 use Rattle.indexmap.specs.IndexSet.{insert_key}
 use Rattle.pool_history.specs.Settling.{with_account}
@@ -34,3 +33,14 @@ module _ {K : Type 0} (f : K → List ℕ) (k : K) where
       by_test false true e = refl
       by_test true true e = cc
       by_test false false e = cc
+
+-- what holds of all holds of the one that is read
+pub all-read : {X : Type 0} (f : X → List ℕ) (P : List ℕ → Type 0) (xs : List X) (i : ℕ) (x : X) → AllByRecursion P (map f xs) → i < length xs
+    → x ≡ get_or xs i x → P (f x)
+all-read f P [] i x all within read = absurd (none within) where
+  none : i < 0 → ⊥
+  none l = omega (arith, l)
+all-read f P (y ∷ xs) zero x all within read = subst (λ z. P (f z)) (sym read) all.0
+all-read f P (y ∷ xs) (suc i) x all within read = all-read f P xs i x all.1 below read where
+  below : i < length xs
+  below = omega (arith, within)

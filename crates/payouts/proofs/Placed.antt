@@ -1,6 +1,6 @@
 -- Accounts and their places, and weights by them.
-use Rattle.std.proofs.Common.{◌≡◌, ℕ, ◌+◌, ◌<◌, ◌||◌, suc, zero, Bool, true, false, not, cond, bytes_eq, filter, map, nat_lt, List, [], ◌∷◌, ◌++◌, length, replicate, reverse, sum_by, refl, sym, ap, ap₂, ◌∙◌, subst, arith}
-use Rattle.std.specs.List.{AllByRecursion, list_any}
+use Rattle.std.proofs.Common.{◌≡◌, ℕ, ◌+◌, ◌<◌, ◌≤◌, ◌||◌, suc, Bool, true, false, not, cond, bytes_eq, filter, map, nat_lt, List, [], ◌∷◌, ◌++◌, length, replicate, reverse, refl, sym, ap, ap₂, ◌∙◌, subst, arith}
+use Rattle.std.specs.List.{list_any}
 use Rattle.std.proofs.lemmas.Bool.{and_parts, ltb-false, not-true, or_parts, false≢true}
 use Rattle.std.proofs.lemmas.List.{reverse-append}
 use Rattle.std.proofs.lemmas.Slice.Eq.{bytes_eq-Decides}
@@ -117,7 +117,7 @@ pub map-same : (f g : List ℕ → ℕ) (accounts : List (List ℕ)) → ((a : L
 map-same f g [] h = refl
 map-same f g (a ∷ accounts) h = ap₂ (λ n ns. n ∷ ns) (h a) (map-same f g accounts h)
 
-none-weighs : (accounts : List (List ℕ)) → replicate (length accounts) 0 ≡ map (λ a. weight a []) accounts
+pub none-weighs : (accounts : List (List ℕ)) → replicate (length accounts) 0 ≡ map (λ a. weight a []) accounts
 none-weighs [] = refl
 none-weighs (a ∷ accounts) = ap (λ ns. 0 ∷ ns) (none-weighs accounts)
 
@@ -145,3 +145,19 @@ pub weights_of-reverse : (n : ℕ) (all : List Kept) → weights_of n (reverse a
 weights_of-reverse n [] = refl
 weights_of-reverse n (k ∷ newer) =
     ap (weights_of n) (reverse-append (k ∷ []) newer) ∙ weights_of-push n (reverse newer) k ∙ ap (λ ns. added ns k.place k.part) (weights_of-reverse n newer)
+
+-- a place is among the accounts, or behind them
+pub place-most : (a : List ℕ) (accounts : List (List ℕ)) → place_of accounts a ≤ length accounts
+place-most a [] = omega arith
+place-most a (x ∷ accounts) = by_test (bytes_eq a x) refl (place-most a accounts) where
+  by_test : (t : Bool) → bytes_eq a x ≡ t → place_of accounts a ≤ length accounts → place_of (x ∷ accounts) a ≤ suc (length accounts)
+  by_test true e more = subst (λ n. n ≤ suc (length accounts)) (sym (place-first a x accounts e)) (omega arith)
+  by_test false e more = subst (λ n. n ≤ suc (length accounts)) (sym (place-next a x accounts e)) (omega (arith, more))
+
+pub place-within : (a : List ℕ) (accounts : List (List ℕ)) → IsAmong accounts a → place_of accounts a < length accounts
+place-within a [] there = absurd (false≢true there)
+place-within a (x ∷ accounts) there = by_test (bytes_eq a x) refl there (place-within a accounts) where
+  by_test : (t : Bool) → bytes_eq a x ≡ t → (t || list_any (bytes_eq a) accounts) ≡ true → (IsAmong accounts a → place_of accounts a < length accounts)
+      → place_of (x ∷ accounts) a < suc (length accounts)
+  by_test true e is more = subst (λ n. n < suc (length accounts)) (sym (place-first a x accounts e)) (omega arith)
+  by_test false e is more = subst (λ n. n < suc (length accounts)) (sym (place-next a x accounts e)) (omega (arith, more is))

@@ -1,14 +1,14 @@
 -- What holds of a tally's parts, over a push.
-use Rattle.std.proofs.Common.{◌≡◌, ℕ, ◌+◌, ◌-◌, ◌*◌, ◌^◌, ◌<◌, ◌≤◌, suc, zero, Bool, true, false, cond, bytes_eq, map, Option, None, Some, List, [], ◌∷◌, ◌++◌, length, replicate, sum_by, refl, sym, ap, ◌∙◌, subst, arith}
+use Rattle.std.proofs.Common.{◌≡◌, ℕ, ◌<◌, ◌≤◌, suc, zero, Bool, true, false, cond, bytes_eq, Option, None, Some, List, [], ◌∷◌, ◌++◌, length, replicate, refl, sym, ap, ◌∙◌, subst, arith}
 use Rattle.std.specs.List.{AllByRecursion, list_any}
-use Rattle.std.proofs.lemmas.List.{length-append, append_assoc}
 use Rattle.std.proofs.lemmas.List.Sums.{sum_by-cons}
 use Rattle.payout_laws.proofs.Sums.{all-append, all-weaker}
 use Rattle.pool_history.specs.Settling.{with_account}
 use Rattle.payouts.specs.declared.window.Kept.{Kept}
-use Rattle.payouts.specs.Tallies.{IsFilled, IsTallied, KeepsCredits, with_weight}
+use Rattle.payouts.specs.Tallies.{KeepsCredits, place_of, with_weight}
 use Rattle.payouts.specs.Window.{IsKept, IsWindow, added, total, weights_of}
 use Rattle.payouts.proofs.Added.{length-weights_of}
+use Rattle.payouts.proofs.Placed.{place-most, place-within}
 
 -- one weight more, of 0
 pub added-more : (ns : List ℕ) (i x : ℕ) → i < length ns → added (ns ++ 0 ∷ []) i x ≡ added ns i x ++ 0 ∷ []
@@ -75,3 +75,14 @@ short-with_account account accounts one all = by_test (list_any (bytes_eq accoun
   by_test : (t : Bool) → AllByRecursion (λ (a : List ℕ). length a ≤ 255) (cond t accounts (accounts ++ account ∷ []))
   by_test true = all
   by_test false = all-append (λ (a : List ℕ). length a ≤ 255) accounts (account ∷ []) all (one, tt)
+
+-- a window with the credit that enters it
+pub each-push : (account : List ℕ) (work : ℕ) (accounts : List (List ℕ)) (weights : List ℕ) (kept : List Kept) → 1 ≤ work → length weights ≡ length accounts → IsWindow kept weights
+    → AllByRecursion (IsKept (length (with_weight account accounts weights))) (kept ++ record { place = place_of accounts account; part = work } ∷ [])
+each-push account work accounts weights kept some long is = by_test (list_any (bytes_eq account) accounts) refl where
+  by_test : (t : Bool) → list_any (bytes_eq account) accounts ≡ t
+      → AllByRecursion (IsKept (length (cond t weights (weights ++ 0 ∷ [])))) (kept ++ record { place = place_of accounts account; part = work } ∷ [])
+  by_test true e = all-append (IsKept (length weights)) kept (record { place = place_of accounts account; part = work } ∷ []) is.each
+      (record { known = subst (λ n. place_of accounts account < n) (sym long) (place-within account accounts e); some = some }, tt)
+  by_test false e = all-append (IsKept (length (weights ++ 0 ∷ []))) kept (record { place = place_of accounts account; part = work } ∷ []) (window-more kept weights is).each
+      (record { known = omega (arith, place-most account accounts, length-more weights, long); some = some }, tt)

@@ -1,19 +1,21 @@
 -- A tally that was told pushes remembers one push more, and settles by them.
-use Rattle.std.proofs.Common.{◌≡◌, ℕ, ◌+◌, ◌-◌, ◌*◌, ◌/◌, ◌<◌, ◌≤◌, min, suc, Bool, true, false, cond, if◌then◌else◌, bytes_eq, filter, map, nat_lt, Option, None, Some, List, [], ◌∷◌, ◌++◌, length, reverse, replicate, sum_by, refl, sym, ap, ap₂, ◌∙◌, subst, arith}
-use Rattle.std.specs.List.{AllByRecursion, list_any}
+use Rattle.std.proofs.Common.{◌≡◌, ℕ, ◌+◌, ◌-◌, ◌*◌, ◌/◌, ◌<◌, ◌≤◌, min, suc, Bool, true, false, cond, bytes_eq, is_some, map, nat_lt, Option, None, Some, List, [], ◌∷◌, ◌++◌, length, reverse, replicate, refl, sym, ap, ap₂, ◌∙◌, subst, arith}
+use Rattle.std.specs.List.{AllByRecursion}
 use Rattle.std.proofs.lemmas.Bool.{ltb-false, ltb-true}
-use Rattle.std.proofs.lemmas.List.{reverse-append, reverse-reverse}
-use Rattle.payout_laws.proofs.Members.{AreAmong, IsAmong, PartsAmong, among-accounts_of, among-more, among-with_account, distinct-accounts_of, last_work-among, parts_of-among, since_block-among, weight-none}
+use Rattle.std.proofs.lemmas.List.{length-replicate, reverse-append, reverse-reverse}
+use Rattle.payout_laws.proofs.Members.{AreAmong, PartsAmong, among-accounts_of, among-with_account, distinct-accounts_of, distinct-with_account, last_work-among, since_block-among, weight-none}
+use Rattle.payout_laws.proofs.Sums.{sum_by-accounts, sum_by-map}
 use Rattle.pool_history.specs.Accounts.{are_distinct}
 use Rattle.pool_history.specs.Crediting.{Booked}
-use Rattle.pool_history.specs.Settling.{Part, accounts_of, last_work, since_block, weight, with_account}
+use Rattle.pool_history.specs.Settling.{Part, Settled, all_weights, fee_of, last_work, parts_in_block, payments_of, settled_with, settlement, since_block, weight, with_account}
 use Rattle.payouts.specs.declared.window.Kept.{Kept}
-use Rattle.payouts.specs.Tallies.{AddsCredit, AddsWork, IsPushed, Remembers, RemembersWeights, Weighing, place_of, placed, with_weight}
+use Rattle.payouts.specs.Settlements.{EndsRound, SettlesBlock, as_block, payments_by, settled_by, weights_behind}
+use Rattle.payouts.specs.Tallies.{AddsCredit, DiffersInRoom, IsPushed, Remembers, RemembersPush, RemembersWeights, Weighing, place_of, placed, with_weight}
 use Rattle.payouts.specs.Window.{IsKept, IsWindow, added, total, weights_of, without_oldest}
 use Rattle.payouts.proofs.Added.{length-weights_of, total-added, total-none}
 use Rattle.payouts.proofs.Fitted.{cut-fits, fitted, fitted-left, last_work-left, left_of, parts_sum, parts_sum-append}
-use Rattle.payouts.proofs.Placed.{added-map, map-same, map-with_account, place-with_account, placed-stays, weight-more}
-use Rattle.payouts.proofs.Tallied.{total-with_weight}
+use Rattle.payouts.proofs.Placed.{added-map, map-same, map-with_account, place-with_account, none-weighs, placed-stays, weight-more, weights-placed, weights_of-reverse}
+use Rattle.payouts.proofs.Tallied.{each-push, total-with_weight}
 
 -- the proportional rule: the work is added to the account's weight
 pub told_share : (account : List ℕ) (work : ℕ) (accounts : List (List ℕ)) (weights weights' : List ℕ) (parts : List Part)
@@ -109,3 +111,141 @@ told_window window work account accounts weights kept kept' credits some among i
 
     parts_among : PartsAmong accounts (left_of window credits)
     parts_among = subst (PartsAmong accounts) lefts (last_work-among window 0 accounts credits among)
+
+-- a push, by either rule
+told_weights : (window : Option ℕ) (old new : Weighing) (account : List ℕ) (work : ℕ) (credits : List Booked) → 1 ≤ work
+    → length old.weights ≡ length old.accounts → new.accounts ≡ with_account account old.accounts
+    → are_distinct old.accounts ≡ true → AreAmong old.accounts credits
+    → RemembersWeights old window credits
+    → AddsCredit window old.kept (with_weight account old.accounts old.weights) (record { place = place_of old.accounts account; part = work }) new.kept new.weights
+    → RemembersWeights new window (record { account = account; work = work; reward = None } ∷ credits)
+told_weights None old new account work credits some long is distinct among was adds =
+    told_share account work old.accounts old.weights new.weights (since_block credits) (distinct-with_account account old.accounts distinct) (since_block-among old.accounts credits among) was adds
+    ∙ ap (map (λ a. weight a (record { account = account; weight = work } ∷ since_block credits))) (sym is)
+told_weights (Some window) old new account work credits some long is distinct among was adds = (
+  adds.0,
+  told_window window work account old.accounts old.weights old.kept new.kept credits some among was.0 was.1 (each-push account work old.accounts old.weights old.kept some long was.0) adds.1
+      ∙ ap (λ accounts. placed accounts (last_work window 0 (record { account = account; work = work; reward = None } ∷ credits))) (sym is),
+)
+
+among-told : (tally : Weighing) (credits : List Booked) → Remembers tally credits → AreAmong tally.accounts credits
+among-told tally credits was = subst (λ accounts. AreAmong accounts credits) (sym was.accounts_are) (among-accounts_of credits)
+
+distinct-told : (tally : Weighing) (credits : List Booked) → Remembers tally credits → are_distinct tally.accounts ≡ true
+distinct-told tally credits was = subst (λ accounts. are_distinct accounts ≡ true) (sym was.accounts_are) (distinct-accounts_of credits)
+
+pub told_push : (old new : Weighing) (account : List ℕ) (work : ℕ) → 1 ≤ work → IsPushed old new account work → RemembersPush old new account work
+told_push old new account work some is credits was = record {
+  accounts_are = is.accounts_are ∙ ap (with_account account) was.accounts_are;
+  weights_are = subst (λ window. RemembersWeights new window (record { account = account; work = work; reward = None } ∷ credits)) (sym is.window_stays)
+      (told_weights old.window old new account work credits some was.same_length is.accounts_are (distinct-told old credits was) (among-told old credits was) was.weights_are is.weighed);
+  pushes_are = is.pushes_are ∙ ap (λ n. n + 1) was.pushes_are ∙ more;
+  same_length = is.same_length;
+} where
+  more : length credits + 1 ≡ suc (length credits)
+  more = omega arith
+
+-- what differs in room alone was told the same
+told_room : (old new : Weighing) (credits : List Booked) → DiffersInRoom old new → Remembers old credits → Remembers new credits
+told_room old new credits same was = subst (λ tally. Remembers tally credits) (sym same) (record {
+  accounts_are = was.accounts_are;
+  weights_are = by_window old.window was.weights_are;
+  pushes_are = was.pushes_are;
+  same_length = was.same_length;
+}) where
+  by_window : (window : Option ℕ) → RemembersWeights old window credits → RemembersWeights (record { window = old.window; accounts = old.accounts; weights = old.weights; kept = old.kept; pushes = old.pushes; room = new.room }) window credits
+  by_window None h = h
+  by_window (Some window) h = h
+
+pub told_push-room : (old roomy new : Weighing) (account : List ℕ) (work : ℕ) → 1 ≤ work → DiffersInRoom old roomy → IsPushed roomy new account work → RemembersPush old new account work
+told_push-room old roomy new account work some same is credits was = told_push roomy new account work some is credits (told_room old roomy credits same was)
+
+-- the parts of the credits up to the last push, which may be a block
+abbrev pub parts_behind : Option ℕ → List Booked → List Part
+parts_behind None credits = since_block credits
+parts_behind (Some window) credits = last_work window 0 credits
+
+parts_behind-among : (window : Option ℕ) (accounts : List (List ℕ)) (credits : List Booked) → AreAmong accounts credits → PartsAmong accounts (parts_behind window credits)
+parts_behind-among None accounts credits among = since_block-among accounts credits among
+parts_behind-among (Some window) accounts credits among = last_work-among window 0 accounts credits among
+
+weights_by : (window : Option ℕ) (tally : Weighing) (credits : List Booked) → length tally.weights ≡ length tally.accounts → are_distinct tally.accounts ≡ true → AreAmong tally.accounts credits
+    → RemembersWeights tally window credits → tally.weights ≡ map (λ a. weight a (parts_behind window credits)) tally.accounts
+weights_by None tally credits long distinct among was = was
+weights_by (Some window) tally credits long distinct among was =
+    was.0.weighed ∙ ap₂ (λ n kept. weights_of n kept) long (sym (reverse-reverse tally.kept))
+    ∙ ap (λ kept. weights_of (length tally.accounts) (reverse kept)) was.1
+    ∙ weights_of-reverse (length tally.accounts) (placed tally.accounts (last_work window 0 credits))
+    ∙ weights-placed tally.accounts (last_work window 0 credits) distinct (last_work-among window 0 tally.accounts credits among)
+
+pub told_by_parts : (tally : Weighing) (credits : List Booked) → Remembers tally credits → tally.weights ≡ map (λ a. weight a (parts_behind tally.window credits)) tally.accounts
+told_by_parts tally credits was = weights_by tally.window tally credits was.same_length (distinct-told tally credits was) (among-told tally credits was) was.weights_are
+
+-- the parts in the block are those
+block_parts : (window : Option ℕ) (reward : ℕ) (credit : Booked) (older : List Booked) → credit.reward ≡ None
+    → parts_behind window (credit ∷ older) ≡ parts_in_block window (as_block reward credit ∷ older)
+block_parts None reward credit older none = ap (λ r. cond (is_some r) [] (record { account = credit.account; weight = credit.work } ∷ since_block older)) none
+block_parts (Some window) reward credit older none = refl
+
+-- payments by weights are those by parts
+payments-same : (paid_out all : ℕ) (parts : List Part) (accounts : List (List ℕ)) → all ≡ all_weights parts
+    → payments_by paid_out all accounts (map (λ a. weight a parts) accounts) ≡ payments_of paid_out parts accounts
+payments-same paid_out all parts [] same = refl
+payments-same paid_out all parts (account ∷ accounts) same =
+    ap₂ (λ n rest. cond (nat_lt 0 (weight account parts)) (record { account = account; weight = weight account parts; amount = paid_out * weight account parts / n } ∷ rest) rest)
+    same (payments-same paid_out all parts accounts same)
+
+total-map : (parts : List Part) (accounts : List (List ℕ)) → are_distinct accounts ≡ true → PartsAmong accounts parts → total (map (λ a. weight a parts) accounts) ≡ all_weights parts
+total-map parts accounts distinct among =
+    sum_by-map (λ (n : ℕ). n) (λ a. weight a parts) accounts
+    ∙ sum_by-accounts (λ (part : Part). part.account) (λ (part : Part). part.weight) accounts parts distinct among
+
+settled-same : (tally : Weighing) (reward basis_points : ℕ) (credit : Booked) (older : List Booked) → Remembers tally (credit ∷ older) → credit.reward ≡ None
+    → settled_by tally reward basis_points ≡ settlement tally.window basis_points reward (as_block reward credit ∷ older)
+settled-same tally reward basis_points credit older was none =
+    ap (λ payments. settled_with reward (fee_of reward basis_points) payments)
+    (ap₂ (λ n weights. payments_by (reward - fee_of reward basis_points) n tally.accounts weights) (ap total weights ∙ total-map parts tally.accounts distinct among) weights
+    ∙ payments-same (reward - fee_of reward basis_points) (all_weights parts) parts tally.accounts refl
+    ∙ ap₂ (λ ps accounts. payments_of (reward - fee_of reward basis_points) ps accounts) (block_parts tally.window reward credit older none) was.accounts_are)
+  where
+    parts : List Part
+    parts = parts_behind tally.window (credit ∷ older)
+
+    weights : tally.weights ≡ map (λ a. weight a (parts_behind tally.window (credit ∷ older))) tally.accounts
+    weights = told_by_parts tally (credit ∷ older) was
+
+    distinct : are_distinct tally.accounts ≡ true
+    distinct = distinct-told tally (credit ∷ older) was
+
+    among : PartsAmong tally.accounts (parts_behind tally.window (credit ∷ older))
+    among = parts_behind-among tally.window tally.accounts (credit ∷ older) (among-told tally (credit ∷ older) was)
+
+-- what a block leaves
+zeros : (n : ℕ) (weights : List ℕ) (accounts : List (List ℕ)) → length weights ≡ length accounts → replicate (length weights) 0 ≡ map (λ a. weight a []) accounts
+zeros n weights accounts long = ap (λ m. replicate {A = ℕ} m 0) long ∙ none-weighs accounts
+
+told_round : (window : Option ℕ) (old new : Weighing) (reward : ℕ) (credit : Booked) (older : List Booked) → length old.weights ≡ length old.accounts → new.accounts ≡ old.accounts
+    → new.weights ≡ weights_behind window old.weights → new.kept ≡ old.kept → RemembersWeights old window (credit ∷ older)
+    → RemembersWeights new window (as_block reward credit ∷ older)
+told_round None old new reward credit older long accounts weights kept was =
+    weights ∙ zeros 0 old.weights old.accounts long ∙ ap (map (λ a. weight a [])) (sym accounts)
+told_round (Some window) old new reward credit older long accounts weights kept was = (
+  subst (λ ns. IsWindow new.kept ns) (sym weights) (subst (λ ks. IsWindow ks old.weights) (sym kept) was.0),
+  ap reverse kept ∙ was.1 ∙ ap (λ accounts. placed accounts (last_work window 0 (credit ∷ older))) (sym accounts),
+)
+
+pub told_settled : (old new : Weighing) (reward basis_points : ℕ) (settled : Settled) → settled ≡ settled_by old reward basis_points → EndsRound old new
+    → SettlesBlock old new reward basis_points settled
+told_settled old new reward basis_points settled is ends credit older was none = record {
+  by_weights = is ∙ settled-same old reward basis_points credit older was none;
+  remembers = record {
+    accounts_are = ends.accounts_stay ∙ was.accounts_are;
+    weights_are = subst (λ window. RemembersWeights new window (as_block reward credit ∷ older)) (sym ends.window_stays)
+        (told_round old.window old new reward credit older was.same_length ends.accounts_stay ends.weights_are ends.kept_stay was.weights_are);
+    pushes_are = ends.pushes_stay ∙ was.pushes_are;
+    same_length = ap length ends.weights_are ∙ same_length old.window old.weights ∙ was.same_length ∙ ap length (sym ends.accounts_stay);
+  };
+} where
+  same_length : (window : Option ℕ) (weights : List ℕ) → length (weights_behind window weights) ≡ length weights
+  same_length None weights = length-replicate (length weights) 0
+  same_length (Some window) weights = refl

@@ -1,2 +1,3 @@
+pub mod Settlements
 pub mod Tallies
 pub mod Window

@@ -1,6 +1,6 @@
 -- What a tally remembers of its pushes, so that it settles blocks as the definitions do (this
 -- project's own).
-use Rattle.std.specs.Prelude.{◌≡◌, ℕ, ◌+◌, ◌-◌, ◌*◌, ◌^◌, ◌<◌, ◌≤◌, Option, None, Some, Bool, if◌then◌else◌, List, [], ◌∷◌, ◌++◌, filter, length, map, nat_lt, reverse}
+use Rattle.std.specs.Prelude.{◌≡◌, ℕ, ◌+◌, ◌-◌, ◌*◌, ◌^◌, ◌<◌, ◌≤◌, Option, None, Some, if◌then◌else◌, List, [], ◌∷◌, ◌++◌, length, map, nat_lt, reverse}
 use Rattle.std.specs.List.{AllByRecursion, list_any, position_or_len}
 use Rattle.std.specs.Str.{bytes_eq}
 use Rattle.pool_history.specs.Crediting.{Booked}
@@ -101,3 +101,20 @@ pub record IsTallied (window : Option ℕ) (accounts : List (List ℕ)) (weights
   pub few : pushes < 2 ^ 24
   pub short : AllByRecursion (λ account. length account ≤ 255) accounts
   pub keeps : KeepsCredits window kept weights
+
+-- nothing changed but the room
+abbrev pub DiffersInRoom : Weighing → Weighing → Type 0
+DiffersInRoom old new = new ≡ record {
+  window = old.window;
+  accounts = old.accounts;
+  weights = old.weights;
+  kept = old.kept;
+  pushes = old.pushes;
+  room = new.room;
+}
+
+-- whatever a tally was told before, it was now told one push more
+abbrev pub RemembersPush : Weighing → Weighing → List ℕ → ℕ → Type 0
+RemembersPush old new account work =
+    (credits : List Booked) → Remembers old credits
+    → Remembers new (record { account = account; work = work; reward = None } ∷ credits)

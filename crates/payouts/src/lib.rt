@@ -4,8 +4,10 @@
 
 mod accounts;
 mod quotients;
+mod settlement;
 mod tally;
 mod window;
 
 pub use quotients::quotient;
+pub use settlement::{Payout, Payouts, Settlement};
 pub use tally::{Rule, Tally};

@@ -1,17 +1,24 @@
 //! The tally of pushes.
 
-ghost use Rattle.std.specs.Prelude.{◌≡◌, ◌+◌, ◌<◌, ◌≤◌, ◌^◌, length};
+ghost use Rattle.std.specs.Prelude.{◌≡◌, ◌+◌, ◌<◌, ◌≤◌, ◌^◌, [], ◌∷◌, length, map, sum_by, IsTrue, IfOk, OnOk, OnErr};
+ghost use Rattle.std.specs.List.{AllByRecursion};
 ghost use Rattle.std.specs.String.{string_bytes};
+ghost use Rattle.std.specs.Vec.{vec_len, vec_capacity};
 ghost use Rattle.std.specs.VecDeque.{deque_len, deque_capacity};
-ghost use Rattle.payouts.specs.Tallies.{AddsCredit, IsPushed, KeepsCredits, window_of};
+ghost use Rattle.pool_history.specs.Accounts.{is_window};
+ghost use Rattle.payouts.specs.Settlements.{EndsRound, SettlesBlock, settled_by, weights_behind};
+ghost use Rattle.payouts.specs.Tallies.{AddsCredit, DiffersInRoom, IsPushed, KeepsCredits, Remembers, RemembersPush, window_of};
 ghost use Rattle.payouts.specs.Window.{IsKept, total};
 
 use crate::accounts::place_for;
+use crate::settlement::{Payouts, Settlement, Sheet, pay};
 use crate::window::{Kept, add_work, enter};
 use indexmap::IndexSet;
-use std::alloc::Global;
+use payout_laws::fee_of;
+use std::alloc::{AllocError, Global};
 use std::collections::VecDeque;
 use std::marker::Model;
+use sv2_types::Str255;
 
 /// How the credits up to a block are weighed.
 #[derive(Clone, Copy, Debug)]
@@ -38,7 +45,10 @@ impl Model for Tally {
     ghost use Rattle.std.specs.Prelude.{map, min, ◌-◌};
     ghost use Rattle.std.specs.String.{string_bytes};
     ghost use Rattle.std.specs.Vec.{vec_len, vec_capacity};
+    ghost use Rattle.std.specs.Vec.{vec_len, vec_capacity};
     ghost use Rattle.std.specs.VecDeque.{deque_len, deque_capacity};
+    ghost use Rattle.pool_history.specs.Accounts.{is_window};
+    ghost use Rattle.payouts.specs.Settlements.{EndsRound, SettlesBlock, settled_by, weights_behind};
     ghost use Rattle.indexmap.specs.IndexSet.{spare};
     ghost use Rattle.payouts.specs.Tallies.{IsTallied, Weighing, window_of};
 
@@ -60,6 +70,84 @@ impl Model for Tally {
 }
 
 impl Tally {
+    /// A tally without pushes.
+    pub fn new(alloc: Global, rule: Rule) -> Result<Tally, AllocError>
+        requires window { IsTrue (is_window (window_of rule)) }
+        ensures window { IfOk result (λ tally. tally.window ≡ window_of rule) }
+        ensures told { IfOk result (λ tally. Remembers tally []) }
+    {
+        Ok(Tally {
+            alloc,
+            rule,
+            names: IndexSet::new(alloc),
+            weights: Vec::new(alloc),
+            kept: VecDeque::new(alloc),
+            sum: 0,
+            pushes: 0,
+        })
+    }
+
+    /// Takes in a credit's account and work.
+    pub fn push(&mut self, account: &str, work: u64) -> Result<(), AllocError>
+        requires short { length account.now ≤ 255 }
+        requires some { 1 ≤ work }
+        requires small { work ≤ 2 ^ 60 }
+        requires few { self.old.pushes + 1 < 2 ^ 24 }
+        ensures told { OnOk result (RemembersPush self.old self.new account.now work) }
+        ensures err { OnErr result (DiffersInRoom self.old self.new) }
+    {
+        self.make_room()?;
+        let account = String::from_str(self.alloc, account)?;
+        self.take_in(account, work);
+        Ok(())
+    }
+
+    /// Settles a block, which is the last credit that was pushed.
+    pub fn settle(&mut self, reward: u64, fee: u16) -> Result<Settlement, AllocError>
+        requires reward { reward < 2 ^ 40 }
+        requires fee { fee ≤ 10000 }
+        requires some { 1 ≤ total self.old.weights }
+        ensures settled { IfOk result (SettlesBlock self.old self.new reward fee) }
+        ensures whole { IfOk result (λ settled.
+            sum_by (λ paid. paid.amount) settled.payments + settled.pool ≡ reward) }
+        ensures err { OnErr result (self.new ≡ self.old) }
+    {
+        let sheet = sheet_of(self.alloc, self.names.as_slice())?;
+        Ok(self.close(sheet, reward, fee))
+    }
+
+    // Room for a push.
+    fn make_room(&mut self) -> Result<(), AllocError>
+        ensures same { DiffersInRoom self.old self.new }
+        ensures room { OnOk result (1 ≤ self.new.room) }
+    {
+        self.names.reserve(1)?;
+        self.weights.reserve(1)?;
+        self.kept.reserve(1)
+    }
+
+    // Settles a block with the sheet of all accounts.
+    fn close(&mut self, sheet: Sheet, reward: u64, basis_points: u16) -> Settlement
+        requires reward { reward < 2 ^ 40 }
+        requires fee { basis_points ≤ 10000 }
+        requires some { 1 ≤ total self.old.weights }
+        requires accounts { sheet.accounts.items ≡ self.old.accounts }
+        requires empty { sheet.payouts.items ≡ [] }
+        requires room { vec_len sheet.accounts ≤ vec_capacity sheet.payouts }
+        ensures settled { result ≡ settled_by self.old reward basis_points }
+        ensures ends { EndsRound self.old self.new }
+        ensures whole { sum_by (λ paid. paid.amount) result.payments + result.pool ≡ reward }
+    {
+        let fee = fee_of(reward, basis_points);
+        let paid = pay(sheet, self.weights.as_slice(), self.sum, reward - fee);
+        self.sum = end_round(self.rule, &mut self.weights, self.sum);
+        Settlement {
+            fee,
+            pool: reward - paid.sum,
+            payouts: Payouts::from_vec(paid.payouts),
+        }
+    }
+
     // Takes in a push, for which there is room.
     fn take_in(&mut self, account: String, work: u64)
         requires short { length (string_bytes account) ≤ 255 }
@@ -109,4 +197,35 @@ fn weigh(
         }
         Rule::Pplns(window) => enter(kept, weights, sum, credit, window),
     }
+}
+
+// What a block leaves of the weights; answers their sum.
+fn end_round(rule: Rule, weights: &mut Vec<u128>, sum: u128) -> u128
+    requires summed { sum ≡ total weights.old.items }
+    ensures weights { weights.new.items ≡ weights_behind (window_of rule) weights.old.items }
+    ensures summed { result ≡ total weights.new.items }
+    ensures within { result ≤ sum }
+{
+    match rule {
+        Rule::Proportional => {
+            weights.as_mut_slice().fill(0);
+            0
+        }
+        Rule::Pplns(_) => sum,
+    }
+}
+
+// A sheet for accounts.
+fn sheet_of(alloc: Global, names: &[String]) -> Result<Sheet, AllocError>
+    requires short { AllByRecursion (λ account. length account ≤ 255) (map string_bytes names.now) }
+    ensures accounts { IfOk result (λ sheet. sheet.accounts.items ≡ map string_bytes names.now) }
+    ensures empty { IfOk result (λ sheet. sheet.payouts.items ≡ []) }
+    ensures room { IfOk result (λ sheet. vec_len sheet.accounts ≤ vec_capacity sheet.payouts) }
+{
+    let payouts = Vec::with_capacity(alloc, names.len())?;
+    let mut accounts = Vec::with_capacity(alloc, names.len())?;
+    for name in names {
+        accounts.push(Str255::of(alloc, name.as_str())?)?;
+    }
+    Ok(Sheet { accounts, payouts })
 }

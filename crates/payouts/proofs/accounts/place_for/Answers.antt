@@ -1,4 +1,4 @@
-use Rattle.std.proofs.Common.{◌≡◌, ℕ, Bool, true, false, cond, bytes_eq, map, List, ◌∷◌, ◌++◌, [], sym, ap, ◌∙◌}
+use Rattle.std.proofs.Common.{cond, map, ◌∷◌, ◌++◌, [], sym, ap, ◌∙◌}
 use Rattle.std.specs.String.{string_bytes}
 use Rattle.payouts.proofs.Names.{names-inserted, place-names, weights-inserted}
 use Rattle.payouts.proofs.accounts.place_for.Goals as goal

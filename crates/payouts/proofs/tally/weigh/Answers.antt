@@ -1,4 +1,4 @@
-use Rattle.std.proofs.Common.{◌≡◌, ℕ, ◌+◌, ap, ◌∙◌, sym, ap₂, arith}
+use Rattle.std.proofs.Common.{◌+◌, ap, ◌∙◌, sym, ap₂}
 use Rattle.payouts.specs.Window.{total}
 use Rattle.payouts.proofs.Added.{total-added}
 use Rattle.payouts.proofs.tally.weigh.Goals as goal

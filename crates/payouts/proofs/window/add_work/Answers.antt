@@ -1,4 +1,4 @@
-use Rattle.std.proofs.Common.{◌≡◌, ℕ, ◌+◌, get_or, set, ap, ap₂, ◌∙◌}
+use Rattle.std.proofs.Common.{◌+◌, set, ap₂, ◌∙◌}
 use Rattle.payouts.proofs.Added.{added-set}
 use Rattle.payouts.proofs.window.add_work.Goals as goal
 

@@ -1,5 +1,4 @@
-use Rattle.std.proofs.Common.{◌≡◌, ℕ, ◌+◌, ◌≤◌, sym, ap, ◌∙◌, arith}
-use Rattle.payouts.specs.Window.{without_oldest}
+use Rattle.std.proofs.Common.{arith}
 use Rattle.payouts.proofs.Added.{IsEntered, entered}
 use Rattle.payouts.proofs.window.enter.Goals as goal
 

@@ -1,4 +1,4 @@
-use Rattle.std.proofs.Common.{◌≡◌, ℕ, ◌+◌, map, sym, subst, arith}
+use Rattle.std.proofs.Common.{map, sym, subst}
 use Rattle.std.specs.String.{string_bytes}
 use Rattle.payouts.specs.Tallies.{KeepsCredits, window_of}
 use Rattle.payouts.proofs.Tallied.{keeps-with_weight}
