@@ -44,3 +44,8 @@ all-read f P (y ∷ xs) zero x all within read = subst (λ z. P (f z)) (sym read
 all-read f P (y ∷ xs) (suc i) x all within read = all-read f P xs i x all.1 below read where
   below : i < length xs
   below = omega (arith, within)
+
+-- a text among the names
+pub any-texts : {X : Type 0} (f : X → List ℕ) (text : List ℕ) (xs : List X) → list_any (bytes_eq text) (map f xs) ≡ list_any (λ x. bytes_eq text (f x)) xs
+any-texts f text [] = refl
+any-texts f text (x ∷ xs) = ap (λ t. bytes_eq text (f x) || t) (any-texts f text xs)

@@ -1,10 +1,10 @@
 -- One account more is paid.
-use Rattle.std.proofs.Common.{◌≡◌, ℕ, ◌+◌, ◌*◌, ◌/◌, ◌<◌, ◌≤◌, Bool, true, false, cond, drop, get_or, nat_lt, List, [], ◌∷◌, ◌++◌, length, sum_by, refl, sym, ap, ◌∙◌, subst, arith, le_of_mul-le-mul_right}
+use Rattle.std.proofs.Common.{◌-◌, ap₂, ◌≡◌, ℕ, ◌+◌, ◌*◌, ◌/◌, ◌<◌, ◌≤◌, Bool, true, false, cond, drop, get_or, nat_lt, List, [], ◌∷◌, ◌++◌, length, sum_by, refl, sym, ap, ◌∙◌, subst, arith, le_of_mul-le-mul_right}
 use Rattle.std.proofs.lemmas.Bool.{ltb-false}
 use Rattle.std.proofs.lemmas.List.{append_assoc, drop_more}
 use Rattle.std.proofs.lemmas.List.Sums.{sum_by-append, sum_by-cons}
 use Rattle.payout_laws.proofs.Shares.{nothing_paid}
-use Rattle.pool_history.specs.Settling.{Payment}
+use Rattle.pool_history.specs.Settling.{Payment, Settled, settled_with}
 use Rattle.payouts.specs.Settlements.{payments_by}
 use Rattle.payouts.specs.Window.{total}
 
@@ -69,3 +69,13 @@ bounded-more paid_out all sum amount weight place weights within read before one
 
 pub at_most : (paid_out all sum rest : ℕ) → 1 ≤ all → sum * all + rest ≤ paid_out * all → sum ≤ paid_out
 at_most paid_out all sum rest some bound = le_of_mul-le-mul_right (omega (arith, bound)) some
+
+-- what isn't paid stays with the pool
+pub closed : (reward fee fee' paid : ℕ) (payments payments' : List Payment) → fee ≡ fee' → payments ≡ payments'
+    → paid ≡ sum_by (λ (payment : Payment). payment.amount) payments → fee ≤ reward → paid ≤ reward - fee
+    → ◌≡◌ {A = Settled} (record { fee = fee; payments = payments; pool = reward - paid }) (settled_with reward fee' payments')
+closed reward fee fee' paid payments payments' same_fee same is within enough =
+    ap (λ pool. record { fee = fee; payments = payments; pool = pool }) rest ∙ ap₂ (settled_with reward) same_fee same
+  where
+    rest : reward - paid ≡ fee + (reward - fee - sum_by (λ (payment : Payment). payment.amount) payments)
+    rest = omega (arith, is, within, enough)

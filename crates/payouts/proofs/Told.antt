@@ -3,13 +3,16 @@ use Rattle.std.proofs.Common.{◌≡◌, ℕ, ◌+◌, ◌-◌, ◌*◌, ◌/◌
 use Rattle.std.specs.List.{AllByRecursion}
 use Rattle.std.proofs.lemmas.Bool.{ltb-false, ltb-true}
 use Rattle.std.proofs.lemmas.List.{length-replicate, reverse-append, reverse-reverse}
+use Rattle.payout_laws.proofs.Conserved.{conserved}
 use Rattle.payout_laws.proofs.Members.{AreAmong, PartsAmong, among-accounts_of, among-with_account, distinct-accounts_of, distinct-with_account, last_work-among, since_block-among, weight-none}
 use Rattle.payout_laws.proofs.Sums.{sum_by-accounts, sum_by-map}
 use Rattle.pool_history.specs.Accounts.{are_distinct}
 use Rattle.pool_history.specs.Crediting.{Booked}
 use Rattle.pool_history.specs.Settling.{Part, Settled, all_weights, fee_of, last_work, parts_in_block, payments_of, settled_with, settlement, since_block, weight, with_account}
 use Rattle.payouts.specs.declared.window.Kept.{Kept}
-use Rattle.payouts.specs.Settlements.{EndsRound, SettlesBlock, as_block, payments_by, settled_by, weights_behind}
+use Rattle.payout_laws.specs.Conservation.{IsConserved}
+use Rattle.payouts.specs.Plans.{IsSettledPush}
+use Rattle.payouts.specs.Settlements.{EndsRound, IsSettlement, SettlesBlock, as_block, payments_by, settled_by, weights_behind}
 use Rattle.payouts.specs.Tallies.{AddsCredit, DiffersInRoom, IsPushed, Remembers, RemembersPush, RemembersWeights, Weighing, place_of, placed, with_weight}
 use Rattle.payouts.specs.Window.{IsKept, IsWindow, added, total, weights_of, without_oldest}
 use Rattle.payouts.proofs.Added.{length-weights_of, total-added, total-none}
@@ -140,6 +143,7 @@ told_push old new account work some is credits was = record {
   weights_are = subst (λ window. RemembersWeights new window (record { account = account; work = work; reward = None } ∷ credits)) (sym is.window_stays)
       (told_weights old.window old new account work credits some was.same_length is.accounts_are (distinct-told old credits was) (among-told old credits was) was.weights_are is.weighed);
   pushes_are = is.pushes_are ∙ ap (λ n. n + 1) was.pushes_are ∙ more;
+  unsettled_is = is.unsettled_is;
   same_length = is.same_length;
 } where
   more : length credits + 1 ≡ suc (length credits)
@@ -151,9 +155,10 @@ told_room old new credits same was = subst (λ tally. Remembers tally credits) (
   accounts_are = was.accounts_are;
   weights_are = by_window old.window was.weights_are;
   pushes_are = was.pushes_are;
+  unsettled_is = was.unsettled_is;
   same_length = was.same_length;
 }) where
-  by_window : (window : Option ℕ) → RemembersWeights old window credits → RemembersWeights (record { window = old.window; accounts = old.accounts; weights = old.weights; kept = old.kept; pushes = old.pushes; room = new.room }) window credits
+  by_window : (window : Option ℕ) → RemembersWeights old window credits → RemembersWeights (record { window = old.window; accounts = old.accounts; weights = old.weights; kept = old.kept; pushes = old.pushes; unsettled = old.unsettled; room = new.room }) window credits
   by_window None h = h
   by_window (Some window) h = h
 
@@ -234,18 +239,51 @@ told_round (Some window) old new reward credit older long accounts weights kept 
   ap reverse kept ∙ was.1 ∙ ap (λ accounts. placed accounts (last_work window 0 (credit ∷ older))) (sym accounts),
 )
 
-pub told_settled : (old new : Weighing) (reward basis_points : ℕ) (settled : Settled) → settled ≡ settled_by old reward basis_points → EndsRound old new
+-- the sum of the weights is that of the block's parts
+total-block : (tally : Weighing) (reward : ℕ) (credit : Booked) (older : List Booked) → Remembers tally (credit ∷ older) → credit.reward ≡ None
+    → total tally.weights ≡ all_weights (parts_in_block tally.window (as_block reward credit ∷ older))
+total-block tally reward credit older was none =
+    ap total (told_by_parts tally (credit ∷ older) was)
+    ∙ total-map (parts_behind tally.window (credit ∷ older)) tally.accounts (distinct-told tally (credit ∷ older) was)
+    (parts_behind-among tally.window tally.accounts (credit ∷ older) (among-told tally (credit ∷ older) was))
+    ∙ ap all_weights (block_parts tally.window reward credit older none)
+
+block-conserved : (tally : Weighing) (reward basis_points : ℕ) (settled : Settled) (credit : Booked) (older : List Booked) → basis_points ≤ 10000 → 1 ≤ total tally.weights
+    → Remembers tally (credit ∷ older) → credit.reward ≡ None → settled ≡ settlement tally.window basis_points reward (as_block reward credit ∷ older)
+    → IsConserved basis_points reward (parts_in_block tally.window (as_block reward credit ∷ older)) settled
+block-conserved tally reward basis_points settled credit older part some was none is =
+    subst (IsConserved basis_points reward (parts_in_block tally.window (as_block reward credit ∷ older))) (sym is)
+    (conserved tally.window basis_points reward (as_block reward credit ∷ older) part (omega (arith, some, total-block tally reward credit older was none)))
+
+pub told_settled : (old new : Weighing) (reward basis_points : ℕ) (settled : Settled) → basis_points ≤ 10000 → 1 ≤ total old.weights → settled ≡ settled_by old reward basis_points → EndsRound old new
     → SettlesBlock old new reward basis_points settled
-told_settled old new reward basis_points settled is ends credit older was none = record {
+told_settled old new reward basis_points settled part some is ends credit older was none = record {
+  conserved = block-conserved old reward basis_points settled credit older part some was none (is ∙ settled-same old reward basis_points credit older was none);
   by_weights = is ∙ settled-same old reward basis_points credit older was none;
   remembers = record {
     accounts_are = ends.accounts_stay ∙ was.accounts_are;
     weights_are = subst (λ window. RemembersWeights new window (as_block reward credit ∷ older)) (sym ends.window_stays)
         (told_round old.window old new reward credit older was.same_length ends.accounts_stay ends.weights_are ends.kept_stay was.weights_are);
     pushes_are = ends.pushes_stay ∙ was.pushes_are;
+    unsettled_is = ends.settled;
     same_length = ap length ends.weights_are ∙ same_length old.window old.weights ∙ was.same_length ∙ ap length (sym ends.accounts_stay);
   };
 } where
   same_length : (window : Option ℕ) (weights : List ℕ) → length (weights_behind window weights) ≡ length weights
   same_length None weights = length-replicate (length weights) 0
   same_length (Some window) weights = refl
+
+-- a push that is settled at once
+pub told_settled_push : (old mid new : Weighing) (account : List ℕ) (work reward basis_points : ℕ) (settled : Settled) → 1 ≤ work → basis_points ≤ 10000 → 1 ≤ total mid.weights
+    → IsPushed old mid account work → settled ≡ settled_by mid reward basis_points → EndsRound mid new
+    → (credits : List Booked) → Remembers old credits
+    → IsSettledPush old.window new reward basis_points settled (record { account = account; work = work; reward = Some reward }) credits
+told_settled_push old mid new account work reward basis_points settled some part weighed pushed is ends credits was =
+    subst (λ window. IsSettledPush window new reward basis_points settled (record { account = account; work = work; reward = Some reward }) credits) pushed.window_stays (record {
+      by_weights = is_settlement.by_weights;
+      remembers = is_settlement.remembers;
+      conserved = is_settlement.conserved;
+    })
+  where
+    is_settlement : IsSettlement mid new reward basis_points settled (record { account = account; work = work; reward = None }) credits
+    is_settlement = told_settled mid new reward basis_points settled part weighed is ends (record { account = account; work = work; reward = None }) credits (told_push old mid account work some pushed credits was) refl

@@ -1,8 +1,9 @@
 -- How a tally settles a block (Rosenfeld, "Analysis of Bitcoin Pooled Mining Reward Systems"; the
 -- rounding down, and that the pool has what is left, are this project's own).
-use Rattle.std.specs.Prelude.{◌≡◌, ℕ, ◌-◌, ◌*◌, ◌/◌, if◌then◌else◌, Option, None, Some, List, [], ◌∷◌, length, nat_lt, replicate}
+use Rattle.std.specs.Prelude.{◌≡◌, ℕ, ◌-◌, ◌*◌, ◌/◌, false, if◌then◌else◌, Option, None, Some, List, [], ◌∷◌, length, nat_lt, replicate}
+use Rattle.payout_laws.specs.Conservation.{IsConserved}
 use Rattle.pool_history.specs.Crediting.{Booked}
-use Rattle.pool_history.specs.Settling.{Payment, Settled, fee_of, settled_with, settlement}
+use Rattle.pool_history.specs.Settling.{Payment, Settled, fee_of, parts_in_block, settled_with, settlement}
 use Rattle.payouts.specs.Tallies.{Remembers, Weighing}
 use Rattle.payouts.specs.Window.{total}
 
@@ -35,6 +36,7 @@ pub record EndsRound (old new : Weighing) : Type 0 where
   pub weights_are : new.weights ≡ weights_behind old.window old.weights
   pub kept_stay : new.kept ≡ old.kept
   pub pushes_stay : new.pushes ≡ old.pushes
+  pub settled : new.unsettled ≡ false
 
 -- a credit that is a block
 abbrev pub as_block : ℕ → Booked → Booked
@@ -47,6 +49,8 @@ pub record IsSettlement (old new : Weighing) (reward basis_points : ℕ) (settle
   pub by_weights : settled
       ≡ settlement old.window basis_points reward (as_block reward credit ∷ older)
   pub remembers : Remembers new (as_block reward credit ∷ older)
+  pub conserved : IsConserved basis_points reward
+      (parts_in_block old.window (as_block reward credit ∷ older)) settled
 
 abbrev pub SettlesBlock : Weighing → Weighing → ℕ → ℕ → Settled → Type 0
 SettlesBlock old new reward basis_points settled =

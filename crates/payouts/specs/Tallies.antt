@@ -1,6 +1,6 @@
 -- What a tally remembers of its pushes, so that it settles blocks as the definitions do (this
 -- project's own).
-use Rattle.std.specs.Prelude.{◌≡◌, ℕ, ◌+◌, ◌-◌, ◌*◌, ◌^◌, ◌<◌, ◌≤◌, Option, None, Some, if◌then◌else◌, List, [], ◌∷◌, ◌++◌, length, map, nat_lt, reverse}
+use Rattle.std.specs.Prelude.{◌≡◌, ℕ, ◌+◌, ◌-◌, ◌*◌, ◌^◌, ◌<◌, ◌≤◌, Option, None, Some, if◌then◌else◌, List, [], ◌∷◌, ◌++◌, length, map, nat_lt, reverse, Bool, true, false, not, is_some, IsTrue}
 use Rattle.std.specs.List.{AllByRecursion, list_any, position_or_len}
 use Rattle.std.specs.Str.{bytes_eq}
 use Rattle.pool_history.specs.Crediting.{Booked}
@@ -28,6 +28,8 @@ pub record Weighing : Type 0 where
   -- by PPLNS the credits in the window, the oldest first
   pub kept : List Kept
   pub pushes : ℕ
+  -- a push came since the last settlement
+  pub unsettled : Bool
   -- so many pushes need no memory
   pub room : ℕ
 
@@ -48,11 +50,17 @@ RemembersWeights tally (Some window) credits =
     IsWindow tally.kept tally.weights
     × (reverse tally.kept ≡ placed tally.accounts (last_work window 0 credits))
 
+-- the last credit is no block yet
+abbrev pub is_unsettled : List Booked → Bool
+is_unsettled [] = false
+is_unsettled (credit ∷ older) = not (is_some credit.reward)
+
 -- a tally was told these credits, the last first
 pub record Remembers (tally : Weighing) (credits : List Booked) : Type 0 where
   pub accounts_are : tally.accounts ≡ accounts_of credits
   pub weights_are : RemembersWeights tally tally.window credits
   pub pushes_are : tally.pushes ≡ length credits
+  pub unsettled_is : tally.unsettled ≡ is_unsettled credits
   pub same_length : length tally.weights ≡ length tally.accounts
 
 -- the work of a push is weighed: by the proportional rule it is added, by PPLNS it enters the
@@ -75,6 +83,7 @@ pub record IsPushed (old new : Weighing) (account : List ℕ) (work : ℕ) : Typ
   pub accounts_are : new.accounts ≡ with_account account old.accounts
   pub weighed : AddsWork old new account work
   pub pushes_are : new.pushes ≡ old.pushes + 1
+  pub unsettled_is : new.unsettled ≡ true
   pub same_length : length new.weights ≡ length new.accounts
 
 -- by which rule, as a window
@@ -94,11 +103,12 @@ KeepsCredits (Some window) kept weights = IsFilled window kept weights
 
 -- what holds of each tally's parts
 pub record IsTallied (window : Option ℕ) (accounts : List (List ℕ)) (weights : List ℕ)
-    (kept : List Kept) (sum pushes : ℕ) : Type 0 where
+    (kept : List Kept) (sum pushes : ℕ) (unsettled : Bool) : Type 0 where
   pub same_length : length weights ≡ length accounts
   pub summed : sum ≡ total weights
   pub small : sum ≤ pushes * 2 ^ 60
   pub few : pushes < 2 ^ 24
+  pub some : IsTrue unsettled → 1 ≤ sum
   pub short : AllByRecursion (λ account. length account ≤ 255) accounts
   pub keeps : KeepsCredits window kept weights
 
@@ -110,6 +120,7 @@ DiffersInRoom old new = new ≡ record {
   weights = old.weights;
   kept = old.kept;
   pushes = old.pushes;
+  unsettled = old.unsettled;
   room = new.room;
 }
 

@@ -1,11 +1,12 @@
 //! The settlement of a block.
 
-ghost use Rattle.std.specs.Prelude.{◌≡◌, ◌+◌, ◌*◌, ◌<◌, ◌≤◌, ◌^◌, ◌/◌, [], ◌∷◌, ◌++◌, length, sum_by};
+ghost use Rattle.std.specs.Prelude.{◌≡◌, ◌+◌, ◌*◌, ◌<◌, ◌≤◌, ◌^◌, ◌/◌, [], ◌∷◌, ◌++◌, length, sum_by, IfOk};
 ghost use Rattle.std.specs.Vec.{vec_len, vec_capacity};
 ghost use Rattle.payouts.specs.Settlements.{payments_by};
 ghost use Rattle.payouts.specs.Window.{total};
 
 use crate::quotients::quotient;
+use std::alloc::{AllocError, Global};
 use std::marker::Model;
 use sv2_types::Str255;
 
@@ -90,11 +91,33 @@ impl Model for Settlement {
     } };
 }
 
-/// The texts of accounts, with room for a payout to each.
-#[derive(Drop)]
+/// The accounts that a block may pay, with room for a payout to each.
+#[derive(Debug, Drop)]
 pub(crate) struct Sheet {
-    pub(crate) accounts: Vec<Str255>,
-    pub(crate) payouts: Vec<Payout>,
+    accounts: Vec<Str255>,
+    payouts: Vec<Payout>,
+}
+
+impl Model for Sheet {
+    ghost use Rattle.std.specs.Prelude.{ℕ, ◌≡◌, ◌≤◌, List, []};
+    ghost use Rattle.std.specs.Vec.{vec_len, vec_capacity};
+
+    ghost Value = { List (List ℕ) };
+
+    ghost view = { λ sheet. sheet.accounts.items };
+
+    ghost invariant = { λ sheet. (sheet.payouts.items ≡ [])
+        × (vec_len sheet.accounts ≤ vec_capacity sheet.payouts) };
+}
+
+impl Sheet {
+    /// A sheet of these accounts.
+    pub(crate) fn of(alloc: Global, accounts: Vec<Str255>) -> Result<Sheet, AllocError>
+        ensures { IfOk result (λ sheet. sheet ≡ accounts.items) }
+    {
+        let payouts = Vec::with_capacity(alloc, accounts.len())?;
+        Ok(Sheet { accounts, payouts })
+    }
 }
 
 /// The payouts of a block, with their sum.
@@ -142,10 +165,8 @@ pub(crate) fn pay(sheet: Sheet, weights: &[u128], all: u128, paid_out: u64) -> P
     requires some { 1 ≤ all }
     requires small { all < 2 ^ 84 }
     requires summed { all ≡ total weights.now }
-    requires same { length sheet.accounts.items ≡ length weights.now }
-    requires empty { sheet.payouts.items ≡ [] }
-    requires room { vec_len sheet.accounts ≤ vec_capacity sheet.payouts }
-    ensures paid { result.payouts.items ≡ payments_by paid_out all sheet.accounts.items weights.now }
+    requires same { length sheet ≡ length weights.now }
+    ensures paid { result.payouts.items ≡ payments_by paid_out all sheet weights.now }
     ensures sum { result.sum ≡ sum_by (λ payout. payout.amount) result.payouts.items }
     ensures within { result.sum ≤ paid_out }
 {

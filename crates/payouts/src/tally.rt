@@ -1,12 +1,14 @@
 //! The tally of pushes.
 
-ghost use Rattle.std.specs.Prelude.{◌≡◌, ◌+◌, ◌<◌, ◌≤◌, ◌^◌, [], ◌∷◌, length, map, sum_by, IsTrue, IfOk, OnOk, OnErr};
+ghost use Rattle.std.specs.Prelude.{◌≡◌, ◌+◌, ◌<◌, ◌≤◌, ◌^◌, [], ◌∷◌, ◌++◌, if◌then◌else◌, length, map, sum_by, IsTrue, IfOk, OnOk, OnErr};
 ghost use Rattle.std.specs.List.{AllByRecursion};
 ghost use Rattle.std.specs.String.{string_bytes};
 ghost use Rattle.std.specs.Vec.{vec_len, vec_capacity};
 ghost use Rattle.std.specs.VecDeque.{deque_len, deque_capacity};
 ghost use Rattle.pool_history.specs.Accounts.{is_window};
+ghost use Rattle.pool_history.specs.Settling.{with_account};
 ghost use Rattle.payouts.specs.Settlements.{EndsRound, SettlesBlock, settled_by, weights_behind};
+ghost use Rattle.payouts.specs.Plans.{Applies, Fits, IsPayable, IsPlanOf, IsRewarded};
 ghost use Rattle.payouts.specs.Tallies.{AddsCredit, DiffersInRoom, IsPushed, KeepsCredits, Remembers, RemembersPush, window_of};
 ghost use Rattle.payouts.specs.Window.{IsKept, total};
 
@@ -39,6 +41,8 @@ pub struct Tally {
     kept: VecDeque<Kept>,
     sum: u128,
     pushes: u32,
+    // A push came since the last settlement.
+    unsettled: bool,
 }
 
 impl Model for Tally {
@@ -48,6 +52,7 @@ impl Model for Tally {
     ghost use Rattle.std.specs.Vec.{vec_len, vec_capacity};
     ghost use Rattle.std.specs.VecDeque.{deque_len, deque_capacity};
     ghost use Rattle.pool_history.specs.Accounts.{is_window};
+    ghost use Rattle.pool_history.specs.Settling.{with_account};
     ghost use Rattle.payouts.specs.Settlements.{EndsRound, SettlesBlock, settled_by, weights_behind};
     ghost use Rattle.indexmap.specs.IndexSet.{spare};
     ghost use Rattle.payouts.specs.Tallies.{IsTallied, Weighing, window_of};
@@ -60,13 +65,52 @@ impl Model for Tally {
       weights = tally.weights.items;
       kept = tally.kept.items;
       pushes = tally.pushes;
+      unsettled = tally.unsettled;
       room = min (spare tally.names) (min (vec_capacity tally.weights - vec_len tally.weights)
           (deque_capacity tally.kept - deque_len tally.kept));
     } };
 
     ghost invariant = { λ tally. IsTallied (window_of tally.rule)
         (map string_bytes tally.names.keys) tally.weights.items tally.kept.items tally.sum
-        tally.pushes };
+        tally.pushes tally.unsettled };
+}
+
+/// A push that was planned, and the settlement after it, with their memory.
+#[derive(Debug, Drop)]
+pub struct TallyPlan {
+    account: String,
+    work: u64,
+    block: Option<PlannedBlock>,
+}
+
+impl Model for TallyPlan {
+    ghost use Rattle.std.specs.Prelude.{◌≤◌, ◌^◌, length};
+    ghost use Rattle.std.specs.Option.{option_map};
+    ghost use Rattle.std.specs.String.{string_bytes};
+    ghost use Rattle.payouts.specs.Plans.{IsPlan, Planning};
+
+    ghost Value = { Planning };
+
+    ghost view = { λ plan. record {
+      account = string_bytes plan.account;
+      work = plan.work;
+      block = option_map (λ block. record {
+        reward = block.reward;
+        fee = block.fee;
+        listed = block.sheet;
+      }) plan.block;
+    } };
+
+    ghost invariant = { λ plan. IsPlan (string_bytes plan.account) plan.work };
+}
+
+// A block that is to be settled, with the accounts that it may pay.
+#[derive(Debug, Drop)]
+struct PlannedBlock {
+    reward: u64,
+    fee: u16,
+    sheet: Sheet,
+    ghost payable: { IsRewarded reward fee },
 }
 
 impl Tally {
@@ -84,6 +128,7 @@ impl Tally {
             kept: VecDeque::new(alloc),
             sum: 0,
             pushes: 0,
+            unsettled: false,
         })
     }
 
@@ -106,14 +151,65 @@ impl Tally {
     pub fn settle(&mut self, reward: u64, fee: u16) -> Result<Settlement, AllocError>
         requires reward { reward < 2 ^ 40 }
         requires fee { fee ≤ 10000 }
-        requires some { 1 ≤ total self.old.weights }
+        requires unsettled { IsTrue self.old.unsettled }
         ensures settled { IfOk result (SettlesBlock self.old self.new reward fee) }
         ensures whole { IfOk result (λ settled.
             sum_by (λ paid. paid.amount) settled.payments + settled.pool ≡ reward) }
         ensures err { OnErr result (self.new ≡ self.old) }
     {
-        let sheet = sheet_of(self.alloc, self.names.as_slice())?;
+        let accounts = texts_of(self.alloc, self.names.as_slice())?;
+        let sheet = Sheet::of(self.alloc, accounts)?;
         Ok(self.close(sheet, reward, fee))
+    }
+
+    /// Plans a push and, where it is a block with a reward and a fee, the settlement after it. It
+    /// takes the memory of both.
+    pub fn plan(
+        &mut self,
+        account: &str,
+        work: u64,
+        block: Option<(u64, u16)>,
+    ) -> Result<TallyPlan, AllocError>
+        requires short { length account.now ≤ 255 }
+        requires some { 1 ≤ work }
+        requires small { work ≤ 2 ^ 60 }
+        requires few { self.old.pushes + 1 < 2 ^ 24 }
+        requires block { IsPayable block }
+        ensures same { DiffersInRoom self.old self.new }
+        ensures asked { IfOk result (IsPlanOf account.now work block) }
+        ensures fits { IfOk result (Fits self.new) }
+    {
+        self.make_room()?;
+        let text = String::from_str(self.alloc, account)?;
+        let block = match block {
+            None => None,
+            Some((reward, fee)) => {
+                let sheet = sheet_with(self.alloc, &self.names, account)?;
+                Some(PlannedBlock { reward, fee, sheet })
+            }
+        };
+        Ok(TallyPlan {
+            account: text,
+            work,
+            block,
+        })
+    }
+
+    /// Does what was planned. It takes no memory.
+    pub fn apply(&mut self, plan: TallyPlan) -> Option<Settlement>
+        requires fits { Fits self.old plan }
+        ensures applied { Applies self.old self.new plan.account plan.work plan.block result }
+    {
+        let TallyPlan {
+            account,
+            work,
+            block,
+        } = plan;
+        self.take_in(account, work);
+        match block {
+            None => None,
+            Some(block) => Some(self.close(block.sheet, block.reward, block.fee)),
+        }
     }
 
     // Room for a push.
@@ -130,10 +226,9 @@ impl Tally {
     fn close(&mut self, sheet: Sheet, reward: u64, basis_points: u16) -> Settlement
         requires reward { reward < 2 ^ 40 }
         requires fee { basis_points ≤ 10000 }
-        requires some { 1 ≤ total self.old.weights }
-        requires accounts { sheet.accounts.items ≡ self.old.accounts }
-        requires empty { sheet.payouts.items ≡ [] }
-        requires room { vec_len sheet.accounts ≤ vec_capacity sheet.payouts }
+        requires unsettled { IsTrue self.old.unsettled }
+        requires accounts { sheet ≡ self.old.accounts }
+        ensures some { 1 ≤ total self.old.weights }
         ensures settled { result ≡ settled_by self.old reward basis_points }
         ensures ends { EndsRound self.old self.new }
         ensures whole { sum_by (λ paid. paid.amount) result.payments + result.pool ≡ reward }
@@ -141,6 +236,7 @@ impl Tally {
         let fee = fee_of(reward, basis_points);
         let paid = pay(sheet, self.weights.as_slice(), self.sum, reward - fee);
         self.sum = end_round(self.rule, &mut self.weights, self.sum);
+        self.unsettled = false;
         Settlement {
             fee,
             pool: reward - paid.sum,
@@ -167,6 +263,7 @@ impl Tally {
             credit,
         );
         self.pushes += 1;
+        self.unsettled = true;
     }
 }
 
@@ -188,6 +285,7 @@ fn weigh(
     ensures keeps { KeepsCredits (window_of rule) kept.new.items weights.new.items }
     ensures summed { result ≡ total weights.new.items }
     ensures grown { result ≤ sum + credit.part }
+    ensures some { 1 ≤ result }
     ensures length { length weights.new.items ≡ length weights.old.items }
 {
     match rule {
@@ -215,17 +313,44 @@ fn end_round(rule: Rule, weights: &mut Vec<u128>, sum: u128) -> u128
     }
 }
 
-// A sheet for accounts.
-fn sheet_of(alloc: Global, names: &[String]) -> Result<Sheet, AllocError>
+// Copies of accounts' texts.
+fn texts_of(alloc: Global, names: &[String]) -> Result<Vec<Str255>, AllocError>
     requires short { AllByRecursion (λ account. length account ≤ 255) (map string_bytes names.now) }
-    ensures accounts { IfOk result (λ sheet. sheet.accounts.items ≡ map string_bytes names.now) }
-    ensures empty { IfOk result (λ sheet. sheet.payouts.items ≡ []) }
-    ensures room { IfOk result (λ sheet. vec_len sheet.accounts ≤ vec_capacity sheet.payouts) }
+    ensures { IfOk result (λ texts. texts.items ≡ map string_bytes names.now) }
 {
-    let payouts = Vec::with_capacity(alloc, names.len())?;
-    let mut accounts = Vec::with_capacity(alloc, names.len())?;
+    let mut texts = Vec::with_capacity(alloc, names.len())?;
     for name in names {
-        accounts.push(Str255::of(alloc, name.as_str())?)?;
+        texts.push(Str255::of(alloc, name.as_str())?)?;
     }
-    Ok(Sheet { accounts, payouts })
+    Ok(texts)
+}
+
+// Puts an account that isn't known behind the others.
+fn add_newcomer(
+    alloc: Global,
+    texts: &mut Vec<Str255>,
+    is_known: bool,
+    account: &str,
+) -> Result<(), AllocError>
+    requires { length account.now ≤ 255 }
+    ensures { OnOk result (texts.new.items
+        ≡ (if is_known then texts.old.items else texts.old.items ++ account.now ∷ [])) }
+{
+    if !is_known {
+        texts.push(Str255::of(alloc, account)?)?;
+    }
+    Ok(())
+}
+
+// The sheet of a block at a push of an account, which may be new.
+fn sheet_with(alloc: Global, names: &IndexSet<String>, account: &str) -> Result<Sheet, AllocError>
+    requires short { AllByRecursion (λ account. length account ≤ 255)
+        (map string_bytes names.now.keys) }
+    requires fits { length account.now ≤ 255 }
+    ensures { IfOk result (λ sheet. sheet
+        ≡ with_account account.now (map string_bytes names.now.keys)) }
+{
+    let mut texts = texts_of(alloc, names.as_slice())?;
+    add_newcomer(alloc, &mut texts, names.contains(account), account)?;
+    Sheet::of(alloc, texts)
 }

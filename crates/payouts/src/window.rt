@@ -104,6 +104,7 @@ pub(crate) fn enter(
     ensures summed { result ≡ total weights.new.items }
     ensures within { result ≤ window }
     ensures grown { result ≤ sum + credit.part }
+    ensures some { 1 ≤ window → 1 ≤ result }
     ensures length { vec_len weights.new ≡ vec_len weights.old }
     ensures weights_room { vec_capacity weights.new ≡ vec_capacity weights.old }
 {

@@ -8,7 +8,7 @@ use Rattle.payouts.proofs.settlement.pay.Given as goal
 abbrev pub invariant-loop-account : goal.invariant-loop-account
 invariant-loop-account l = record {
   paid : l.payouts.items ++ payments_by l.paid_out l.all (into_iter_items l.account-iterator) (drop l.place l.weights)
-      ≡ payments_by l.paid_out l.all l.fn.sheet.accounts.items l.weights;
+      ≡ payments_by l.paid_out l.all l.fn.sheet l.weights;
   long : l.place + length (into_iter_items l.account-iterator) ≡ length l.weights;
   sum : l.sum ≡ sum_by (λ payout. payout.amount) l.payouts.items;
   bounded : l.sum * l.all + l.paid_out * total (drop l.place l.weights) ≤ l.paid_out * l.all;

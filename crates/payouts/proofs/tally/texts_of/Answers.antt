@@ -1,7 +1,7 @@
 use Rattle.std.proofs.Common.{ℕ, ◌≤◌, List, length, sym, subst}
 use Rattle.std.specs.String.{string_bytes}
 use Rattle.payouts.proofs.Names.{all-read}
-use Rattle.payouts.proofs.tally.sheet_of.Goals as goal
+use Rattle.payouts.proofs.tally.texts_of.Goals as goal
 
 pub of-requires : goal.of-requires
 of-requires c =
