@@ -1,6 +1,6 @@
 -- What the window of PPLNS holds (Rosenfeld, "Analysis of Bitcoin Pooled Mining Reward Systems",
--- has the idea; the window of work and the cut of the oldest credit are this project's own). Accounts
--- go by their places in the order of their first push.
+-- has the idea; the window of work and the cut of the oldest credit are this project's own).
+-- Accounts go by their places in the order of their first push.
 use Rattle.std.specs.Prelude.{◌≡◌, ℕ, ◌+◌, ◌-◌, ◌<◌, ◌≤◌, suc, zero, if◌then◌else◌, List, [], ◌∷◌, length, nat_le, replicate, sum_by}
 use Rattle.std.specs.List.{AllByRecursion}
 use Rattle.payouts.specs.declared.window.Kept.{Kept}

@@ -10,4 +10,7 @@ mod window;
 
 pub use quotients::quotient;
 pub use settlement::{Payout, Payouts, Settlement};
-pub use tally::{Rule, Tally};
+pub use tally::{Rule, Tally, TallyPlan};
+
+#[cfg(test)]
+mod tests;

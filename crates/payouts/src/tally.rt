@@ -132,6 +132,20 @@ impl Tally {
         })
     }
 
+    /// How many pushes there were.
+    pub fn pushes(&self) -> u32
+        ensures { result ≡ self.now.pushes }
+    {
+        self.pushes
+    }
+
+    /// Whether a push came since the last settlement.
+    pub fn is_unsettled(&self) -> bool
+        ensures { result ≡ self.now.unsettled }
+    {
+        self.unsettled
+    }
+
     /// Takes in a credit's account and work.
     pub fn push(&mut self, account: &str, work: u64) -> Result<(), AllocError>
         requires short { length account.now ≤ 255 }
