@@ -1,0 +1,26 @@
+use Rattle.std.proofs.Common.{cond, map, ◌∷◌, ◌++◌, [], sym, ap, ◌∙◌}
+use Rattle.std.specs.String.{string_bytes}
+use Rattle.payouts.proofs.Names.{names-inserted, place-names, weights-inserted}
+use Rattle.payouts.proofs.accounts.place_for.Goals as goal
+
+pub returns-then-is_new-clause-place : goal.returns-then-is_new-clause-place
+returns-then-is_new-clause-place c = c.in-Ok.ensures.index ∙ place-names string_bytes c.args.account c.args.names.now.keys
+
+pub returns-then-is_new-clause-names : goal.returns-then-is_new-clause-names
+returns-then-is_new-clause-names c = ap (map string_bytes) c.in-Ok.ensures.keys ∙ names-inserted string_bytes c.args.account c.args.names.now.keys
+
+pub returns-then-is_new-clause-weights : goal.returns-then-is_new-clause-weights
+returns-then-is_new-clause-weights c =
+    c.push_reserved.ensures.items ∙ ap (λ t. cond t (c.args.weights.now.items ++ 0 ∷ []) c.args.weights.now.items) (sym c.if-is_new.true)
+    ∙ weights-inserted string_bytes c.args.account c.args.names.now.keys c.args.weights.now.items c.in-Ok.is_new c.in-Ok.ensures.added
+
+pub returns-else-is_new-clause-place : goal.returns-else-is_new-clause-place
+returns-else-is_new-clause-place c = c.in-Ok.ensures.index ∙ place-names string_bytes c.args.account c.args.names.now.keys
+
+pub returns-else-is_new-clause-names : goal.returns-else-is_new-clause-names
+returns-else-is_new-clause-names c = ap (map string_bytes) c.in-Ok.ensures.keys ∙ names-inserted string_bytes c.args.account c.args.names.now.keys
+
+pub returns-else-is_new-clause-weights : goal.returns-else-is_new-clause-weights
+returns-else-is_new-clause-weights c =
+    ap (λ t. cond t (c.args.weights.now.items ++ 0 ∷ []) c.args.weights.now.items) (sym c.if-is_new.false)
+    ∙ weights-inserted string_bytes c.args.account c.args.names.now.keys c.args.weights.now.items c.in-Ok.is_new c.in-Ok.ensures.added

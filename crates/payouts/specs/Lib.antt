@@ -1,0 +1,4 @@
+pub mod Plans
+pub mod Settlements
+pub mod Tallies
+pub mod Window

@@ -1,0 +1,131 @@
+-- What a tally remembers of its pushes, so that it settles blocks as the definitions do (this
+-- project's own).
+use Rattle.std.specs.Prelude.{◌≡◌, ℕ, ◌+◌, ◌-◌, ◌*◌, ◌^◌, ◌<◌, ◌≤◌, Option, None, Some, if◌then◌else◌, List, [], ◌∷◌, ◌++◌, length, map, nat_lt, reverse, Bool, true, false, not, is_some, IsTrue}
+use Rattle.std.specs.List.{AllByRecursion, list_any, position_or_len}
+use Rattle.std.specs.Str.{bytes_eq}
+use Rattle.pool_history.specs.Crediting.{Booked}
+use Rattle.pool_history.specs.Settling.{Part, accounts_of, last_work, since_block, weight, with_account}
+use Rattle.payouts.specs.declared.tally.Rule.{Rule}
+use Rattle.payouts.specs.declared.tally.Rule.TheVariants as rule
+use Rattle.payouts.specs.declared.window.Kept.{Kept}
+use Rattle.payouts.specs.Window.{IsWindow, added, total, without_oldest}
+
+-- the place of an account among others, or behind them
+abbrev pub place_of : List (List ℕ) → List ℕ → ℕ
+place_of accounts account = position_or_len (bytes_eq account) accounts
+
+-- the weights with one more, of 0, where the account is new
+abbrev pub with_weight : List ℕ → List (List ℕ) → List ℕ → List ℕ
+with_weight account accounts weights =
+    if list_any (bytes_eq account) accounts then weights else weights ++ 0 ∷ []
+
+-- what a tally knows
+pub record Weighing : Type 0 where
+  pub window : Option ℕ
+  -- the accounts in the order of their first push, and their weights
+  pub accounts : List (List ℕ)
+  pub weights : List ℕ
+  -- by PPLNS the credits in the window, the oldest first
+  pub kept : List Kept
+  pub pushes : ℕ
+  -- a push came since the last settlement
+  pub unsettled : Bool
+  -- so many pushes need no memory
+  pub room : ℕ
+
+-- the credits that have some part, with the places of their accounts
+abbrev pub placed : List (List ℕ) → List Part → List Kept
+placed accounts [] = []
+placed accounts (part ∷ parts) =
+    if nat_lt 0 part.weight
+    then record { place = place_of accounts part.account; part = part.weight }
+    ∷ placed accounts parts else placed accounts parts
+
+-- the weights are those of the credits: by the proportional rule of those since the last block, by
+-- PPLNS of those in the window
+abbrev pub RemembersWeights : Weighing → Option ℕ → List Booked → Type 0
+RemembersWeights tally None credits =
+    tally.weights ≡ map (λ account. weight account (since_block credits)) tally.accounts
+RemembersWeights tally (Some window) credits =
+    IsWindow tally.kept tally.weights
+    × (reverse tally.kept ≡ placed tally.accounts (last_work window 0 credits))
+
+-- the last credit is no block yet
+abbrev pub is_unsettled : List Booked → Bool
+is_unsettled [] = false
+is_unsettled (credit ∷ older) = not (is_some credit.reward)
+
+-- a tally was told these credits, the last first
+pub record Remembers (tally : Weighing) (credits : List Booked) : Type 0 where
+  pub accounts_are : tally.accounts ≡ accounts_of credits
+  pub weights_are : RemembersWeights tally tally.window credits
+  pub pushes_are : tally.pushes ≡ length credits
+  pub unsettled_is : tally.unsettled ≡ is_unsettled credits
+  pub same_length : length tally.weights ≡ length tally.accounts
+
+-- the work of a push is weighed: by the proportional rule it is added, by PPLNS it enters the
+-- window, and as much of the oldest work leaves it as the window is exceeded by
+abbrev pub AddsCredit : Option ℕ → List Kept → List ℕ → Kept → List Kept → List ℕ → Type 0
+AddsCredit None kept weights credit kept' weights' =
+    weights' ≡ added weights credit.place credit.part
+AddsCredit (Some window) kept weights credit kept' weights' =
+    IsWindow kept' weights'
+    × (kept' ≡ without_oldest (total weights + credit.part - window) (kept ++ credit ∷ []))
+
+abbrev pub AddsWork : Weighing → Weighing → List ℕ → ℕ → Type 0
+AddsWork old new account work =
+    AddsCredit old.window old.kept (with_weight account old.accounts old.weights)
+    (record { place = place_of old.accounts account; part = work }) new.kept new.weights
+
+-- one push more
+pub record IsPushed (old new : Weighing) (account : List ℕ) (work : ℕ) : Type 0 where
+  pub window_stays : new.window ≡ old.window
+  pub accounts_are : new.accounts ≡ with_account account old.accounts
+  pub weighed : AddsWork old new account work
+  pub pushes_are : new.pushes ≡ old.pushes + 1
+  pub unsettled_is : new.unsettled ≡ true
+  pub same_length : length new.weights ≡ length new.accounts
+
+-- by which rule, as a window
+abbrev pub window_of : Rule → Option ℕ
+window_of rule.Proportional = None
+window_of (rule.Pplns window) = Some window
+
+-- by the proportional rule no credit is kept, by PPLNS those in the window
+pub record IsFilled (window : ℕ) (kept : List Kept) (weights : List ℕ) : Type 0 where
+  pub some : 1 ≤ window
+  pub weighed : IsWindow kept weights
+  pub within : total weights ≤ window
+
+abbrev pub KeepsCredits : Option ℕ → List Kept → List ℕ → Type 0
+KeepsCredits None kept weights = kept ≡ []
+KeepsCredits (Some window) kept weights = IsFilled window kept weights
+
+-- what holds of each tally's parts
+pub record IsTallied (window : Option ℕ) (accounts : List (List ℕ)) (weights : List ℕ)
+    (kept : List Kept) (sum pushes : ℕ) (unsettled : Bool) : Type 0 where
+  pub same_length : length weights ≡ length accounts
+  pub summed : sum ≡ total weights
+  pub small : sum ≤ pushes * 2 ^ 60
+  pub few : pushes < 2 ^ 24
+  pub some : IsTrue unsettled → 1 ≤ sum
+  pub short : AllByRecursion (λ account. length account ≤ 255) accounts
+  pub keeps : KeepsCredits window kept weights
+
+-- nothing changed but the room
+abbrev pub DiffersInRoom : Weighing → Weighing → Type 0
+DiffersInRoom old new = new ≡ record {
+  window = old.window;
+  accounts = old.accounts;
+  weights = old.weights;
+  kept = old.kept;
+  pushes = old.pushes;
+  unsettled = old.unsettled;
+  room = new.room;
+}
+
+-- whatever a tally was told before, it was now told one push more
+abbrev pub RemembersPush : Weighing → Weighing → List ℕ → ℕ → Type 0
+RemembersPush old new account work =
+    (credits : List Booked) → Remembers old credits
+    → Remembers new (record { account = account; work = work; reward = None } ∷ credits)

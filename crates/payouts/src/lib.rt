@@ -1,0 +1,16 @@
+//! Payouts: the tally of credits, and the settlements of blocks. It keeps no credit that counts
+//! nothing for a later block, and pays nobody: what is paid is what its settlements say.
+#![tactic(auto)]
+
+mod accounts;
+mod quotients;
+mod settlement;
+mod tally;
+mod window;
+
+pub use quotients::quotient;
+pub use settlement::{Payout, Payouts, Settlement};
+pub use tally::{Rule, Tally, TallyPlan};
+
+#[cfg(test)]
+mod tests;

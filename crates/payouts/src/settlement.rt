@@ -1,0 +1,184 @@
+//! The settlement of a block.
+
+ghost use Rattle.std.specs.Prelude.{◌≡◌, ◌+◌, ◌*◌, ◌<◌, ◌≤◌, ◌^◌, ◌/◌, [], ◌∷◌, ◌++◌, length, sum_by, IfOk};
+ghost use Rattle.std.specs.Vec.{vec_len, vec_capacity};
+ghost use Rattle.payouts.specs.Settlements.{payments_by};
+ghost use Rattle.payouts.specs.Window.{total};
+
+use crate::quotients::quotient;
+use std::alloc::{AllocError, Global};
+use std::marker::Model;
+use sv2_types::Str255;
+
+/// What an account is paid for a block.
+#[derive(Debug, Drop)]
+pub struct Payout {
+    pub account: Str255,
+    /// What the account's credits count in the block.
+    pub weight: u128,
+    /// In satoshis.
+    pub amount: u64,
+}
+
+impl Model for Payout {
+    ghost use Rattle.pool_history.specs.Settling.{Payment};
+
+    ghost Value = { Payment };
+
+    ghost view = { λ payout. record {
+      account = payout.account;
+      weight = payout.weight;
+      amount = payout.amount;
+    } };
+}
+
+/// The payouts of a block, in the order of the accounts' first push.
+#[derive(Debug, Drop)]
+pub struct Payouts {
+    items: Vec<Payout>,
+}
+
+impl Model for Payouts {
+    ghost use Rattle.std.specs.Prelude.{List};
+    ghost use Rattle.pool_history.specs.Settling.{Payment};
+
+    ghost Value = { List Payment };
+
+    ghost view = { λ payouts. payouts.items.items };
+}
+
+impl Payouts {
+    /// The payouts themselves, which takes no memory.
+    pub fn from_vec(items: Vec<Payout>) -> Payouts
+        ensures { result ≡ items.items }
+    {
+        Payouts { items }
+    }
+
+    /// The payouts, borrowed.
+    pub fn items(&self) -> &[Payout]
+        ensures { result.now ≡ self.now }
+    {
+        self.items.as_slice()
+    }
+
+    /// The payouts, given back.
+    pub fn into_vec(self) -> Vec<Payout>
+        ensures { result.items ≡ self }
+    {
+        self.items
+    }
+}
+
+/// How a block is settled: its reward is the payouts and what stays with the pool.
+#[derive(Debug, Drop)]
+pub struct Settlement {
+    /// The pool's fee, which is a part of what stays with it.
+    pub fee: u64,
+    pub pool: u64,
+    pub payouts: Payouts,
+}
+
+impl Model for Settlement {
+    ghost use Rattle.pool_history.specs.Settling.{Settled};
+
+    ghost Value = { Settled };
+
+    ghost view = { λ settlement. record {
+      fee = settlement.fee;
+      payments = settlement.payouts;
+      pool = settlement.pool;
+    } };
+}
+
+/// The accounts that a block may pay, with room for a payout to each.
+#[derive(Debug, Drop)]
+pub(crate) struct Sheet {
+    accounts: Vec<Str255>,
+    payouts: Vec<Payout>,
+}
+
+impl Model for Sheet {
+    ghost use Rattle.std.specs.Prelude.{ℕ, ◌≡◌, ◌≤◌, List, []};
+    ghost use Rattle.std.specs.Vec.{vec_len, vec_capacity};
+
+    ghost Value = { List (List ℕ) };
+
+    ghost view = { λ sheet. sheet.accounts.items };
+
+    ghost invariant = { λ sheet. (sheet.payouts.items ≡ [])
+        × (vec_len sheet.accounts ≤ vec_capacity sheet.payouts) };
+}
+
+impl Sheet {
+    /// A sheet of these accounts.
+    pub(crate) fn of(alloc: Global, accounts: Vec<Str255>) -> Result<Sheet, AllocError>
+        ensures { IfOk result (λ sheet. sheet ≡ accounts.items) }
+    {
+        let payouts = Vec::with_capacity(alloc, accounts.len())?;
+        Ok(Sheet { accounts, payouts })
+    }
+}
+
+/// The payouts of a block, with their sum.
+#[derive(Drop)]
+pub(crate) struct Paid {
+    pub(crate) payouts: Vec<Payout>,
+    pub(crate) sum: u64,
+}
+
+// Pays an account, if it has a weight; answers the amount.
+fn pay_account(
+    payouts: &mut Vec<Payout>,
+    account: Str255,
+    weight: u128,
+    all: u128,
+    paid_out: u64,
+) -> u64
+    requires amount { paid_out < 2 ^ 40 }
+    requires some { 1 ≤ all }
+    requires small { all < 2 ^ 84 }
+    requires part { weight ≤ all }
+    requires room { vec_len payouts.old < vec_capacity payouts.old }
+    ensures paid { payouts.new.items ≡ payouts.old.items
+        ++ payments_by paid_out all (account ∷ []) (weight ∷ []) }
+    ensures amount { result ≡ paid_out * weight / all }
+    ensures within { result * all ≤ paid_out * weight }
+    ensures grown { vec_len payouts.new ≤ vec_len payouts.old + 1 }
+    ensures capacity { vec_capacity payouts.new ≡ vec_capacity payouts.old }
+{
+    if weight == 0 {
+        return 0;
+    }
+    let amount = quotient(paid_out, weight, all);
+    payouts.push_reserved(Payout {
+        account,
+        weight,
+        amount,
+    });
+    amount
+}
+
+/// Pays all accounts by their weights.
+pub(crate) fn pay(sheet: Sheet, weights: &[u128], all: u128, paid_out: u64) -> Paid
+    requires amount { paid_out < 2 ^ 40 }
+    requires some { 1 ≤ all }
+    requires small { all < 2 ^ 84 }
+    requires summed { all ≡ total weights.now }
+    requires same { length sheet ≡ length weights.now }
+    ensures paid { result.payouts.items ≡ payments_by paid_out all sheet weights.now }
+    ensures sum { result.sum ≡ sum_by (λ payout. payout.amount) result.payouts.items }
+    ensures within { result.sum ≤ paid_out }
+{
+    let Sheet {
+        accounts,
+        mut payouts,
+    } = sheet;
+    let mut sum = 0;
+    let mut place = 0;
+    for account in accounts {
+        sum += pay_account(&mut payouts, account, weights[place], all, paid_out);
+        place += 1;
+    }
+    Paid { payouts, sum }
+}

@@ -1,0 +1,120 @@
+//! The credits in the window of PPLNS, and the weights of their accounts.
+
+ghost use Rattle.std.specs.Prelude.{◌≡◌, ◌+◌, ◌-◌, ◌<◌, ◌≤◌, ◌^◌, [], ◌∷◌, ◌++◌, length};
+ghost use Rattle.std.specs.VecDeque.{deque_len, deque_capacity};
+ghost use Rattle.std.specs.Vec.{vec_len, vec_capacity};
+ghost use Rattle.payouts.specs.Window.{IsKept, IsWindow, added, without_oldest, total};
+
+use std::collections::VecDeque;
+
+/// What is in the window of a credit: the place of its account, and the part of its work.
+#[derive(Clone, Copy, Debug)]
+pub(crate) struct Kept {
+    pub(crate) place: usize,
+    pub(crate) part: u64,
+}
+
+// A credit with less of its work.
+fn shortened(kept: Kept, cut: u128) -> Kept
+    requires { cut ≤ kept.part }
+    ensures { result ≡ record { place = kept.place; part = kept.part - cut } }
+{
+    Kept {
+        place: kept.place,
+        part: kept.part - cut as u64,
+    }
+}
+
+// Takes work out of the oldest credit and of its account's weight, as much as is there; answers
+// what is left to be taken.
+fn cut_oldest(kept: &mut VecDeque<Kept>, weights: &mut Vec<u128>, excess: u128) -> u128
+    requires some { 0 < length kept.old.items }
+    requires wanted { 0 < excess }
+    requires weighed { IsWindow kept.old.items weights.old.items }
+    requires enough { excess ≤ total weights.old.items }
+    ensures kept { without_oldest result kept.new.items
+        ≡ without_oldest excess kept.old.items }
+    ensures weighed { IsWindow kept.new.items weights.new.items }
+    ensures enough { result ≤ total weights.new.items }
+    ensures taken { total weights.new.items + excess ≡ total weights.old.items + result }
+    ensures less { result < excess }
+    ensures shorter { deque_len kept.new ≤ deque_len kept.old }
+    ensures room { deque_capacity kept.new ≡ deque_capacity kept.old }
+    ensures length { vec_len weights.new ≡ vec_len weights.old }
+    ensures weights_room { vec_capacity weights.new ≡ vec_capacity weights.old }
+{
+    let oldest = kept[0];
+    let part = u128::from(oldest.part);
+    if part <= excess {
+        let _oldest = kept.pop_front();
+        weights[oldest.place] -= part;
+        return excess - part;
+    }
+    kept[0] = shortened(oldest, excess);
+    weights[oldest.place] -= excess;
+    0
+}
+
+/// Takes so much work out of the oldest credits, and of their accounts' weights.
+pub(crate) fn drop_oldest(kept: &mut VecDeque<Kept>, weights: &mut Vec<u128>, excess: u128)
+    requires weighed { IsWindow kept.old.items weights.old.items }
+    requires enough { excess ≤ total weights.old.items }
+    ensures kept { kept.new.items ≡ without_oldest excess kept.old.items }
+    ensures weighed { IsWindow kept.new.items weights.new.items }
+    ensures taken { total weights.new.items + excess ≡ total weights.old.items }
+    ensures shorter { deque_len kept.new ≤ deque_len kept.old }
+    ensures room { deque_capacity kept.new ≡ deque_capacity kept.old }
+    ensures length { vec_len weights.new ≡ vec_len weights.old }
+    ensures weights_room { vec_capacity weights.new ≡ vec_capacity weights.old }
+{
+    let mut left = excess;
+    while left > 0 && !kept.is_empty() {
+        left = cut_oldest(kept, weights, left);
+    }
+}
+
+/// Adds work to the weight at a place.
+pub(crate) fn add_work(weights: &mut Vec<u128>, place: usize, work: u64)
+    requires within { place < length weights.old.items }
+    requires small { total weights.old.items + work < 2 ^ 128 }
+    ensures added { weights.new.items ≡ added weights.old.items place work }
+    ensures length { vec_len weights.new ≡ vec_len weights.old }
+    ensures room { vec_capacity weights.new ≡ vec_capacity weights.old }
+{
+    weights[place] += u128::from(work);
+}
+
+/// Takes a credit into the window, and as much work out of the oldest as the window is
+/// exceeded by; answers the work that is in it.
+pub(crate) fn enter(
+    kept: &mut VecDeque<Kept>,
+    weights: &mut Vec<u128>,
+    sum: u128,
+    credit: Kept,
+    window: u64,
+) -> u128
+    requires weighed { IsWindow kept.old.items weights.old.items }
+    requires known { IsKept (length weights.old.items) credit }
+    requires room { deque_len kept.old < deque_capacity kept.old }
+    requires summed { sum ≡ total weights.old.items }
+    requires within { sum ≤ window }
+    ensures kept { kept.new.items ≡ without_oldest
+        (total weights.old.items + credit.part - window) (kept.old.items ++ credit ∷ []) }
+    ensures weighed { IsWindow kept.new.items weights.new.items }
+    ensures summed { result ≡ total weights.new.items }
+    ensures within { result ≤ window }
+    ensures grown { result ≤ sum + credit.part }
+    ensures some { 1 ≤ window → 1 ≤ result }
+    ensures length { vec_len weights.new ≡ vec_len weights.old }
+    ensures weights_room { vec_capacity weights.new ≡ vec_capacity weights.old }
+{
+    add_work(weights, credit.place, credit.part);
+    kept.push_back_reserved(credit);
+    let grown = sum + u128::from(credit.part);
+    let window = u128::from(window);
+    if grown <= window {
+        return grown;
+    }
+    drop_oldest(kept, weights, grown - window);
+    window
+}
