@@ -1,7 +1,8 @@
 -- What a table of open channels shows (this project's own).
 use Rattle.std.specs.Prelude.{◌≡◌, ℕ, ◌≤◌, ◌==◌, if◌then◌else◌, Option, None, Some, List, [], ◌∷◌, map}
 use Rattle.std.specs.List.{AllByRecursion}
-use Rattle.pool_history.specs.Channels.{ChannelMove, ClassSet, OpenChannel, channels_told, last_class, opened, present_class}
+use Rattle.pool_history.specs.Channels.{ChannelMove, ClassSet, OpenChannel, channel_in, channels_told, last_class, opened, present_class}
+use Rattle.history_laws.specs.Apart.{AreDisjoint}
 use Rattle.history_laws.specs.Openings.{AreLeadsApart}
 use Rattle.prefix_space.specs.HeldLeads.{is_held}
 use Rattle.channels.specs.declared.channel.Channel.{Channel}
@@ -69,3 +70,9 @@ pub record AreKept (opened : ℕ) (settings : List Setting) (entries : List (ℕ
 abbrev pub lead_if_own : ℕ → Option Channel → Option (List ℕ)
 lead_if_own session None = None
 lead_if_own session (Some channel) = if channel.session == session then Some channel.lead else None
+
+-- no twelve bytes are in the spaces of the open channels with two ids
+abbrev pub AreSpacesApart : List OpenChannel → ℕ → ℕ → Type 0
+AreSpacesApart channels a b =
+    (one other : OpenChannel) → channel_in channels a ≡ Some one → channel_in channels b ≡ Some other
+    → AreDisjoint one other

@@ -5,7 +5,7 @@ mod channel;
 mod table;
 
 pub use channel::Channel;
-pub use table::{Channels, NotOpen};
+pub use table::{Channels, NotOpen, spaces_apart};
 
 #[cfg(test)]
 mod tests;

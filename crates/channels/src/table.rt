@@ -112,11 +112,20 @@ impl Channels {
     }
 }
 
+/// Two different open channels search no space together: no twelve bytes are in both.
+pub fn spaces_apart(channels: &Channels, a: u32, b: u32)
+    requires { ¬ (a ≡ b) }
+    ensures { AreSpacesApart channels.now.open_channels a b }
+{
+    // Says that the tables fit each other.
+    let _space = &channels.space;
+}
+
 ghost use Rattle.std.specs.Option.{option_copied};
 ghost use Rattle.std.specs.Prelude.{◌≡◌, ◌==◌, ◌&&◌, IfOk, filter, find, map, nat_eq, nat_lt, reverse};
 ghost use Rattle.pool_history.specs.Channels.{class_before};
 ghost use Rattle.indexmap.specs.IndexMap.{IsUnique, get};
-ghost use Rattle.channels.specs.Tables.{lead_if_own, sets_of};
+ghost use Rattle.channels.specs.Tables.{AreSpacesApart, lead_if_own, sets_of};
 
 /// The last setting of a channel before a place.
 fn last_before(settings: &[Setting], channel: u32, place: u64) -> Option<&Setting>
