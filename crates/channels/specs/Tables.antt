@@ -1,0 +1,78 @@
+-- What a table of open channels shows (this project's own).
+use Rattle.std.specs.Prelude.{◌≡◌, ℕ, ◌≤◌, ◌==◌, if◌then◌else◌, Option, None, Some, List, [], ◌∷◌, map}
+use Rattle.std.specs.List.{AllByRecursion}
+use Rattle.pool_history.specs.Channels.{ChannelMove, ClassSet, OpenChannel, channel_in, channels_told, last_class, opened, present_class}
+use Rattle.history_laws.specs.Apart.{AreDisjoint}
+use Rattle.history_laws.specs.Openings.{AreLeadsApart}
+use Rattle.prefix_space.specs.HeldLeads.{is_held}
+use Rattle.channels.specs.declared.channel.Channel.{Channel}
+use Rattle.channels.specs.declared.channel.Setting.{Setting}
+
+-- the open channels in the order of their ids, and how many were opened
+pub record ChannelTable : Type 0 where
+  pub opened : ℕ
+  pub open_channels : List OpenChannel
+
+-- a table was told these moves
+pub record IsTold (table : ChannelTable) (moves : List ChannelMove) : Type 0 where
+  pub opened_are : table.opened ≡ opened moves
+  pub channels_are : table.open_channels ≡ channels_told moves
+
+-- an open channel as it is kept: with its present class
+abbrev pub kept_channel : OpenChannel → Channel
+kept_channel channel =
+    record {
+      session = channel.session;
+      kind = channel.kind;
+      account = channel.account;
+      lead = channel.lead;
+      opening_class = channel.opening_class;
+      class = present_class channel;
+    }
+
+-- the classes that were set for a channel, the last first, among those that were set for all
+abbrev pub sets_of : ℕ → List Setting → List ClassSet
+sets_of id [] = []
+sets_of id (setting ∷ older) =
+    if setting.channel == id
+    then record { at = setting.at; class = setting.class } ∷ sets_of id older
+    else sets_of id older
+
+-- a channel that is kept under its id, with the classes that were set
+abbrev pub shown_channel : List Setting → ℕ → Channel → OpenChannel
+shown_channel settings id channel =
+    record {
+      id = id;
+      session = channel.session;
+      kind = channel.kind;
+      account = channel.account;
+      lead = channel.lead;
+      opening_class = channel.opening_class;
+      sets = sets_of id settings;
+    }
+
+-- a channel whose kept class is its present one
+pub record HasItsClass (settings : List Setting) (id : ℕ) (channel : Channel) : Type 0 where
+  pub class_is : channel.class ≡ last_class (sets_of id settings) channel.opening_class
+
+-- the tables fit each other: ids and settings are of channels that were opened, classes are the
+-- present ones, and the held leads are those of the open channels
+pub record AreKept (opened : ℕ) (settings : List Setting) (entries : List (ℕ × Channel))
+    (held : List (List ℕ)) : Type 0 where
+  pub ids : AllByRecursion (λ entry. entry.0 ≤ opened) entries
+  pub settings_are : AllByRecursion (λ setting. setting.channel ≤ opened) settings
+  pub classes : AllByRecursion (λ entry. HasItsClass settings entry.0 entry.1) entries
+  pub leads : (lead : List ℕ)
+      → is_held held lead ≡ is_held (map (λ entry. entry.1.lead) entries) lead
+  pub apart : AreLeadsApart (map (λ entry. entry.1.lead) entries)
+
+-- the lead of what is kept, where it is a session's
+abbrev pub lead_if_own : ℕ → Option Channel → Option (List ℕ)
+lead_if_own session None = None
+lead_if_own session (Some channel) = if channel.session == session then Some channel.lead else None
+
+-- no twelve bytes are in the spaces of the open channels with two ids
+abbrev pub AreSpacesApart : List OpenChannel → ℕ → ℕ → Type 0
+AreSpacesApart channels a b =
+    (one other : OpenChannel) → channel_in channels a ≡ Some one → channel_in channels b ≡ Some other
+    → AreDisjoint one other

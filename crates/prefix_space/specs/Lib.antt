@@ -1,0 +1,2 @@
+pub mod HeldLeads
+pub mod Spans
