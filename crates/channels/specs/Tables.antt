@@ -74,5 +74,6 @@ lead_if_own session (Some channel) = if channel.session == session then Some cha
 -- no twelve bytes are in the spaces of the open channels with two ids
 abbrev pub AreSpacesApart : List OpenChannel → ℕ → ℕ → Type 0
 AreSpacesApart channels a b =
-    (one other : OpenChannel) → channel_in channels a ≡ Some one → channel_in channels b ≡ Some other
+    (one other : OpenChannel) → channel_in channels a ≡ Some one
+    → channel_in channels b ≡ Some other
     → AreDisjoint one other

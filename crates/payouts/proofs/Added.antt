@@ -6,7 +6,7 @@ use Rattle.std.proofs.lemmas.List.{length-replicate}
 use Rattle.std.proofs.lemmas.List.Sums.{sum_by-cons}
 use Rattle.payout_laws.proofs.Sums.{all-append}
 use Rattle.payouts.specs.declared.window.Kept.{Kept}
-use Rattle.payouts.specs.Window.{IsKept, IsWindow, added, total, weights_of, without_oldest}
+use Rattle.payouts.specs.Window.{IsKeptCredit, IsCreditWindow, added, weights_sum, weights_of, without_oldest}
 
 pub length-added : (ns : List ℕ) (i x : ℕ) → length (added ns i x) ≡ length ns
 length-added [] i x = refl
@@ -39,7 +39,7 @@ added-set (n ∷ ns) (suc i) x d within = ap (λ ms. n ∷ ms) (added-set ns i x
   below : i < length ns
   below = omega (arith, within)
 
-pub total-added : (ns : List ℕ) (i x : ℕ) → i < length ns → total (added ns i x) ≡ total ns + x
+pub total-added : (ns : List ℕ) (i x : ℕ) → i < length ns → weights_sum (added ns i x) ≡ weights_sum ns + x
 total-added [] i x within = omega (arith, within)
 total-added (n ∷ ns) zero x within = omega (arith, sum_by-cons (λ (m : ℕ). m) (n + x) ns, sum_by-cons (λ (m : ℕ). m) n ns)
 total-added (n ∷ ns) (suc i) x within =
@@ -73,7 +73,7 @@ weights_of-push accounts (first ∷ newer) kept =
 
 -- the oldest credit loses a part of its work, and its account as much of its weight
 pub weights-cut : (oldest : Kept) (newer : List Kept) (weights : List ℕ) (cut d : ℕ) → cut ≤ oldest.part
-    → IsWindow (oldest ∷ newer) weights
+    → IsCreditWindow (oldest ∷ newer) weights
     → set weights oldest.place (get_or weights oldest.place d - cut)
     ≡ added (weights_of (length weights) newer) oldest.place (oldest.part - cut)
 weights-cut oldest newer weights cut d part is =
@@ -89,10 +89,10 @@ weights-cut oldest newer weights cut d part is =
 -- a cut of the oldest credit, which is the first of the list
 pub record IsCut (all : List Kept) (weights : List ℕ) (oldest : Kept) (weight cut : ℕ) : Type 0 where
   pub enough : cut ≤ weight
-  pub whole : cut ≡ oldest.part → IsWindow (drop 1 all) (set weights oldest.place (weight - cut))
+  pub whole : cut ≡ oldest.part → IsCreditWindow (drop 1 all) (set weights oldest.place (weight - cut))
   pub part : cut < oldest.part
-      → IsWindow (set all 0 (record { place = oldest.place; part = oldest.part - cut })) (set weights oldest.place (weight - cut))
-  pub taken : total (set weights oldest.place (weight - cut)) + cut ≡ total weights
+      → IsCreditWindow (set all 0 (record { place = oldest.place; part = oldest.part - cut })) (set weights oldest.place (weight - cut))
+  pub taken : weights_sum (set weights oldest.place (weight - cut)) + cut ≡ weights_sum weights
 
 -- numbers that are equal
 weighs : (ns ms : List ℕ) (i d weight : ℕ) → ns ≡ ms → weight ≡ get_or ns i d → weight ≡ get_or ms i d
@@ -105,18 +105,18 @@ get-added (n ∷ ns) (suc i) x d within = get-added ns i x d below where
   below : i < length ns
   below = omega (arith, within)
 
-cut_first : (oldest : Kept) (newer : List Kept) (weights : List ℕ) (weight cut : ℕ) → IsWindow (oldest ∷ newer) weights
+cut_first : (oldest : Kept) (newer : List Kept) (weights : List ℕ) (weight cut : ℕ) → IsCreditWindow (oldest ∷ newer) weights
     → weight ≡ get_or weights oldest.place weight → cut ≤ oldest.part → IsCut (oldest ∷ newer) weights oldest weight cut
 cut_first oldest newer weights weight cut is read small = record {
   enough = omega (arith, grown, small);
-  whole = λ e. subst (λ ns. IsWindow newer ns) (sym (written ∙ emptied e))
+  whole = λ e. subst (λ ns. IsCreditWindow newer ns) (sym (written ∙ emptied e))
       (window newer (tail is.each.1) (ap (λ n. weights_of n newer) (sym long)));
-  part = λ less. subst (λ ns. IsWindow (record { place = oldest.place; part = oldest.part - cut } ∷ newer) ns) (sym written)
+  part = λ less. subst (λ ns. IsCreditWindow (record { place = oldest.place; part = oldest.part - cut } ∷ newer) ns) (sym written)
       (record {
-        each = (record { known = subst (λ n. oldest.place < n) (sym same) is.each.0.known; some = omega (arith, less) }, subst (λ n. AllByRecursion (IsKept n) newer) (sym same) is.each.1);
+        each = (record { known = subst (λ n. oldest.place < n) (sym same) is.each.0.known; some = omega (arith, less) }, subst (λ n. AllByRecursion (IsKeptCredit n) newer) (sym same) is.each.1);
         weighed = ap (λ n. added (weights_of n newer) oldest.place (oldest.part - cut)) (sym same);
       });
-  taken = ap (λ ns. total ns + cut) written ∙ summed;
+  taken = ap (λ ns. weights_sum ns + cut) written ∙ summed;
 } where
   rest : List ℕ
   rest = weights_of (length weights) newer
@@ -139,37 +139,37 @@ cut_first oldest newer weights weight cut is read small = record {
     none : oldest.part - cut ≡ 0
     none = omega (arith, e)
 
-  tail : AllByRecursion (IsKept (length weights)) newer → AllByRecursion (IsKept (length (weights_of (length weights) newer))) newer
-  tail all = subst (λ n. AllByRecursion (IsKept n) newer) (sym long) all
+  tail : AllByRecursion (IsKeptCredit (length weights)) newer → AllByRecursion (IsKeptCredit (length (weights_of (length weights) newer))) newer
+  tail all = subst (λ n. AllByRecursion (IsKeptCredit n) newer) (sym long) all
 
-  window : (kept : List Kept) → AllByRecursion (IsKept (length (weights_of (length weights) newer))) kept
+  window : (kept : List Kept) → AllByRecursion (IsKeptCredit (length (weights_of (length weights) newer))) kept
       → weights_of (length weights) newer ≡ weights_of (length (weights_of (length weights) newer)) kept
-      → IsWindow kept (weights_of (length weights) newer)
+      → IsCreditWindow kept (weights_of (length weights) newer)
   window kept all e = record { each = all; weighed = e }
 
   same : length (added (weights_of (length weights) newer) oldest.place (oldest.part - cut)) ≡ length weights
   same = length-added (weights_of (length weights) newer) oldest.place (oldest.part - cut) ∙ long
 
-  summed : total (added (weights_of (length weights) newer) oldest.place (oldest.part - cut)) + cut ≡ total weights
+  summed : weights_sum (added (weights_of (length weights) newer) oldest.place (oldest.part - cut)) + cut ≡ weights_sum weights
   summed = omega (
     arith,
     small,
     total-added (weights_of (length weights) newer) oldest.place (oldest.part - cut) within,
     total-added (weights_of (length weights) newer) oldest.place oldest.part within,
-    ap total is.weighed,
+    ap weights_sum is.weighed,
   )
 
-pub cut_oldest : (all : List Kept) (weights : List ℕ) (oldest : Kept) (weight cut : ℕ) → 0 < length all → IsWindow all weights
+pub cut_oldest : (all : List Kept) (weights : List ℕ) (oldest : Kept) (weight cut : ℕ) → 0 < length all → IsCreditWindow all weights
     → oldest ≡ get_or all 0 oldest → weight ≡ get_or weights oldest.place weight → cut ≤ oldest.part → IsCut all weights oldest weight cut
 cut_oldest [] weights oldest weight cut some is first read small = absurd (none some) where
   none : 0 < 0 → ⊥
   none l = omega (arith, l)
 cut_oldest (kept ∷ newer) weights oldest weight cut some is first read small =
-    subst (λ k. IsWindow (k ∷ newer) weights → IsCut (k ∷ newer) weights oldest weight cut) first
+    subst (λ k. IsCreditWindow (k ∷ newer) weights → IsCut (k ∷ newer) weights oldest weight cut) first
     (λ is. cut_first oldest newer weights weight cut is read small) is
 
 -- where nothing is cut, all stays; and without credits there is no weight
-pub nothing_dropped : (accounts : ℕ) (all : List Kept) → AllByRecursion (IsKept accounts) all → without_oldest 0 all ≡ all
+pub nothing_dropped : (accounts : ℕ) (all : List Kept) → AllByRecursion (IsKeptCredit accounts) all → without_oldest 0 all ≡ all
 nothing_dropped accounts [] each = refl
 nothing_dropped accounts (kept ∷ newer) each = by_test (nat_le kept.part 0) refl where
   by_test : (t : Bool) → nat_le kept.part 0 ≡ t
@@ -181,43 +181,43 @@ nothing_dropped accounts (kept ∷ newer) each = by_test (nat_le kept.part 0) re
     same : kept.part - 0 ≡ kept.part
     same = omega arith
 
-pub total-none : (n : ℕ) → total (replicate n 0) ≡ 0
+pub total-none : (n : ℕ) → weights_sum (replicate n 0) ≡ 0
 total-none zero = refl
 total-none (suc n) = omega (arith, sum_by-cons (λ (m : ℕ). m) 0 (replicate n 0), total-none n)
 
-pub total-empty : (all : List Kept) (weights : List ℕ) → IsWindow all weights → length all ≡ 0 → total weights ≡ 0
-total-empty [] weights is none = ap total is.weighed ∙ total-none (length weights)
+pub total-empty : (all : List Kept) (weights : List ℕ) → IsCreditWindow all weights → length all ≡ 0 → weights_sum weights ≡ 0
+total-empty [] weights is none = ap weights_sum is.weighed ∙ total-none (length weights)
 total-empty (kept ∷ newer) weights is none = absurd (filled none) where
   filled : suc (length newer) ≡ 0 → ⊥
   filled e = omega (arith, e)
 
 -- so the loop ends with nothing to cut
-pub dropped : (all : List Kept) (weights : List ℕ) (excess : ℕ) → IsWindow all weights → excess ≡ 0 → without_oldest excess all ≡ all
+pub dropped : (all : List Kept) (weights : List ℕ) (excess : ℕ) → IsCreditWindow all weights → excess ≡ 0 → without_oldest excess all ≡ all
 dropped all weights excess is none = ap (λ n. without_oldest n all) none ∙ nothing_dropped (length weights) all is.each
 
 -- one credit more in the window
-pub window-push : (all : List Kept) (weights : List ℕ) (kept : Kept) → IsWindow all weights → IsKept (length weights) kept
-    → IsWindow (all ++ kept ∷ []) (added weights kept.place kept.part)
+pub window-push : (all : List Kept) (weights : List ℕ) (kept : Kept) → IsCreditWindow all weights → IsKeptCredit (length weights) kept
+    → IsCreditWindow (all ++ kept ∷ []) (added weights kept.place kept.part)
 window-push all weights kept is known = record {
-  each = subst (λ n. AllByRecursion (IsKept n) (all ++ kept ∷ [])) (sym (length-added weights kept.place kept.part))
-      (all-append (IsKept (length weights)) all (kept ∷ []) is.each (known, tt));
+  each = subst (λ n. AllByRecursion (IsKeptCredit n) (all ++ kept ∷ [])) (sym (length-added weights kept.place kept.part))
+      (all-append (IsKeptCredit (length weights)) all (kept ∷ []) is.each (known, tt));
   weighed = subst (λ n. added weights kept.place kept.part ≡ weights_of n (all ++ kept ∷ [])) (sym (length-added weights kept.place kept.part))
       (ap (λ ns. added ns kept.place kept.part) is.weighed ∙ sym (weights_of-push (length weights) all kept));
 }
 
 -- as a push and its weight leave it
 pub record IsEntered (all : List Kept) (weights : List ℕ) (kept : Kept) (all' : List Kept) (weights' : List ℕ) : Type 0 where
-  pub window : IsWindow all' weights'
-  pub summed : total weights' ≡ total weights + kept.part
+  pub window : IsCreditWindow all' weights'
+  pub summed : weights_sum weights' ≡ weights_sum weights + kept.part
   pub nothing : (excess : ℕ) → excess ≡ 0 → all' ≡ without_oldest excess (all ++ kept ∷ [])
 
-pub entered : (all : List Kept) (weights : List ℕ) (kept : Kept) (all' : List Kept) (weights' : List ℕ) → IsWindow all weights → IsKept (length weights) kept
+pub entered : (all : List Kept) (weights : List ℕ) (kept : Kept) (all' : List Kept) (weights' : List ℕ) → IsCreditWindow all weights → IsKeptCredit (length weights) kept
     → all' ≡ all ++ kept ∷ [] → weights' ≡ added weights kept.place kept.part → IsEntered all weights kept all' weights'
 entered all weights kept all' weights' is known pushed grown = record {
   window = window;
-  summed = ap total grown ∙ total-added weights kept.place kept.part known.known;
+  summed = ap weights_sum grown ∙ total-added weights kept.place kept.part known.known;
   nothing = λ excess none. sym (dropped all' weights' excess window none) ∙ ap (without_oldest excess) pushed;
 } where
-  window : IsWindow all' weights'
-  window = subst (λ xs. IsWindow xs weights') (sym pushed)
-      (subst (λ ns. IsWindow (all ++ kept ∷ []) ns) (sym grown) (window-push all weights kept is known))
+  window : IsCreditWindow all' weights'
+  window = subst (λ xs. IsCreditWindow xs weights') (sym pushed)
+      (subst (λ ns. IsCreditWindow (all ++ kept ∷ []) ns) (sym grown) (window-push all weights kept is known))

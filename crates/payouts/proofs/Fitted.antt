@@ -7,8 +7,8 @@ use Rattle.payout_laws.proofs.Sums.{all-append}
 use Rattle.pool_history.specs.Crediting.{Booked}
 use Rattle.pool_history.specs.Settling.{Part, last_work}
 use Rattle.payouts.specs.declared.window.Kept.{Kept}
-use Rattle.payouts.specs.Tallies.{place_of, placed}
-use Rattle.payouts.specs.Window.{IsKept, without_oldest}
+use Rattle.payouts.specs.Tallies.{account_place, placed}
+use Rattle.payouts.specs.Window.{IsKeptCredit, without_oldest}
 
 -- the last credits that so much work is left for, the last first
 abbrev pub fitted : ℕ → List Kept → List Kept
@@ -49,7 +49,7 @@ fitted-end left (x ∷ xs) k = by_test (nat_lt 0 left) refl (fitted-end (left - 
       sym (ap (λ n. fitted n (k ∷ [])) none)
 
 -- where all fits, all stays
-fitted-all : (n left : ℕ) (xs : List Kept) → AllByRecursion (IsKept n) xs → parts_sum xs ≤ left → fitted left xs ≡ xs
+fitted-all : (n left : ℕ) (xs : List Kept) → AllByRecursion (IsKeptCredit n) xs → parts_sum xs ≤ left → fitted left xs ≡ xs
 fitted-all n left [] each fits = refl
 fitted-all n left (x ∷ xs) each fits = by_test (nat_lt 0 left) refl (fitted-all n (left - x.part) xs each.1) where
   by_test : (t : Bool) → nat_lt 0 left ≡ t → (parts_sum xs ≤ left - x.part → fitted (left - x.part) xs ≡ xs) → cond t (record { place = x.place; part = min x.part left } ∷ fitted (left - x.part) xs) [] ≡ x ∷ xs
@@ -63,9 +63,9 @@ fitted-all n left (x ∷ xs) each fits = by_test (nat_lt 0 left) refl (fitted-al
     filled : left ≤ 0 → ⊥
     filled l = omega (arith, l, fits, each.0.some)
 
-all-reverse : (n : ℕ) (xs : List Kept) → AllByRecursion (IsKept n) xs → AllByRecursion (IsKept n) (reverse xs)
+all-reverse : (n : ℕ) (xs : List Kept) → AllByRecursion (IsKeptCredit n) xs → AllByRecursion (IsKeptCredit n) (reverse xs)
 all-reverse n [] each = tt
-all-reverse n (x ∷ xs) each = subst (AllByRecursion (IsKept n)) (sym (reverse-append (x ∷ []) xs)) (all-append (IsKept n) (reverse xs) (x ∷ []) (all-reverse n xs each.1) (each.0, tt))
+all-reverse n (x ∷ xs) each = subst (AllByRecursion (IsKeptCredit n)) (sym (reverse-append (x ∷ []) xs)) (all-append (IsKeptCredit n) (reverse xs) (x ∷ []) (all-reverse n xs each.1) (each.0, tt))
 
 parts_sum-reverse : (xs : List Kept) → parts_sum (reverse xs) ≡ parts_sum xs
 parts_sum-reverse [] = refl
@@ -74,7 +74,7 @@ parts_sum-reverse (x ∷ xs) = ap parts_sum (reverse-append (x ∷ []) xs) ∙ p
   turned e = omega (arith, e)
 
 -- what is left of the oldest credits is what fits of the last ones
-pub cut-fits : (n window : ℕ) (all : List Kept) → AllByRecursion (IsKept n) all
+pub cut-fits : (n window : ℕ) (all : List Kept) → AllByRecursion (IsKeptCredit n) all
     → reverse (without_oldest (parts_sum all - window) all) ≡ fitted window (reverse all)
 cut-fits n window [] each = refl
 cut-fits n window (k ∷ newer) each =
@@ -135,7 +135,7 @@ placed-none accounts (credit ∷ older) = by_test (nat_lt 0 (min credit.work 0))
   less = omega arith
 
   by_test : (t : Bool) → nat_lt 0 (min credit.work 0) ≡ t → placed accounts (left_of 0 older) ≡ []
-      → cond t (record { place = place_of accounts credit.account; part = min credit.work 0 } ∷ placed accounts (left_of (0 - credit.work) older)) (placed accounts (left_of (0 - credit.work) older)) ≡ []
+      → cond t (record { place = account_place accounts credit.account; part = min credit.work 0 } ∷ placed accounts (left_of (0 - credit.work) older)) (placed accounts (left_of (0 - credit.work) older)) ≡ []
   by_test true e more = absurd (none (ltb-true 0 (min credit.work 0) e)) where
     none : 0 < min credit.work 0 → ⊥
     none l = omega (arith, l)
@@ -154,8 +154,8 @@ fitted-first accounts left less credit older within more =
       below = omega (arith, within)
 
     by_tests : (t u v : Bool) → nat_lt 0 (min credit.work left) ≡ t → nat_lt 0 (min credit.work less) ≡ u → nat_lt 0 less ≡ v
-        → fitted less (cond t (record { place = place_of accounts credit.account; part = min credit.work left } ∷ placed accounts (left_of (left - credit.work) older)) (placed accounts (left_of (left - credit.work) older)))
-        ≡ cond u (record { place = place_of accounts credit.account; part = min credit.work less } ∷ placed accounts (left_of (less - credit.work) older)) (placed accounts (left_of (less - credit.work) older))
+        → fitted less (cond t (record { place = account_place accounts credit.account; part = min credit.work left } ∷ placed accounts (left_of (left - credit.work) older)) (placed accounts (left_of (left - credit.work) older)))
+        ≡ cond u (record { place = account_place accounts credit.account; part = min credit.work less } ∷ placed accounts (left_of (less - credit.work) older)) (placed accounts (left_of (less - credit.work) older))
     by_tests true u true e f g = taken u f where
       same : min (min credit.work left) less ≡ min credit.work less
       same = omega (arith, within)
@@ -164,15 +164,15 @@ fitted-first accounts left less credit older within more =
       remains = omega (arith, within)
 
       shown : (w : Bool) → w ≡ true
-          → cond w (record { place = place_of accounts credit.account; part = min (min credit.work left) less } ∷ fitted (less - min credit.work left) (placed accounts (left_of (left - credit.work) older))) []
-          ≡ record { place = place_of accounts credit.account; part = min credit.work less } ∷ placed accounts (left_of (less - credit.work) older)
-      shown true h = ap₂ (λ n m. record { place = place_of accounts credit.account; part = n } ∷ fitted m (placed accounts (left_of (left - credit.work) older))) same remains
-          ∙ ap (λ xs. record { place = place_of accounts credit.account; part = min credit.work less } ∷ xs) rest
+          → cond w (record { place = account_place accounts credit.account; part = min (min credit.work left) less } ∷ fitted (less - min credit.work left) (placed accounts (left_of (left - credit.work) older))) []
+          ≡ record { place = account_place accounts credit.account; part = min credit.work less } ∷ placed accounts (left_of (less - credit.work) older)
+      shown true h = ap₂ (λ n m. record { place = account_place accounts credit.account; part = n } ∷ fitted m (placed accounts (left_of (left - credit.work) older))) same remains
+          ∙ ap (λ xs. record { place = account_place accounts credit.account; part = min credit.work less } ∷ xs) rest
       shown false h = cc
 
       taken : (u : Bool) → nat_lt 0 (min credit.work less) ≡ u
-          → fitted less (record { place = place_of accounts credit.account; part = min credit.work left } ∷ placed accounts (left_of (left - credit.work) older))
-          ≡ cond u (record { place = place_of accounts credit.account; part = min credit.work less } ∷ placed accounts (left_of (less - credit.work) older)) (placed accounts (left_of (less - credit.work) older))
+          → fitted less (record { place = account_place accounts credit.account; part = min credit.work left } ∷ placed accounts (left_of (left - credit.work) older))
+          ≡ cond u (record { place = account_place accounts credit.account; part = min credit.work less } ∷ placed accounts (left_of (less - credit.work) older)) (placed accounts (left_of (less - credit.work) older))
       taken true f = shown (nat_lt 0 less) g
       taken false f = absurd (some (ltb-true 0 less g) (ltb-true 0 (min credit.work left) e) (ltb-false 0 (min credit.work less) f)) where
         some : 0 < less → 0 < min credit.work left → min credit.work less ≤ 0 → ⊥
@@ -190,12 +190,12 @@ fitted-first accounts left less credit older within more =
         zero = omega (arith, ltb-false 0 less g)
 
       none : (t u : Bool) → nat_lt 0 (min credit.work less) ≡ u
-          → fitted less (cond t (record { place = place_of accounts credit.account; part = min credit.work left } ∷ placed accounts (left_of (left - credit.work) older)) (placed accounts (left_of (left - credit.work) older)))
-          ≡ cond u (record { place = place_of accounts credit.account; part = min credit.work less } ∷ placed accounts (left_of (less - credit.work) older)) (placed accounts (left_of (less - credit.work) older))
+          → fitted less (cond t (record { place = account_place accounts credit.account; part = min credit.work left } ∷ placed accounts (left_of (left - credit.work) older)) (placed accounts (left_of (left - credit.work) older)))
+          ≡ cond u (record { place = account_place accounts credit.account; part = min credit.work less } ∷ placed accounts (left_of (less - credit.work) older)) (placed accounts (left_of (less - credit.work) older))
       none t true h = absurd (empty (ltb-true 0 (min credit.work less) h)) where
         empty : 0 < min credit.work less → ⊥
         empty l = omega (arith, l, ltb-false 0 less g)
-      none t false h = gone (cond t (record { place = place_of accounts credit.account; part = min credit.work left } ∷ placed accounts (left_of (left - credit.work) older)) (placed accounts (left_of (left - credit.work) older))) ∙ sym nothing
+      none t false h = gone (cond t (record { place = account_place accounts credit.account; part = min credit.work left } ∷ placed accounts (left_of (left - credit.work) older)) (placed accounts (left_of (left - credit.work) older))) ∙ sym nothing
     by_tests false true true e f g = absurd (some (ltb-false 0 (min credit.work left) e) (ltb-true 0 (min credit.work less) f)) where
       some : min credit.work left ≤ 0 → 0 < min credit.work less → ⊥
       some a b = omega (arith, a, b, within)

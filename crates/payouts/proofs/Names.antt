@@ -4,14 +4,14 @@ use Rattle.std.specs.List.{AllByRecursion, list_any, position_or_len}
 use Rattle.std.proofs.lemmas.List.{map-append}
 use Rattle.indexmap.specs.IndexSet.{insert_key}
 use Rattle.pool_history.specs.Settling.{with_account}
-use Rattle.payouts.specs.Tallies.{place_of, with_weight}
+use Rattle.payouts.specs.Tallies.{account_place, with_weight}
 
 module _ {K : Type 0} (f : K → List ℕ) (k : K) where
   pub any-names : (ks : List K) → list_any (bytes_eq (f k)) (map f ks) ≡ list_any (λ x. bytes_eq (f k) (f x)) ks
   any-names [] = refl
   any-names (x ∷ ks) = ap (λ t. bytes_eq (f k) (f x) || t) (any-names ks)
 
-  pub place-names : (ks : List K) → position_or_len (λ x. bytes_eq (f k) (f x)) ks ≡ place_of (map f ks) (f k)
+  pub place-names : (ks : List K) → position_or_len (λ x. bytes_eq (f k) (f x)) ks ≡ account_place (map f ks) (f k)
   place-names [] = refl
   place-names (x ∷ ks) = ap (λ n. cond (not (bytes_eq (f k) (f x))) (1 + n) 0) (place-names ks)
 

@@ -6,7 +6,7 @@ use Rattle.std.proofs.lemmas.List.Sums.{sum_by-append, sum_by-cons}
 use Rattle.payout_laws.proofs.Shares.{nothing_paid}
 use Rattle.pool_history.specs.Settling.{Payment, Settled, settled_with}
 use Rattle.payouts.specs.Settlements.{payments_by}
-use Rattle.payouts.specs.Window.{total}
+use Rattle.payouts.specs.Window.{weights_sum}
 
 first-split : (paid_out all : ℕ) (account : List ℕ) (accounts : List (List ℕ)) (weight : ℕ) (weights : List ℕ)
     → payments_by paid_out all (account ∷ accounts) (weight ∷ weights)
@@ -60,11 +60,11 @@ spread : (d all sum amount weight rest : ℕ) → sum * all + d * (weight + rest
 spread d all sum amount weight rest before within = omega (arith, before, within)
 
 pub bounded-more : (paid_out all sum amount weight place : ℕ) (weights : List ℕ) → place < length weights → weight ≡ get_or weights place 0
-    → sum * all + paid_out * total (drop place weights) ≤ paid_out * all → amount * all ≤ paid_out * weight
-    → (sum + amount) * all + paid_out * total (drop (place + 1) weights) ≤ paid_out * all
+    → sum * all + paid_out * weights_sum (drop place weights) ≤ paid_out * all → amount * all ≤ paid_out * weight
+    → (sum + amount) * all + paid_out * weights_sum (drop (place + 1) weights) ≤ paid_out * all
 bounded-more paid_out all sum amount weight place weights within read before one =
-    spread paid_out all sum amount weight (total (drop (place + 1) weights))
-    (subst (λ n. sum * all + paid_out * n ≤ paid_out * all) (ap total (dropped weights place weight within read) ∙ sum_by-cons (λ (m : ℕ). m) weight (drop (place + 1) weights)) before)
+    spread paid_out all sum amount weight (weights_sum (drop (place + 1) weights))
+    (subst (λ n. sum * all + paid_out * n ≤ paid_out * all) (ap weights_sum (dropped weights place weight within read) ∙ sum_by-cons (λ (m : ℕ). m) weight (drop (place + 1) weights)) before)
     one
 
 pub at_most : (paid_out all sum rest : ℕ) → 1 ≤ all → sum * all + rest ≤ paid_out * all → sum ≤ paid_out

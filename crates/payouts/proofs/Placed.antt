@@ -9,7 +9,7 @@ use Rattle.payout_laws.proofs.Sums.{sum_by-kept}
 use Rattle.pool_history.specs.Accounts.{are_distinct}
 use Rattle.pool_history.specs.Settling.{Part, weight, with_account}
 use Rattle.payouts.specs.declared.window.Kept.{Kept}
-use Rattle.payouts.specs.Tallies.{place_of, placed, with_weight}
+use Rattle.payouts.specs.Tallies.{account_place, placed, with_weight}
 use Rattle.payouts.specs.Window.{added, weights_of}
 use Rattle.payouts.proofs.Added.{added-none, weights_of-push}
 
@@ -18,11 +18,11 @@ place-later : (t : Bool) (n : ℕ) → t ≡ false → cond (not t) (1 + n) 0 �
 place-later false n e = omega arith
 place-later true n e = cc
 
-pub place-first : (b a : List ℕ) (accounts : List (List ℕ)) → bytes_eq b a ≡ true → place_of (a ∷ accounts) b ≡ 0
-place-first b a accounts e = ap (λ t. cond (not t) (1 + place_of accounts b) 0) e
+pub place-first : (b a : List ℕ) (accounts : List (List ℕ)) → bytes_eq b a ≡ true → account_place (a ∷ accounts) b ≡ 0
+place-first b a accounts e = ap (λ t. cond (not t) (1 + account_place accounts b) 0) e
 
-pub place-next : (b a : List ℕ) (accounts : List (List ℕ)) → bytes_eq b a ≡ false → place_of (a ∷ accounts) b ≡ suc (place_of accounts b)
-place-next b a accounts e = place-later (bytes_eq b a) (place_of accounts b) e
+pub place-next : (b a : List ℕ) (accounts : List (List ℕ)) → bytes_eq b a ≡ false → account_place (a ∷ accounts) b ≡ suc (account_place accounts b)
+place-next b a accounts e = place-later (bytes_eq b a) (account_place accounts b) e
 
 -- numbers by accounts, one of which grows
 map-absent : (f : List ℕ → ℕ) (b : List ℕ) (p : ℕ) (accounts : List (List ℕ)) → list_any (bytes_eq b) accounts ≡ false
@@ -37,15 +37,15 @@ map-absent f b p (a ∷ accounts) none =
     same true e = cc
 
 pub added-map : (f : List ℕ → ℕ) (b : List ℕ) (p : ℕ) (accounts : List (List ℕ)) → are_distinct accounts ≡ true → list_any (bytes_eq b) accounts ≡ true
-    → added (map f accounts) (place_of accounts b) p ≡ map (λ a. f a + cond (bytes_eq b a) p 0) accounts
+    → added (map f accounts) (account_place accounts b) p ≡ map (λ a. f a + cond (bytes_eq b a) p 0) accounts
 added-map f b p [] distinct there = absurd (false≢true there)
 added-map f b p (a ∷ accounts) distinct there = by_test (bytes_eq b a) refl (added-map f b p accounts apart.1) where
   apart : (not (list_any (bytes_eq a) accounts) ≡ true) × (are_distinct accounts ≡ true)
   apart = and_parts (not (list_any (bytes_eq a) accounts)) (are_distinct accounts) distinct
 
   by_test : (t : Bool) → bytes_eq b a ≡ t
-      → (list_any (bytes_eq b) accounts ≡ true → added (map f accounts) (place_of accounts b) p ≡ map (λ a. f a + cond (bytes_eq b a) p 0) accounts)
-      → added (map f (a ∷ accounts)) (place_of (a ∷ accounts) b) p ≡ map (λ a. f a + cond (bytes_eq b a) p 0) (a ∷ accounts)
+      → (list_any (bytes_eq b) accounts ≡ true → added (map f accounts) (account_place accounts b) p ≡ map (λ a. f a + cond (bytes_eq b a) p 0) accounts)
+      → added (map f (a ∷ accounts)) (account_place (a ∷ accounts) b) p ≡ map (λ a. f a + cond (bytes_eq b a) p 0) (a ∷ accounts)
   by_test true e more =
       let same : b ≡ a = (bytes_eq-Decides b a).0 e in
       let none : list_any (bytes_eq b) accounts ≡ false = ap (λ c. list_any (bytes_eq c) accounts) same ∙ not-true (list_any (bytes_eq a) accounts) apart.0 in
@@ -64,28 +64,28 @@ added-map f b p (a ∷ accounts) distinct there = by_test (bytes_eq b a) refl (a
       later true e is = cc
 
 -- places stay while accounts are put behind them
-pub place-end : (a : List ℕ) (accounts : List (List ℕ)) → place_of (accounts ++ a ∷ []) a ≡ place_of accounts a
+pub place-end : (a : List ℕ) (accounts : List (List ℕ)) → account_place (accounts ++ a ∷ []) a ≡ account_place accounts a
 place-end a [] = ap (λ t. cond (not t) 1 0) (bytes_eq-self a)
 place-end a (x ∷ accounts) = ap (λ n. cond (not (bytes_eq a x)) (1 + n) 0) (place-end a accounts)
 
-place-before : (a b : List ℕ) (accounts : List (List ℕ)) → IsAmong accounts b → place_of (accounts ++ a ∷ []) b ≡ place_of accounts b
+place-before : (a b : List ℕ) (accounts : List (List ℕ)) → IsAmong accounts b → account_place (accounts ++ a ∷ []) b ≡ account_place accounts b
 place-before a b [] there = absurd (false≢true there)
 place-before a b (x ∷ accounts) there = by_test (bytes_eq b x) refl there (place-before a b accounts) where
   by_test : (t : Bool) → bytes_eq b x ≡ t → (t || list_any (bytes_eq b) accounts) ≡ true
-      → (IsAmong accounts b → place_of (accounts ++ a ∷ []) b ≡ place_of accounts b) → place_of (x ∷ accounts ++ a ∷ []) b ≡ place_of (x ∷ accounts) b
+      → (IsAmong accounts b → account_place (accounts ++ a ∷ []) b ≡ account_place accounts b) → account_place (x ∷ accounts ++ a ∷ []) b ≡ account_place (x ∷ accounts) b
   by_test true e is more = place-first b x (accounts ++ a ∷ []) e ∙ sym (place-first b x accounts e)
   by_test false e is more =
       place-next b x (accounts ++ a ∷ []) e ∙ ap (λ n. suc n) (more is) ∙ sym (place-next b x accounts e)
 
-pub place-with_account : (a : List ℕ) (accounts : List (List ℕ)) → place_of (with_account a accounts) a ≡ place_of accounts a
+pub place-with_account : (a : List ℕ) (accounts : List (List ℕ)) → account_place (with_account a accounts) a ≡ account_place accounts a
 place-with_account a accounts = by_test (list_any (bytes_eq a) accounts) where
-  by_test : (t : Bool) → place_of (cond t accounts (accounts ++ a ∷ [])) a ≡ place_of accounts a
+  by_test : (t : Bool) → account_place (cond t accounts (accounts ++ a ∷ [])) a ≡ account_place accounts a
   by_test true = refl
   by_test false = place-end a accounts
 
-pub place-stays : (a b : List ℕ) (accounts : List (List ℕ)) → IsAmong accounts b → place_of (with_account a accounts) b ≡ place_of accounts b
+pub place-stays : (a b : List ℕ) (accounts : List (List ℕ)) → IsAmong accounts b → account_place (with_account a accounts) b ≡ account_place accounts b
 place-stays a b accounts there = by_test (list_any (bytes_eq a) accounts) where
-  by_test : (t : Bool) → place_of (cond t accounts (accounts ++ a ∷ [])) b ≡ place_of accounts b
+  by_test : (t : Bool) → account_place (cond t accounts (accounts ++ a ∷ [])) b ≡ account_place accounts b
   by_test true = refl
   by_test false = place-before a b accounts there
 
@@ -126,19 +126,19 @@ pub weights-placed : (accounts : List (List ℕ)) (parts : List Part) → are_di
     → weights_of (length accounts) (placed accounts parts) ≡ map (λ a. weight a parts) accounts
 weights-placed accounts [] distinct among = none-weighs accounts
 weights-placed accounts (part ∷ parts) distinct among = by_test (nat_lt 0 part.weight) refl (weights-placed accounts parts distinct among.1) where
-  rest : added (map (λ a. weight a parts) accounts) (place_of accounts part.account) part.weight ≡ map (λ a. weight a (part ∷ parts)) accounts
+  rest : added (map (λ a. weight a parts) accounts) (account_place accounts part.account) part.weight ≡ map (λ a. weight a (part ∷ parts)) accounts
   rest = added-map (λ a. weight a parts) part.account part.weight accounts distinct among.0
       ∙ map-same (λ a. weight a parts + cond (bytes_eq part.account a) part.weight 0) (λ a. weight a (part ∷ parts)) accounts (λ a. sym (weight-more a part parts))
 
   by_test : (t : Bool) → nat_lt 0 part.weight ≡ t → weights_of (length accounts) (placed accounts parts) ≡ map (λ a. weight a parts) accounts
-      → weights_of (length accounts) (cond t (record { place = place_of accounts part.account; part = part.weight } ∷ placed accounts parts) (placed accounts parts))
+      → weights_of (length accounts) (cond t (record { place = account_place accounts part.account; part = part.weight } ∷ placed accounts parts) (placed accounts parts))
       ≡ map (λ a. weight a (part ∷ parts)) accounts
-  by_test true e more = ap (λ ns. added ns (place_of accounts part.account) part.weight) more ∙ rest
+  by_test true e more = ap (λ ns. added ns (account_place accounts part.account) part.weight) more ∙ rest
   by_test false e more =
       let zero : part.weight ≡ 0 = omega (arith, ltb-false 0 part.weight e) in
       more
-      ∙ sym (added-none (map (λ a. weight a parts) accounts) (place_of accounts part.account))
-      ∙ ap (λ n. added (map (λ a. weight a parts) accounts) (place_of accounts part.account) n) (sym zero) ∙ rest
+      ∙ sym (added-none (map (λ a. weight a parts) accounts) (account_place accounts part.account))
+      ∙ ap (λ n. added (map (λ a. weight a parts) accounts) (account_place accounts part.account) n) (sym zero) ∙ rest
 
 -- from the last to the first they are the same
 pub weights_of-reverse : (n : ℕ) (all : List Kept) → weights_of n (reverse all) ≡ weights_of n all
@@ -147,17 +147,17 @@ weights_of-reverse n (k ∷ newer) =
     ap (weights_of n) (reverse-append (k ∷ []) newer) ∙ weights_of-push n (reverse newer) k ∙ ap (λ ns. added ns k.place k.part) (weights_of-reverse n newer)
 
 -- a place is among the accounts, or behind them
-pub place-most : (a : List ℕ) (accounts : List (List ℕ)) → place_of accounts a ≤ length accounts
+pub place-most : (a : List ℕ) (accounts : List (List ℕ)) → account_place accounts a ≤ length accounts
 place-most a [] = omega arith
 place-most a (x ∷ accounts) = by_test (bytes_eq a x) refl (place-most a accounts) where
-  by_test : (t : Bool) → bytes_eq a x ≡ t → place_of accounts a ≤ length accounts → place_of (x ∷ accounts) a ≤ suc (length accounts)
+  by_test : (t : Bool) → bytes_eq a x ≡ t → account_place accounts a ≤ length accounts → account_place (x ∷ accounts) a ≤ suc (length accounts)
   by_test true e more = subst (λ n. n ≤ suc (length accounts)) (sym (place-first a x accounts e)) (omega arith)
   by_test false e more = subst (λ n. n ≤ suc (length accounts)) (sym (place-next a x accounts e)) (omega (arith, more))
 
-pub place-within : (a : List ℕ) (accounts : List (List ℕ)) → IsAmong accounts a → place_of accounts a < length accounts
+pub place-within : (a : List ℕ) (accounts : List (List ℕ)) → IsAmong accounts a → account_place accounts a < length accounts
 place-within a [] there = absurd (false≢true there)
 place-within a (x ∷ accounts) there = by_test (bytes_eq a x) refl there (place-within a accounts) where
-  by_test : (t : Bool) → bytes_eq a x ≡ t → (t || list_any (bytes_eq a) accounts) ≡ true → (IsAmong accounts a → place_of accounts a < length accounts)
-      → place_of (x ∷ accounts) a < suc (length accounts)
+  by_test : (t : Bool) → bytes_eq a x ≡ t → (t || list_any (bytes_eq a) accounts) ≡ true → (IsAmong accounts a → account_place accounts a < length accounts)
+      → account_place (x ∷ accounts) a < suc (length accounts)
   by_test true e is more = subst (λ n. n < suc (length accounts)) (sym (place-first a x accounts e)) (omega arith)
   by_test false e is more = subst (λ n. n < suc (length accounts)) (sym (place-next a x accounts e)) (omega (arith, more is))

@@ -5,8 +5,8 @@ use Rattle.std.proofs.lemmas.List.Sums.{sum_by-cons}
 use Rattle.payout_laws.proofs.Sums.{all-append, all-weaker}
 use Rattle.pool_history.specs.Settling.{with_account}
 use Rattle.payouts.specs.declared.window.Kept.{Kept}
-use Rattle.payouts.specs.Tallies.{KeepsCredits, place_of, with_weight}
-use Rattle.payouts.specs.Window.{IsKept, IsWindow, added, total, weights_of}
+use Rattle.payouts.specs.Tallies.{KeepsCredits, account_place, with_weight}
+use Rattle.payouts.specs.Window.{IsKeptCredit, IsCreditWindow, added, weights_sum, weights_of}
 use Rattle.payouts.proofs.Added.{length-weights_of}
 use Rattle.payouts.proofs.Placed.{place-most, place-within}
 
@@ -24,13 +24,13 @@ replicate-more : (n : ℕ) → replicate {A = ℕ} (suc n) 0 ≡ replicate {A = 
 replicate-more zero = refl
 replicate-more (suc n) = ap (λ ms. 0 ∷ ms) (replicate-more n)
 
-pub weights_of-more : (n : ℕ) (kept : List Kept) → AllByRecursion (IsKept n) kept → weights_of (suc n) kept ≡ weights_of n kept ++ 0 ∷ []
+pub weights_of-more : (n : ℕ) (kept : List Kept) → AllByRecursion (IsKeptCredit n) kept → weights_of (suc n) kept ≡ weights_of n kept ++ 0 ∷ []
 weights_of-more n [] each = replicate-more n
 weights_of-more n (k ∷ newer) each =
     ap (λ ns. added ns k.place k.part) (weights_of-more n newer each.1)
     ∙ added-more (weights_of n newer) k.place k.part (subst (λ m. k.place < m) (sym (length-weights_of n newer)) each.0.known)
 
-pub total-more : (ns : List ℕ) → total (ns ++ 0 ∷ []) ≡ total ns
+pub total-more : (ns : List ℕ) → weights_sum (ns ++ 0 ∷ []) ≡ weights_sum ns
 total-more [] = refl
 total-more (n ∷ ns) = omega (arith, sum_by-cons (λ (m : ℕ). m) n (ns ++ 0 ∷ []), sum_by-cons (λ (m : ℕ). m) n ns, total-more ns)
 
@@ -38,17 +38,17 @@ length-more : (ns : List ℕ) → length (ns ++ 0 ∷ []) ≡ suc (length ns)
 length-more [] = refl
 length-more (n ∷ ns) = ap (λ m. suc m) (length-more ns)
 
-pub window-more : (kept : List Kept) (weights : List ℕ) → IsWindow kept weights → IsWindow kept (weights ++ 0 ∷ [])
+pub window-more : (kept : List Kept) (weights : List ℕ) → IsCreditWindow kept weights → IsCreditWindow kept (weights ++ 0 ∷ [])
 window-more kept weights is = record {
-  each = subst (λ n. AllByRecursion (IsKept n) kept) (sym (length-more weights)) (all-weaker (IsKept (length weights)) (IsKept (suc (length weights))) kept (λ k one. record { known = wider k one; some = one.some }) is.each);
+  each = subst (λ n. AllByRecursion (IsKeptCredit n) kept) (sym (length-more weights)) (all-weaker (IsKeptCredit (length weights)) (IsKeptCredit (suc (length weights))) kept (λ k one. record { known = wider k one; some = one.some }) is.each);
   weighed = subst (λ n. weights ++ 0 ∷ [] ≡ weights_of n kept) (sym (length-more weights)) (ap (λ ns. ns ++ 0 ∷ []) is.weighed ∙ sym (weights_of-more (length weights) kept is.each));
 } where
-  wider : (k : Kept) → IsKept (length weights) k → k.place < suc (length weights)
+  wider : (k : Kept) → IsKeptCredit (length weights) k → k.place < suc (length weights)
   wider k one = omega (arith, one.known)
 
-pub total-with_weight : (account : List ℕ) (accounts : List (List ℕ)) (weights : List ℕ) → total (with_weight account accounts weights) ≡ total weights
+pub total-with_weight : (account : List ℕ) (accounts : List (List ℕ)) (weights : List ℕ) → weights_sum (with_weight account accounts weights) ≡ weights_sum weights
 total-with_weight account accounts weights = by_test (list_any (bytes_eq account) accounts) where
-  by_test : (t : Bool) → total (cond t weights (weights ++ 0 ∷ [])) ≡ total weights
+  by_test : (t : Bool) → weights_sum (cond t weights (weights ++ 0 ∷ [])) ≡ weights_sum weights
   by_test true = refl
   by_test false = total-more weights
 
@@ -77,12 +77,12 @@ short-with_account account accounts one all = by_test (list_any (bytes_eq accoun
   by_test false = all-append (λ (a : List ℕ). length a ≤ 255) accounts (account ∷ []) all (one, tt)
 
 -- a window with the credit that enters it
-pub each-push : (account : List ℕ) (work : ℕ) (accounts : List (List ℕ)) (weights : List ℕ) (kept : List Kept) → 1 ≤ work → length weights ≡ length accounts → IsWindow kept weights
-    → AllByRecursion (IsKept (length (with_weight account accounts weights))) (kept ++ record { place = place_of accounts account; part = work } ∷ [])
+pub each-push : (account : List ℕ) (work : ℕ) (accounts : List (List ℕ)) (weights : List ℕ) (kept : List Kept) → 1 ≤ work → length weights ≡ length accounts → IsCreditWindow kept weights
+    → AllByRecursion (IsKeptCredit (length (with_weight account accounts weights))) (kept ++ record { place = account_place accounts account; part = work } ∷ [])
 each-push account work accounts weights kept some long is = by_test (list_any (bytes_eq account) accounts) refl where
   by_test : (t : Bool) → list_any (bytes_eq account) accounts ≡ t
-      → AllByRecursion (IsKept (length (cond t weights (weights ++ 0 ∷ [])))) (kept ++ record { place = place_of accounts account; part = work } ∷ [])
-  by_test true e = all-append (IsKept (length weights)) kept (record { place = place_of accounts account; part = work } ∷ []) is.each
-      (record { known = subst (λ n. place_of accounts account < n) (sym long) (place-within account accounts e); some = some }, tt)
-  by_test false e = all-append (IsKept (length (weights ++ 0 ∷ []))) kept (record { place = place_of accounts account; part = work } ∷ []) (window-more kept weights is).each
+      → AllByRecursion (IsKeptCredit (length (cond t weights (weights ++ 0 ∷ [])))) (kept ++ record { place = account_place accounts account; part = work } ∷ [])
+  by_test true e = all-append (IsKeptCredit (length weights)) kept (record { place = account_place accounts account; part = work } ∷ []) is.each
+      (record { known = subst (λ n. account_place accounts account < n) (sym long) (place-within account accounts e); some = some }, tt)
+  by_test false e = all-append (IsKeptCredit (length (weights ++ 0 ∷ []))) kept (record { place = account_place accounts account; part = work } ∷ []) (window-more kept weights is).each
       (record { known = omega (arith, place-most account accounts, length-more weights, long); some = some }, tt)

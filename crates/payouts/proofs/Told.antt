@@ -13,8 +13,8 @@ use Rattle.payouts.specs.declared.window.Kept.{Kept}
 use Rattle.payout_laws.specs.Conservation.{IsConserved}
 use Rattle.payouts.specs.Plans.{IsSettledPush}
 use Rattle.payouts.specs.Settlements.{EndsRound, IsSettlement, SettlesBlock, as_block, payments_by, settled_by, weights_behind}
-use Rattle.payouts.specs.Tallies.{AddsCredit, DiffersInRoom, IsPushed, Remembers, RemembersPush, RemembersWeights, Weighing, place_of, placed, with_weight}
-use Rattle.payouts.specs.Window.{IsKept, IsWindow, added, total, weights_of, without_oldest}
+use Rattle.payouts.specs.Tallies.{AddsCredit, DiffersInRoom, IsPushed, Remembers, RemembersPush, RemembersWeights, Weighing, account_place, placed, with_weight}
+use Rattle.payouts.specs.Window.{IsKeptCredit, IsCreditWindow, added, weights_sum, weights_of, without_oldest}
 use Rattle.payouts.proofs.Added.{length-weights_of, total-added, total-none}
 use Rattle.payouts.proofs.Fitted.{cut-fits, fitted, fitted-left, last_work-left, left_of, parts_sum, parts_sum-append}
 use Rattle.payouts.proofs.Placed.{added-map, map-same, map-with_account, place-with_account, none-weighs, placed-stays, weight-more, weights-placed, weights_of-reverse}
@@ -24,7 +24,7 @@ use Rattle.payouts.proofs.Tallied.{each-push, total-with_weight}
 pub told_share : (account : List ℕ) (work : ℕ) (accounts : List (List ℕ)) (weights weights' : List ℕ) (parts : List Part)
     → are_distinct (with_account account accounts) ≡ true → PartsAmong accounts parts
     → weights ≡ map (λ a. weight a parts) accounts
-    → weights' ≡ added (with_weight account accounts weights) (place_of accounts account) work
+    → weights' ≡ added (with_weight account accounts weights) (account_place accounts account) work
     → weights' ≡ map (λ a. weight a (record { account = account; weight = work } ∷ parts)) (with_account account accounts)
 told_share account work accounts weights weights' parts distinct among was is =
     is ∙ ap₂ (λ ns i. added ns i work) opened (sym (place-with_account account accounts))
@@ -37,21 +37,21 @@ told_share account work accounts weights weights' parts distinct among was is =
         ∙ map-with_account (λ a. weight a parts) account accounts (λ new. weight-none account accounts parts among new)
 
 -- the sum of the weights is that of the credits' parts
-total-window : (n : ℕ) (kept : List Kept) → AllByRecursion (IsKept n) kept → total (weights_of n kept) ≡ parts_sum kept
+total-window : (n : ℕ) (kept : List Kept) → AllByRecursion (IsKeptCredit n) kept → weights_sum (weights_of n kept) ≡ parts_sum kept
 total-window n [] each = total-none n
 total-window n (k ∷ newer) each =
     total-added (weights_of n newer) k.place k.part (subst (λ m. k.place < m) (sym (length-weights_of n newer)) each.0.known)
     ∙ turned (total-window n newer each.1)
   where
-    turned : total (weights_of n newer) ≡ parts_sum newer → total (weights_of n newer) + k.part ≡ k.part + parts_sum newer
+    turned : weights_sum (weights_of n newer) ≡ parts_sum newer → weights_sum (weights_of n newer) + k.part ≡ k.part + parts_sum newer
     turned e = omega (arith, e)
 
-pub total-parts : (kept : List Kept) (weights : List ℕ) → IsWindow kept weights → total weights ≡ parts_sum kept
-total-parts kept weights is = ap total is.weighed ∙ total-window (length weights) kept is.each
+pub total-parts : (kept : List Kept) (weights : List ℕ) → IsCreditWindow kept weights → weights_sum weights ≡ parts_sum kept
+total-parts kept weights is = ap weights_sum is.weighed ∙ total-window (length weights) kept is.each
 
 -- the last credits that fit, with one more
 fitted-push : (window work : ℕ) (accounts : List (List ℕ)) (account : List ℕ) (credits : List Booked) → 1 ≤ work
-    → fitted window (record { place = place_of accounts account; part = work } ∷ placed accounts (left_of window credits))
+    → fitted window (record { place = account_place accounts account; part = work } ∷ placed accounts (left_of window credits))
     ≡ placed accounts (record { account = account; weight = min work window } ∷ left_of (window - work) credits)
 fitted-push window work accounts account credits some = by_tests (nat_lt 0 window) (nat_lt 0 (min work window)) refl refl where
   rest : fitted (window - work) (placed accounts (left_of window credits)) ≡ placed accounts (left_of (window - work) credits)
@@ -60,9 +60,9 @@ fitted-push window work accounts account credits some = by_tests (nat_lt 0 windo
     below = omega arith
 
   by_tests : (t u : Bool) → nat_lt 0 window ≡ t → nat_lt 0 (min work window) ≡ u
-      → ◌≡◌ {A = List Kept} (cond t (record { place = place_of accounts account; part = min work window } ∷ fitted (window - work) (placed accounts (left_of window credits))) [])
-      (cond u (record { place = place_of accounts account; part = min work window } ∷ placed accounts (left_of (window - work) credits)) (placed accounts (left_of (window - work) credits)))
-  by_tests true true e f = ap (λ xs. record { place = place_of accounts account; part = min work window } ∷ xs) rest
+      → ◌≡◌ {A = List Kept} (cond t (record { place = account_place accounts account; part = min work window } ∷ fitted (window - work) (placed accounts (left_of window credits))) [])
+      (cond u (record { place = account_place accounts account; part = min work window } ∷ placed accounts (left_of (window - work) credits)) (placed accounts (left_of (window - work) credits)))
+  by_tests true true e f = ap (λ xs. record { place = account_place accounts account; part = min work window } ∷ xs) rest
   by_tests true false e f = absurd (filled (ltb-true 0 window e) (ltb-false 0 (min work window) f)) where
     filled : 0 < window → min work window ≤ 0 → ⊥
     filled a b = omega (arith, a, b, some)
@@ -84,24 +84,24 @@ fitted-push window work accounts account credits some = by_tests (nat_lt 0 windo
 
 -- PPLNS: the credit enters the window
 pub told_window : (window work : ℕ) (account : List ℕ) (accounts : List (List ℕ)) (weights : List ℕ) (kept kept' : List Kept) (credits : List Booked) → 1 ≤ work
-    → AreAmong accounts credits → IsWindow kept weights → reverse kept ≡ placed accounts (last_work window 0 credits)
-    → AllByRecursion (IsKept (length (with_weight account accounts weights))) (kept ++ record { place = place_of accounts account; part = work } ∷ [])
-    → kept' ≡ without_oldest (total (with_weight account accounts weights) + work - window) (kept ++ record { place = place_of accounts account; part = work } ∷ [])
+    → AreAmong accounts credits → IsCreditWindow kept weights → reverse kept ≡ placed accounts (last_work window 0 credits)
+    → AllByRecursion (IsKeptCredit (length (with_weight account accounts weights))) (kept ++ record { place = account_place accounts account; part = work } ∷ [])
+    → kept' ≡ without_oldest (weights_sum (with_weight account accounts weights) + work - window) (kept ++ record { place = account_place accounts account; part = work } ∷ [])
     → reverse kept' ≡ placed (with_account account accounts) (last_work window 0 (record { account = account; work = work; reward = None } ∷ credits))
 told_window window work account accounts weights kept kept' credits some among is was each pushed =
     ap reverse (pushed ∙ ap (λ n. without_oldest (n - window) (kept ++ k ∷ [])) sums)
     ∙ cut-fits (length (with_weight account accounts weights)) window (kept ++ k ∷ []) each
     ∙ ap (fitted window) (reverse-append kept (k ∷ []) ∙ ap (λ xs. k ∷ xs) (was ∙ ap (placed accounts) lefts))
     ∙ ap (λ i. fitted window (record { place = i; part = work } ∷ placed accounts (left_of window credits))) (sym (place-with_account account accounts))
-    ∙ ap (λ xs. fitted window (record { place = place_of (with_account account accounts) account; part = work } ∷ xs)) (sym (placed-stays account accounts (left_of window credits) parts_among))
+    ∙ ap (λ xs. fitted window (record { place = account_place (with_account account accounts) account; part = work } ∷ xs)) (sym (placed-stays account accounts (left_of window credits) parts_among))
     ∙ fitted-push window work (with_account account accounts) account credits some
     ∙ ap (placed (with_account account accounts)) (sym (last_work-left window 0 (record { account = account; work = work; reward = None } ∷ credits) ∙ whole))
   where
     k : Kept
-    k = record { place = place_of accounts account; part = work }
+    k = record { place = account_place accounts account; part = work }
 
-    sums : total (with_weight account accounts weights) + work ≡ parts_sum (kept ++ record { place = place_of accounts account; part = work } ∷ [])
-    sums = omega (arith, total-with_weight account accounts weights, total-parts kept weights is, parts_sum-append kept (record { place = place_of accounts account; part = work } ∷ []))
+    sums : weights_sum (with_weight account accounts weights) + work ≡ parts_sum (kept ++ record { place = account_place accounts account; part = work } ∷ [])
+    sums = omega (arith, total-with_weight account accounts weights, total-parts kept weights is, parts_sum-append kept (record { place = account_place accounts account; part = work } ∷ []))
 
     none : window - 0 ≡ window
     none = omega arith
@@ -120,7 +120,7 @@ told_weights : (window : Option ℕ) (old new : Weighing) (account : List ℕ) (
     → length old.weights ≡ length old.accounts → new.accounts ≡ with_account account old.accounts
     → are_distinct old.accounts ≡ true → AreAmong old.accounts credits
     → RemembersWeights old window credits
-    → AddsCredit window old.kept (with_weight account old.accounts old.weights) (record { place = place_of old.accounts account; part = work }) new.kept new.weights
+    → AddsCredit window old.kept (with_weight account old.accounts old.weights) (record { place = account_place old.accounts account; part = work }) new.kept new.weights
     → RemembersWeights new window (record { account = account; work = work; reward = None } ∷ credits)
 told_weights None old new account work credits some long is distinct among was adds =
     told_share account work old.accounts old.weights new.weights (since_block credits) (distinct-with_account account old.accounts distinct) (since_block-among old.accounts credits among) was adds
@@ -200,7 +200,7 @@ payments-same paid_out all parts (account ∷ accounts) same =
     ap₂ (λ n rest. cond (nat_lt 0 (weight account parts)) (record { account = account; weight = weight account parts; amount = paid_out * weight account parts / n } ∷ rest) rest)
     same (payments-same paid_out all parts accounts same)
 
-total-map : (parts : List Part) (accounts : List (List ℕ)) → are_distinct accounts ≡ true → PartsAmong accounts parts → total (map (λ a. weight a parts) accounts) ≡ all_weights parts
+total-map : (parts : List Part) (accounts : List (List ℕ)) → are_distinct accounts ≡ true → PartsAmong accounts parts → weights_sum (map (λ a. weight a parts) accounts) ≡ all_weights parts
 total-map parts accounts distinct among =
     sum_by-map (λ (n : ℕ). n) (λ a. weight a parts) accounts
     ∙ sum_by-accounts (λ (part : Part). part.account) (λ (part : Part). part.weight) accounts parts distinct among
@@ -209,7 +209,7 @@ settled-same : (tally : Weighing) (reward basis_points : ℕ) (credit : Booked) 
     → settled_by tally reward basis_points ≡ settlement tally.window basis_points reward (as_block reward credit ∷ older)
 settled-same tally reward basis_points credit older was none =
     ap (λ payments. settled_with reward (fee_of reward basis_points) payments)
-    (ap₂ (λ n weights. payments_by (reward - fee_of reward basis_points) n tally.accounts weights) (ap total weights ∙ total-map parts tally.accounts distinct among) weights
+    (ap₂ (λ n weights. payments_by (reward - fee_of reward basis_points) n tally.accounts weights) (ap weights_sum weights ∙ total-map parts tally.accounts distinct among) weights
     ∙ payments-same (reward - fee_of reward basis_points) (all_weights parts) parts tally.accounts refl
     ∙ ap₂ (λ ps accounts. payments_of (reward - fee_of reward basis_points) ps accounts) (block_parts tally.window reward credit older none) was.accounts_are)
   where
@@ -235,27 +235,27 @@ told_round : (window : Option ℕ) (old new : Weighing) (reward : ℕ) (credit :
 told_round None old new reward credit older long accounts weights kept was =
     weights ∙ zeros 0 old.weights old.accounts long ∙ ap (map (λ a. weight a [])) (sym accounts)
 told_round (Some window) old new reward credit older long accounts weights kept was = (
-  subst (λ ns. IsWindow new.kept ns) (sym weights) (subst (λ ks. IsWindow ks old.weights) (sym kept) was.0),
+  subst (λ ns. IsCreditWindow new.kept ns) (sym weights) (subst (λ ks. IsCreditWindow ks old.weights) (sym kept) was.0),
   ap reverse kept ∙ was.1 ∙ ap (λ accounts. placed accounts (last_work window 0 (credit ∷ older))) (sym accounts),
 )
 
 -- the sum of the weights is that of the block's parts
 total-block : (tally : Weighing) (reward : ℕ) (credit : Booked) (older : List Booked) → Remembers tally (credit ∷ older) → credit.reward ≡ None
-    → total tally.weights ≡ all_weights (parts_in_block tally.window (as_block reward credit ∷ older))
+    → weights_sum tally.weights ≡ all_weights (parts_in_block tally.window (as_block reward credit ∷ older))
 total-block tally reward credit older was none =
-    ap total (told_by_parts tally (credit ∷ older) was)
+    ap weights_sum (told_by_parts tally (credit ∷ older) was)
     ∙ total-map (parts_behind tally.window (credit ∷ older)) tally.accounts (distinct-told tally (credit ∷ older) was)
     (parts_behind-among tally.window tally.accounts (credit ∷ older) (among-told tally (credit ∷ older) was))
     ∙ ap all_weights (block_parts tally.window reward credit older none)
 
-block-conserved : (tally : Weighing) (reward basis_points : ℕ) (settled : Settled) (credit : Booked) (older : List Booked) → basis_points ≤ 10000 → 1 ≤ total tally.weights
+block-conserved : (tally : Weighing) (reward basis_points : ℕ) (settled : Settled) (credit : Booked) (older : List Booked) → basis_points ≤ 10000 → 1 ≤ weights_sum tally.weights
     → Remembers tally (credit ∷ older) → credit.reward ≡ None → settled ≡ settlement tally.window basis_points reward (as_block reward credit ∷ older)
     → IsConserved basis_points reward (parts_in_block tally.window (as_block reward credit ∷ older)) settled
 block-conserved tally reward basis_points settled credit older part some was none is =
     subst (IsConserved basis_points reward (parts_in_block tally.window (as_block reward credit ∷ older))) (sym is)
     (conserved tally.window basis_points reward (as_block reward credit ∷ older) part (omega (arith, some, total-block tally reward credit older was none)))
 
-pub told_settled : (old new : Weighing) (reward basis_points : ℕ) (settled : Settled) → basis_points ≤ 10000 → 1 ≤ total old.weights → settled ≡ settled_by old reward basis_points → EndsRound old new
+pub told_settled : (old new : Weighing) (reward basis_points : ℕ) (settled : Settled) → basis_points ≤ 10000 → 1 ≤ weights_sum old.weights → settled ≡ settled_by old reward basis_points → EndsRound old new
     → SettlesBlock old new reward basis_points settled
 told_settled old new reward basis_points settled part some is ends credit older was none = record {
   conserved = block-conserved old reward basis_points settled credit older part some was none (is ∙ settled-same old reward basis_points credit older was none);
@@ -274,7 +274,7 @@ told_settled old new reward basis_points settled part some is ends credit older 
   same_length (Some window) weights = refl
 
 -- a push that is settled at once
-pub told_settled_push : (old mid new : Weighing) (account : List ℕ) (work reward basis_points : ℕ) (settled : Settled) → 1 ≤ work → basis_points ≤ 10000 → 1 ≤ total mid.weights
+pub told_settled_push : (old mid new : Weighing) (account : List ℕ) (work reward basis_points : ℕ) (settled : Settled) → 1 ≤ work → basis_points ≤ 10000 → 1 ≤ weights_sum mid.weights
     → IsPushed old mid account work → settled ≡ settled_by mid reward basis_points → EndsRound mid new
     → (credits : List Booked) → Remembers old credits
     → IsSettledPush old.window new reward basis_points settled (record { account = account; work = work; reward = Some reward }) credits

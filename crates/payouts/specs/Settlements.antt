@@ -5,7 +5,7 @@ use Rattle.payout_laws.specs.Conservation.{IsConserved}
 use Rattle.pool_history.specs.Crediting.{Booked}
 use Rattle.pool_history.specs.Settling.{Payment, Settled, fee_of, parts_in_block, settled_with, settlement}
 use Rattle.payouts.specs.Tallies.{Remembers, Weighing}
-use Rattle.payouts.specs.Window.{total}
+use Rattle.payouts.specs.Window.{weights_sum}
 
 -- the payouts of accounts with these weights; an account without one isn't listed
 abbrev pub payments_by : ℕ → ℕ → List (List ℕ) → List ℕ → List Payment
@@ -21,7 +21,7 @@ payments_by paid_out all (account ∷ accounts) (weight ∷ weights) =
 abbrev pub settled_by : Weighing → ℕ → ℕ → Settled
 settled_by tally reward basis_points =
     settled_with reward (fee_of reward basis_points)
-    (payments_by (reward - fee_of reward basis_points) (total tally.weights) tally.accounts
+    (payments_by (reward - fee_of reward basis_points) (weights_sum tally.weights) tally.accounts
     tally.weights)
 
 -- what a block leaves of the weights: by the proportional rule nothing, by PPLNS all

@@ -8,11 +8,11 @@ use Rattle.pool_history.specs.Settling.{Part, accounts_of, last_work, since_bloc
 use Rattle.payouts.specs.declared.tally.Rule.{Rule}
 use Rattle.payouts.specs.declared.tally.Rule.TheVariants as rule
 use Rattle.payouts.specs.declared.window.Kept.{Kept}
-use Rattle.payouts.specs.Window.{IsWindow, added, total, without_oldest}
+use Rattle.payouts.specs.Window.{IsCreditWindow, added, weights_sum, without_oldest}
 
 -- the place of an account among others, or behind them
-abbrev pub place_of : List (List ℕ) → List ℕ → ℕ
-place_of accounts account = position_or_len (bytes_eq account) accounts
+abbrev pub account_place : List (List ℕ) → List ℕ → ℕ
+account_place accounts account = position_or_len (bytes_eq account) accounts
 
 -- the weights with one more, of 0, where the account is new
 abbrev pub with_weight : List ℕ → List (List ℕ) → List ℕ → List ℕ
@@ -38,7 +38,7 @@ abbrev pub placed : List (List ℕ) → List Part → List Kept
 placed accounts [] = []
 placed accounts (part ∷ parts) =
     if nat_lt 0 part.weight
-    then record { place = place_of accounts part.account; part = part.weight }
+    then record { place = account_place accounts part.account; part = part.weight }
     ∷ placed accounts parts else placed accounts parts
 
 -- the weights are those of the credits: by the proportional rule of those since the last block, by
@@ -47,7 +47,7 @@ abbrev pub RemembersWeights : Weighing → Option ℕ → List Booked → Type 0
 RemembersWeights tally None credits =
     tally.weights ≡ map (λ account. weight account (since_block credits)) tally.accounts
 RemembersWeights tally (Some window) credits =
-    IsWindow tally.kept tally.weights
+    IsCreditWindow tally.kept tally.weights
     × (reverse tally.kept ≡ placed tally.accounts (last_work window 0 credits))
 
 -- the last credit is no block yet
@@ -69,13 +69,13 @@ abbrev pub AddsCredit : Option ℕ → List Kept → List ℕ → Kept → List 
 AddsCredit None kept weights credit kept' weights' =
     weights' ≡ added weights credit.place credit.part
 AddsCredit (Some window) kept weights credit kept' weights' =
-    IsWindow kept' weights'
-    × (kept' ≡ without_oldest (total weights + credit.part - window) (kept ++ credit ∷ []))
+    IsCreditWindow kept' weights'
+    × (kept' ≡ without_oldest (weights_sum weights + credit.part - window) (kept ++ credit ∷ []))
 
 abbrev pub AddsWork : Weighing → Weighing → List ℕ → ℕ → Type 0
 AddsWork old new account work =
     AddsCredit old.window old.kept (with_weight account old.accounts old.weights)
-    (record { place = place_of old.accounts account; part = work }) new.kept new.weights
+    (record { place = account_place old.accounts account; part = work }) new.kept new.weights
 
 -- one push more
 pub record IsPushed (old new : Weighing) (account : List ℕ) (work : ℕ) : Type 0 where
@@ -94,8 +94,8 @@ window_of (rule.Pplns window) = Some window
 -- by the proportional rule no credit is kept, by PPLNS those in the window
 pub record IsFilled (window : ℕ) (kept : List Kept) (weights : List ℕ) : Type 0 where
   pub some : 1 ≤ window
-  pub weighed : IsWindow kept weights
-  pub within : total weights ≤ window
+  pub weighed : IsCreditWindow kept weights
+  pub within : weights_sum weights ≤ window
 
 abbrev pub KeepsCredits : Option ℕ → List Kept → List ℕ → Type 0
 KeepsCredits None kept weights = kept ≡ []
@@ -105,7 +105,7 @@ KeepsCredits (Some window) kept weights = IsFilled window kept weights
 pub record IsTallied (window : Option ℕ) (accounts : List (List ℕ)) (weights : List ℕ)
     (kept : List Kept) (sum pushes : ℕ) (unsettled : Bool) : Type 0 where
   pub same_length : length weights ≡ length accounts
-  pub summed : sum ≡ total weights
+  pub summed : sum ≡ weights_sum weights
   pub small : sum ≤ pushes * 2 ^ 60
   pub few : pushes < 2 ^ 24
   pub some : IsTrue unsettled → 1 ≤ sum

@@ -17,17 +17,17 @@ weights_of accounts [] = replicate accounts 0
 weights_of accounts (kept ∷ newer) = added (weights_of accounts newer) kept.place kept.part
 
 -- the sum of weights
-abbrev pub total : List ℕ → ℕ
-total weights = sum_by (λ weight. weight) weights
+abbrev pub weights_sum : List ℕ → ℕ
+weights_sum weights = sum_by (λ weight. weight) weights
 
 -- a credit of one of so many accounts, with some work left
-pub record IsKept (accounts : ℕ) (kept : Kept) : Type 0 where
+pub record IsKeptCredit (accounts : ℕ) (kept : Kept) : Type 0 where
   pub known : kept.place < accounts
   pub some : 1 ≤ kept.part
 
 -- the weights are those of the credits
-pub record IsWindow (all_kept : List Kept) (weights : List ℕ) : Type 0 where
-  pub each : AllByRecursion (IsKept (length weights)) all_kept
+pub record IsCreditWindow (all_kept : List Kept) (weights : List ℕ) : Type 0 where
+  pub each : AllByRecursion (IsKeptCredit (length weights)) all_kept
   pub weighed : weights ≡ weights_of (length weights) all_kept
 
 -- what is left of the credits, the oldest first, where so much work of the oldest goes

@@ -5,7 +5,7 @@ ghost use Rattle.std.specs.String.{string_bytes};
 ghost use Rattle.std.specs.Vec.{vec_len, vec_capacity};
 ghost use Rattle.indexmap.specs.IndexSet.{index_set_len, spare};
 ghost use Rattle.pool_history.specs.Settling.{with_account};
-ghost use Rattle.payouts.specs.Tallies.{place_of, with_weight};
+ghost use Rattle.payouts.specs.Tallies.{account_place, with_weight};
 
 use indexmap::IndexSet;
 
@@ -18,7 +18,8 @@ pub(crate) fn place_for(
     requires same { length names.old.keys ≡ length weights.old.items }
     requires room { 0 < spare names.old }
     requires weights_room { vec_len weights.old < vec_capacity weights.old }
-    ensures place { result ≡ place_of (map string_bytes names.old.keys) (string_bytes account) }
+    ensures place { result ≡ account_place (map string_bytes names.old.keys)
+        (string_bytes account) }
     ensures within { result < vec_len weights.new }
     ensures names { map string_bytes names.new.keys
         ≡ with_account (string_bytes account) (map string_bytes names.old.keys) }

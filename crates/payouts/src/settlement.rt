@@ -3,7 +3,7 @@
 ghost use Rattle.std.specs.Prelude.{◌≡◌, ◌+◌, ◌*◌, ◌<◌, ◌≤◌, ◌^◌, ◌/◌, [], ◌∷◌, ◌++◌, length, sum_by, IfOk};
 ghost use Rattle.std.specs.Vec.{vec_len, vec_capacity};
 ghost use Rattle.payouts.specs.Settlements.{payments_by};
-ghost use Rattle.payouts.specs.Window.{total};
+ghost use Rattle.payouts.specs.Window.{weights_sum};
 
 use crate::quotients::quotient;
 use std::alloc::{AllocError, Global};
@@ -164,7 +164,7 @@ pub(crate) fn pay(sheet: Sheet, weights: &[u128], all: u128, paid_out: u64) -> P
     requires amount { paid_out < 2 ^ 40 }
     requires some { 1 ≤ all }
     requires small { all < 2 ^ 84 }
-    requires summed { all ≡ total weights.now }
+    requires summed { all ≡ weights_sum weights.now }
     requires same { length sheet ≡ length weights.now }
     ensures paid { result.payouts.items ≡ payments_by paid_out all sheet weights.now }
     ensures sum { result.sum ≡ sum_by (λ payout. payout.amount) result.payouts.items }

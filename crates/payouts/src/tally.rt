@@ -10,7 +10,7 @@ ghost use Rattle.pool_history.specs.Settling.{with_account};
 ghost use Rattle.payouts.specs.Settlements.{EndsRound, SettlesBlock, settled_by, weights_behind};
 ghost use Rattle.payouts.specs.Plans.{Applies, Fits, IsPayable, IsPlanOf, IsRewarded};
 ghost use Rattle.payouts.specs.Tallies.{AddsCredit, DiffersInRoom, IsPushed, KeepsCredits, Remembers, RemembersPush, window_of};
-ghost use Rattle.payouts.specs.Window.{IsKept, total};
+ghost use Rattle.payouts.specs.Window.{IsKeptCredit, weights_sum};
 
 use crate::accounts::place_for;
 use crate::settlement::{Payouts, Settlement, Sheet, pay};
@@ -242,7 +242,7 @@ impl Tally {
         requires fee { basis_points ≤ 10000 }
         requires unsettled { IsTrue self.old.unsettled }
         requires accounts { sheet ≡ self.old.accounts }
-        ensures some { 1 ≤ total self.old.weights }
+        ensures some { 1 ≤ weights_sum self.old.weights }
         ensures settled { result ≡ settled_by self.old reward basis_points }
         ensures ends { EndsRound self.old self.new }
         ensures whole { sum_by (λ paid. paid.amount) result.payments + result.pool ≡ reward }
@@ -290,14 +290,14 @@ fn weigh(
     credit: Kept,
 ) -> u128
     requires keeps { KeepsCredits (window_of rule) kept.old.items weights.old.items }
-    requires known { IsKept (length weights.old.items) credit }
+    requires known { IsKeptCredit (length weights.old.items) credit }
     requires room { deque_len kept.old < deque_capacity kept.old }
-    requires summed { sum ≡ total weights.old.items }
+    requires summed { sum ≡ weights_sum weights.old.items }
     requires small { sum + credit.part < 2 ^ 128 }
     ensures adds { AddsCredit (window_of rule) kept.old.items weights.old.items credit
         kept.new.items weights.new.items }
     ensures keeps { KeepsCredits (window_of rule) kept.new.items weights.new.items }
-    ensures summed { result ≡ total weights.new.items }
+    ensures summed { result ≡ weights_sum weights.new.items }
     ensures grown { result ≤ sum + credit.part }
     ensures some { 1 ≤ result }
     ensures length { length weights.new.items ≡ length weights.old.items }
@@ -313,9 +313,9 @@ fn weigh(
 
 // What a block leaves of the weights; answers their sum.
 fn end_round(rule: Rule, weights: &mut Vec<u128>, sum: u128) -> u128
-    requires summed { sum ≡ total weights.old.items }
+    requires summed { sum ≡ weights_sum weights.old.items }
     ensures weights { weights.new.items ≡ weights_behind (window_of rule) weights.old.items }
-    ensures summed { result ≡ total weights.new.items }
+    ensures summed { result ≡ weights_sum weights.new.items }
     ensures within { result ≤ sum }
 {
     match rule {

@@ -3,7 +3,7 @@
 ghost use Rattle.std.specs.Prelude.{◌≡◌, ◌+◌, ◌-◌, ◌<◌, ◌≤◌, ◌^◌, [], ◌∷◌, ◌++◌, length};
 ghost use Rattle.std.specs.VecDeque.{deque_len, deque_capacity};
 ghost use Rattle.std.specs.Vec.{vec_len, vec_capacity};
-ghost use Rattle.payouts.specs.Window.{IsKept, IsWindow, added, without_oldest, total};
+ghost use Rattle.payouts.specs.Window.{IsKeptCredit, IsCreditWindow, added, without_oldest, weights_sum};
 
 use std::collections::VecDeque;
 
@@ -30,13 +30,14 @@ fn shortened(kept: Kept, cut: u128) -> Kept
 fn cut_oldest(kept: &mut VecDeque<Kept>, weights: &mut Vec<u128>, excess: u128) -> u128
     requires some { 0 < length kept.old.items }
     requires wanted { 0 < excess }
-    requires weighed { IsWindow kept.old.items weights.old.items }
-    requires enough { excess ≤ total weights.old.items }
+    requires weighed { IsCreditWindow kept.old.items weights.old.items }
+    requires enough { excess ≤ weights_sum weights.old.items }
     ensures kept { without_oldest result kept.new.items
         ≡ without_oldest excess kept.old.items }
-    ensures weighed { IsWindow kept.new.items weights.new.items }
-    ensures enough { result ≤ total weights.new.items }
-    ensures taken { total weights.new.items + excess ≡ total weights.old.items + result }
+    ensures weighed { IsCreditWindow kept.new.items weights.new.items }
+    ensures enough { result ≤ weights_sum weights.new.items }
+    ensures taken { weights_sum weights.new.items + excess
+        ≡ weights_sum weights.old.items + result }
     ensures less { result < excess }
     ensures shorter { deque_len kept.new ≤ deque_len kept.old }
     ensures room { deque_capacity kept.new ≡ deque_capacity kept.old }
@@ -57,11 +58,11 @@ fn cut_oldest(kept: &mut VecDeque<Kept>, weights: &mut Vec<u128>, excess: u128) 
 
 /// Takes so much work out of the oldest credits, and of their accounts' weights.
 pub(crate) fn drop_oldest(kept: &mut VecDeque<Kept>, weights: &mut Vec<u128>, excess: u128)
-    requires weighed { IsWindow kept.old.items weights.old.items }
-    requires enough { excess ≤ total weights.old.items }
+    requires weighed { IsCreditWindow kept.old.items weights.old.items }
+    requires enough { excess ≤ weights_sum weights.old.items }
     ensures kept { kept.new.items ≡ without_oldest excess kept.old.items }
-    ensures weighed { IsWindow kept.new.items weights.new.items }
-    ensures taken { total weights.new.items + excess ≡ total weights.old.items }
+    ensures weighed { IsCreditWindow kept.new.items weights.new.items }
+    ensures taken { weights_sum weights.new.items + excess ≡ weights_sum weights.old.items }
     ensures shorter { deque_len kept.new ≤ deque_len kept.old }
     ensures room { deque_capacity kept.new ≡ deque_capacity kept.old }
     ensures length { vec_len weights.new ≡ vec_len weights.old }
@@ -76,7 +77,7 @@ pub(crate) fn drop_oldest(kept: &mut VecDeque<Kept>, weights: &mut Vec<u128>, ex
 /// Adds work to the weight at a place.
 pub(crate) fn add_work(weights: &mut Vec<u128>, place: usize, work: u64)
     requires within { place < length weights.old.items }
-    requires small { total weights.old.items + work < 2 ^ 128 }
+    requires small { weights_sum weights.old.items + work < 2 ^ 128 }
     ensures added { weights.new.items ≡ added weights.old.items place work }
     ensures length { vec_len weights.new ≡ vec_len weights.old }
     ensures room { vec_capacity weights.new ≡ vec_capacity weights.old }
@@ -93,15 +94,15 @@ pub(crate) fn enter(
     credit: Kept,
     window: u64,
 ) -> u128
-    requires weighed { IsWindow kept.old.items weights.old.items }
-    requires known { IsKept (length weights.old.items) credit }
+    requires weighed { IsCreditWindow kept.old.items weights.old.items }
+    requires known { IsKeptCredit (length weights.old.items) credit }
     requires room { deque_len kept.old < deque_capacity kept.old }
-    requires summed { sum ≡ total weights.old.items }
+    requires summed { sum ≡ weights_sum weights.old.items }
     requires within { sum ≤ window }
     ensures kept { kept.new.items ≡ without_oldest
-        (total weights.old.items + credit.part - window) (kept.old.items ++ credit ∷ []) }
-    ensures weighed { IsWindow kept.new.items weights.new.items }
-    ensures summed { result ≡ total weights.new.items }
+        (weights_sum weights.old.items + credit.part - window) (kept.old.items ++ credit ∷ []) }
+    ensures weighed { IsCreditWindow kept.new.items weights.new.items }
+    ensures summed { result ≡ weights_sum weights.new.items }
     ensures within { result ≤ window }
     ensures grown { result ≤ sum + credit.part }
     ensures some { 1 ≤ window → 1 ≤ result }

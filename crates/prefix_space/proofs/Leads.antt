@@ -7,7 +7,7 @@ use Rattle.std.specs.Prelude.{nat_eq}
 use Rattle.std.specs.List.{AllByRecursion, starts_with}
 use Rattle.pool_history.specs.Spaces.{overlap, string_at}
 use Rattle.history_laws.proofs.Lowest.{compared}
-use Rattle.prefix_space.specs.Spans.{first_from, first_of, span_width, width_from, width_of}
+use Rattle.prefix_space.specs.Spans.{first_from, span_start, span_width, width_from, width_of}
 
 pub record AreBytes (lead : List ℕ) : Type 0 where
   pub each : AllByRecursion (λ byte. byte < 256) lead
@@ -122,7 +122,7 @@ pub record IsLength (len : ℕ) : Type 0 where
   pub some : 1 ≤ len
   pub most : len ≤ 4
 
-pub first-string : (len place : ℕ) → IsLength len → place < 256 ^ len → first_of (string_at len place) ≡ place * span_width len
+pub first-string : (len place : ℕ) → IsLength len → place < 256 ^ len → span_start (string_at len place) ≡ place * span_width len
 first-string zero place l below = absurd (omega (arith, l.some))
 first-string (suc zero) place l below = omega (arith, below)
 first-string (suc (suc zero)) place l below = omega (arith, below)

@@ -10,7 +10,7 @@ use Rattle.pool_history.specs.Spaces.{first_free, is_free, lowest, overlap, stri
 use Rattle.pool_history.proofs.PlacesOfClasses.{all-end, all-weaken}
 use Rattle.history_laws.proofs.Holding.{length-string_at, overlap-comm}
 use Rattle.history_laws.proofs.Lowest.{string-bytes}
-use Rattle.prefix_space.specs.Spans.{AreSpansInOrder, IsGap, IsNext, IsShort, end_of, first_of, span_width, width_of}
+use Rattle.prefix_space.specs.Spans.{AreSpansInOrder, IsGap, IsNext, IsShort, end_of, span_start, span_width, width_of}
 use Rattle.prefix_space.proofs.Leads.{IsLength, apart-overlap, first-string, meet-overlap, width-string}
 
 -- the string at a place as a lead
@@ -23,13 +23,13 @@ string-short len place l =
 
 pub end-string : (len place : ℕ) → IsLength len → place < 256 ^ len → end_of (string_at len place) ≡ (place + 1) * span_width len
 end-string len place l below =
-    let first : first_of (string_at len place) ≡ place * span_width len = first-string len place l below in
+    let first : span_start (string_at len place) ≡ place * span_width len = first-string len place l below in
     let width : width_of (string_at len place) ≡ span_width len = width-string len place l in
     omega (arith, first, width)
 
 -- a string is free where all leads end before it or begin behind it
 pub free-between : (lead : List ℕ) (held : List (List ℕ)) (at : ℕ) → IsShort lead → AreSpansInOrder held
-    → AllByRecursion (λ other. end_of other ≤ first_of lead) (take at held) → AllByRecursion (λ other. end_of lead ≤ first_of other) (drop at held)
+    → AllByRecursion (λ other. end_of other ≤ span_start lead) (take at held) → AllByRecursion (λ other. end_of lead ≤ span_start other) (drop at held)
     → list_any (overlap lead) held ≡ false
 free-between lead [] at short order before after = refl
 free-between lead (l ∷ held) zero short order before after =
@@ -70,11 +70,11 @@ none-found len held place (suc more) taken =
 pub gap-free : (len place at : ℕ) (held : List (List ℕ)) → IsLength len → AreSpansInOrder held → IsGap len held place at → place < 256 ^ len
     → list_any (overlap (string_at len place)) held ≡ false
 gap-free len place at held l order g below =
-    let first : first_of (string_at len place) ≡ place * span_width len = first-string len place l below in
+    let first : span_start (string_at len place) ≡ place * span_width len = first-string len place l below in
     let end : end_of (string_at len place) ≡ (place + 1) * span_width len = end-string len place l below in
     free-between (string_at len place) held at (string-short len place l) order
     (subst (λ n. AllByRecursion (λ other. end_of other ≤ n) (take at held)) (sym first) g.before)
-    (subst (λ n. AllByRecursion (λ other. n ≤ first_of other) (drop at held)) (sym end) g.after)
+    (subst (λ n. AllByRecursion (λ other. n ≤ span_start other) (drop at held)) (sym end) g.after)
 
 pub gap-lowest : (len place at : ℕ) (held : List (List ℕ)) → IsLength len → AreSpansInOrder held → IsGap len held place at → place < 256 ^ len
     → lowest len held ≡ Some (string_at len place)
@@ -101,13 +101,13 @@ place-meets place step first end other some begins from until =
     let within : first < (other + 1) * step = (div-lt_iff_lt-mul some).0 (omega (arith, begins, from)) in
     (omega (arith, under, some), omega (arith, within))
 
-pub place-taken : (len place first end other : ℕ) (lead : List ℕ) → IsLength len → IsShort lead → first ≡ first_of lead → end ≡ end_of lead → 1 ≤ span_width len
+pub place-taken : (len place first end other : ℕ) (lead : List ℕ) → IsLength len → IsShort lead → first ≡ span_start lead → end ≡ end_of lead → 1 ≤ span_width len
     → first / span_width len ≤ place → place ≤ other → other < (end + (span_width len - 1)) / span_width len → other < 256 ^ len
     → overlap (string_at len other) lead ≡ true
 place-taken len place first end other lead l short is-first is-end some begins from until below =
     let m : (other * span_width len < end) × (first < other * span_width len + span_width len) = place-meets place (span_width len) first end other some begins from until in
     let s : IsShort (string_at len other) = string-short len other l in
-    let at : first_of (string_at len other) ≡ other * span_width len = first-string len other l below in
+    let at : span_start (string_at len other) ≡ other * span_width len = first-string len other l below in
     let width : width_of (string_at len other) ≡ span_width len = width-string len other l in
     let under : other * span_width len < end = m.0 in
     let over : first < other * span_width len + span_width len = m.1 in
@@ -121,14 +121,14 @@ before-weaken n m (l ∷ leads) more all = (let here : end_of l ≤ n = all.0 in
 pub gap-next : (len place at : ℕ) (held : List (List ℕ)) → IsLength len → AreSpansInOrder held → IsGap len held place at → place < 256 ^ len
     → IsNext len held (string_at len place) at
 gap-next len place at held l order g below =
-    let first : first_of (string_at len place) ≡ place * span_width len = first-string len place l below in
+    let first : span_start (string_at len place) ≡ place * span_width len = first-string len place l below in
     let end : end_of (string_at len place) ≡ (place + 1) * span_width len = end-string len place l below in
     record {
       lowest_is = gap-lowest len place at held l order g below;
       short = string-short len place l;
       within = g.within;
       before = subst (λ n. AllByRecursion (λ other. end_of other ≤ n) (take at held)) (sym first) g.before;
-      after = subst (λ n. AllByRecursion (λ other. n ≤ first_of other) (drop at held)) (sym end) g.after;
+      after = subst (λ n. AllByRecursion (λ other. n ≤ span_start other) (drop at held)) (sym end) g.after;
     }
 
 -- a step of the search, over the lead at a place of the list
@@ -143,7 +143,7 @@ all-one-more P xs at d within all here =
     subst (λ n. AllByRecursion P (take n xs)) (sym (add-one at))
     (subst (AllByRecursion P) (sym (take-suc xs at d within)) (all-end P (take at xs) (get_or xs at d) all here))
 
-pub taken-more : (len place first end at : ℕ) (lead : List ℕ) (held : List (List ℕ)) → IsLength len → IsShort lead → first ≡ first_of lead → end ≡ end_of lead
+pub taken-more : (len place first end at : ℕ) (lead : List ℕ) (held : List (List ℕ)) → IsLength len → IsShort lead → first ≡ span_start lead → end ≡ end_of lead
     → 1 ≤ span_width len → first / span_width len ≤ place → at < length held → lead ≡ get_or held at lead
     → ((lower : ℕ) → lower < place → lower < 256 ^ len → is_free held (string_at len lower) ≡ false)
     → (lower : ℕ) → lower < max place ((end + (span_width len - 1)) / span_width len) → lower < 256 ^ len → is_free held (string_at len lower) ≡ false
@@ -159,10 +159,10 @@ taken-more len place first end at lead held l short is-first is-end some begins 
       (place-taken len place first end lower lead l short is-first is-end some begins from (omega (arith, before, from)) below)))
 
 -- the leads from one on that begins behind the gap
-pub after-gap : (held : List (List ℕ)) (at n : ℕ) (d : List ℕ) → AreSpansInOrder held → at < length held → n ≤ first_of (get_or held at d)
-    → AllByRecursion (λ lead. n ≤ first_of lead) (drop at held)
+pub after-gap : (held : List (List ℕ)) (at n : ℕ) (d : List ℕ) → AreSpansInOrder held → at < length held → n ≤ span_start (get_or held at d)
+    → AllByRecursion (λ lead. n ≤ span_start lead) (drop at held)
 after-gap [] at n d order within h = absurd (omega (arith, within))
-after-gap (l ∷ held) zero n d order within h = (h, all-weaken (λ other. end_of l ≤ first_of other) (λ other. n ≤ first_of other) (λ other g. omega (arith, h, g)) held order.1)
+after-gap (l ∷ held) zero n d order within h = (h, all-weaken (λ other. end_of l ≤ span_start other) (λ other. n ≤ span_start other) (λ other g. omega (arith, h, g)) held order.1)
 after-gap (l ∷ held) (suc at) n d order within h = after-gap held at n d order.2 (omega (arith, within)) h
 
 -- behind the end there is none

@@ -9,7 +9,7 @@ use Rattle.pool_history.specs.Spaces.{overlap}
 use Rattle.history_laws.proofs.Holding.{fronts-overlap, overlap-comm}
 use Rattle.prefix_space.specs.HeldLeads.{is_held}
 use Rattle.history_laws.specs.Openings.{AreLeadsApart}
-use Rattle.prefix_space.specs.Spans.{AreSpansInOrder, IsShort, end_of, first_of}
+use Rattle.prefix_space.specs.Spans.{AreSpansInOrder, IsShort, end_of, span_start}
 use Rattle.prefix_space.proofs.Leads.{apart-overlap}
 
 pub all-insert : {X : Type 0} (P : X → Type 0) (xs : List X) (at : ℕ) (x : X) → AllByRecursion P xs → P x → AllByRecursion P (insert xs at x)
@@ -25,14 +25,14 @@ all-remove P (y ∷ xs) zero all = all.1
 all-remove P (y ∷ xs) (suc at) all = (all.0, all-remove P xs at all.1)
 
 pub order-insert : (held : List (List ℕ)) (at : ℕ) (lead : List ℕ) → IsShort lead → AreSpansInOrder held
-    → AllByRecursion (λ other. end_of other ≤ first_of lead) (take at held) → AllByRecursion (λ other. end_of lead ≤ first_of other) (drop at held)
+    → AllByRecursion (λ other. end_of other ≤ span_start lead) (take at held) → AllByRecursion (λ other. end_of lead ≤ span_start other) (drop at held)
     → AreSpansInOrder (insert held at lead)
 order-insert [] zero lead short order before after = (short, tt, tt)
 order-insert [] (suc at) lead short order before after = (short, tt, tt)
 order-insert (l ∷ held) zero lead short order before after = (short, after, order)
 order-insert (l ∷ held) (suc at) lead short order before after = (
   order.0,
-  all-insert (λ other. end_of l ≤ first_of other) held at lead order.1 before.0,
+  all-insert (λ other. end_of l ≤ span_start other) held at lead order.1 before.0,
   order-insert held at lead short order.2 before.1 after,
 )
 
@@ -40,13 +40,13 @@ pub order-remove : (held : List (List ℕ)) (at : ℕ) → AreSpansInOrder held 
 order-remove [] zero order = tt
 order-remove [] (suc at) order = tt
 order-remove (l ∷ held) zero order = order.2
-order-remove (l ∷ held) (suc at) order = (order.0, all-remove (λ other. end_of l ≤ first_of other) held at order.1, order-remove held at order.2)
+order-remove (l ∷ held) (suc at) order = (order.0, all-remove (λ other. end_of l ≤ span_start other) held at order.1, order-remove held at order.2)
 
 -- so none begins another
 pub order-apart : (held : List (List ℕ)) → AreSpansInOrder held → AreLeadsApart held
 order-apart [] order = tt
 order-apart (l ∷ held) order = (each held order.1 order.2, order-apart held order.2) where
-  each : (later : List (List ℕ)) → AllByRecursion (λ other. end_of l ≤ first_of other) later → AreSpansInOrder later → AllByRecursion (λ other. overlap l other ≡ false) later
+  each : (later : List (List ℕ)) → AllByRecursion (λ other. end_of l ≤ span_start other) later → AreSpansInOrder later → AllByRecursion (λ other. overlap l other ≡ false) later
   each [] behind order' = tt
   each (m ∷ later) behind order' = (
     apart-overlap 4 l m order.0.most order'.0.most order.0.each order'.0.each behind.0,

@@ -17,14 +17,14 @@ width_from zero (byte ∷ bytes) = 1
 width_from (suc size) (byte ∷ bytes) = width_from size bytes
 
 -- the same of the strings of four bytes, and the first behind them
-abbrev pub first_of : List ℕ → ℕ
-first_of lead = first_from 4 lead
+abbrev pub span_start : List ℕ → ℕ
+span_start lead = first_from 4 lead
 
 abbrev pub width_of : List ℕ → ℕ
 width_of lead = width_from 4 lead
 
 abbrev pub end_of : List ℕ → ℕ
-end_of lead = first_of lead + width_of lead
+end_of lead = span_start lead + width_of lead
 
 -- how many strings of four bytes begin with a lead of so many bytes
 abbrev pub span_width : ℕ → ℕ
@@ -40,7 +40,7 @@ pub record IsShort (lead : List ℕ) : Type 0 where
 abbrev pub AreSpansInOrder : List (List ℕ) → Type 0
 AreSpansInOrder [] = Unit {0}
 AreSpansInOrder (lead ∷ later) =
-    IsShort lead × AllByRecursion (λ other. end_of lead ≤ first_of other) later
+    IsShort lead × AllByRecursion (λ other. end_of lead ≤ span_start other) later
     × AreSpansInOrder later
 
 -- a place among the strings of a length, and one among the held leads: those before it end before
@@ -48,7 +48,7 @@ AreSpansInOrder (lead ∷ later) =
 pub record IsGap (len : ℕ) (held : List (List ℕ)) (place at : ℕ) : Type 0 where
   pub within : at ≤ length held
   pub before : AllByRecursion (λ lead. end_of lead ≤ place * span_width len) (take at held)
-  pub after : AllByRecursion (λ lead. (place + 1) * span_width len ≤ first_of lead) (drop at held)
+  pub after : AllByRecursion (λ lead. (place + 1) * span_width len ≤ span_start lead) (drop at held)
   pub taken : (lower : ℕ) → lower < place → lower < 256 ^ len
       → is_free held (string_at len lower) ≡ false
 
@@ -57,5 +57,5 @@ pub record IsNext (len : ℕ) (held : List (List ℕ)) (lead : List ℕ) (at : �
   pub lowest_is : lowest len held ≡ Some lead
   pub short : IsShort lead
   pub within : at ≤ length held
-  pub before : AllByRecursion (λ other. end_of other ≤ first_of lead) (take at held)
-  pub after : AllByRecursion (λ other. end_of lead ≤ first_of other) (drop at held)
+  pub before : AllByRecursion (λ other. end_of other ≤ span_start lead) (take at held)
+  pub after : AllByRecursion (λ other. end_of lead ≤ span_start other) (drop at held)

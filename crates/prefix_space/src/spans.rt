@@ -2,7 +2,7 @@
 
 ghost use Rattle.std.specs.Prelude.{◌≡◌, ◌+◌, ◌<◌, ◌≤◌, ◌^◌};
 ghost use Rattle.pool_history.specs.Spaces.{string_at};
-ghost use Rattle.prefix_space.specs.Spans.{end_of, first_of, span_width};
+ghost use Rattle.prefix_space.specs.Spans.{end_of, span_start, span_width};
 
 use pool_history::Lead;
 
@@ -39,7 +39,7 @@ pub(crate) fn width(len: u8) -> u64
 
 /// The first string of four bytes that begins with a lead.
 pub(crate) fn first(lead: &Lead) -> u64
-    ensures value { result ≡ first_of lead.now }
+    ensures value { result ≡ span_start lead.now }
     ensures within { result < 2 ^ 32 }
 {
     // So it is known to have one to four bytes.

@@ -1,5 +1,5 @@
 use Rattle.std.proofs.Common.{◌-◌, set, sym, subst, arith}
-use Rattle.payouts.specs.Window.{IsWindow}
+use Rattle.payouts.specs.Window.{IsCreditWindow}
 use Rattle.payouts.proofs.Added.{IsCut, cut_oldest}
 use Rattle.payouts.proofs.window.cut_oldest.Goals as goal
 
@@ -12,7 +12,7 @@ whole c = cut_oldest _ _ _ _ _ c.requires.some c.requires.weighed c.index-oldest
 
 pub returns-then-part-excess-clause-weighed : goal.returns-then-part-excess-clause-weighed
 returns-then-part-excess-clause-weighed c =
-    subst (λ all. IsWindow all (set c.args.weights.now.items c.index-oldest.result.now.place (c.index_mut.result.now - c.from-part.result)))
+    subst (λ all. IsCreditWindow all (set c.args.weights.now.items c.index-oldest.result.now.place (c.index_mut.result.now - c.from-part.result)))
     (sym c.pop_front-oldest.ensures.rest) ((whole c).whole c.from-part.ensures)
 
 pub returns-then-part-excess-clause-taken : goal.returns-then-part-excess-clause-taken
@@ -27,7 +27,7 @@ partly c = cut_oldest _ _ _ _ _ c.requires.some c.requires.weighed c.index-oldes
 
 pub returns-clause-weighed : goal.returns-clause-weighed
 returns-clause-weighed c =
-    subst (λ kept. IsWindow (set c.args.kept.now.items 0 kept) (set c.args.weights.now.items c.index-oldest.result.now.place (c.index_mut-3.result.now - c.args.excess)))
+    subst (λ kept. IsCreditWindow (set c.args.kept.now.items 0 kept) (set c.args.weights.now.items c.index-oldest.result.now.place (c.index_mut-3.result.now - c.args.excess)))
     (sym c.shortened.ensures) ((partly c).part (omega (arith, c.from-part.ensures, c.if-part-excess.false)))
 
 pub returns-clause-taken : goal.returns-clause-taken

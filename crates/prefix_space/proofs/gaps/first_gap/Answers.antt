@@ -3,7 +3,7 @@ use Rattle.std.specs.Prelude.{max}
 use Rattle.std.specs.List.{AllByRecursion}
 use Rattle.std.proofs.Math.Nat.{le-div_iff_mul-le, mul-le-mul_right}
 use Rattle.pool_history.specs.Spaces.{is_free, string_at}
-use Rattle.prefix_space.specs.Spans.{IsShort, end_of, first_of, span_width}
+use Rattle.prefix_space.specs.Spans.{IsShort, end_of, span_start, span_width}
 use Rattle.prefix_space.proofs.LowestGap.{after-gap, all-behind-end, all-one-more, before-weaken, next-ends, short-at, taken-more}
 use Rattle.prefix_space.proofs.gaps.first_gap.Goals as goal
 
@@ -49,7 +49,7 @@ returns-then-place-first c =
       before = c.loop-at.invariant.before;
       after =
           after-gap c.args.leads.now c.loop-at.at ((c.loop-at.place + 1) * span_width c.args.len) lead c.requires.order within
-          (subst (λ n. (c.loop-at.place + 1) * span_width c.args.len ≤ n) (c.first.ensures.value ∙ ap first_of is) behind);
+          (subst (λ n. (c.loop-at.place + 1) * span_width c.args.len ≤ n) (c.first.ensures.value ∙ ap span_start is) behind);
       taken = c.loop-at.invariant.taken;
     }
 
@@ -60,6 +60,6 @@ returns c =
       within = omega arith;
       before = subst (λ n. AllByRecursion (λ l. end_of l ≤ c.loop-at.place * span_width c.args.len) (take n c.args.leads.now)) whole c.loop-at.invariant.before;
       after =
-          all-behind-end (λ l. (c.loop-at.place + 1) * span_width c.args.len ≤ first_of l) c.args.leads.now (length c.args.leads.now) (omega arith);
+          all-behind-end (λ l. (c.loop-at.place + 1) * span_width c.args.len ≤ span_start l) c.args.leads.now (length c.args.leads.now) (omega arith);
       taken = c.loop-at.invariant.taken;
     }

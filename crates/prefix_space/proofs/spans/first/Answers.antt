@@ -1,10 +1,10 @@
 use Rattle.std.proofs.Common.{◌≡◌, ℕ, ◌-◌, ◌≤◌, List, [], ◌∷◌, ◌++◌, length, ◌∙◌, ap, arith}
 use Rattle.std.specs.Prelude.{replicate}
 use Rattle.std.specs.Int.{from_be_bytes, w32}
-use Rattle.prefix_space.specs.Spans.{first_of}
+use Rattle.prefix_space.specs.Spans.{span_start}
 use Rattle.prefix_space.proofs.spans.first.Goals as goal
 
-first-value : (l : List ℕ) → 1 ≤ length l → length l ≤ 4 → from_be_bytes w32 (l ++ replicate (4 - length l) 0) ≡ first_of l
+first-value : (l : List ℕ) → 1 ≤ length l → length l ≤ 4 → from_be_bytes w32 (l ++ replicate (4 - length l) 0) ≡ span_start l
 first-value [] some most = absurd (omega (arith, some))
 first-value (a ∷ []) some most = omega arith
 first-value (a ∷ b ∷ []) some most = omega arith
