@@ -1,7 +1,7 @@
 -- What a table of open channels shows (this project's own).
-use Rattle.std.specs.Prelude.{◌≡◌, ℕ, ◌≤◌, ◌==◌, if◌then◌else◌, Option, None, Some, List, [], ◌∷◌, map}
+use Rattle.std.specs.Prelude.{◌≡◌, ℕ, ◌≤◌, ◌==◌, if◌then◌else◌, Option, None, Some, List, [], ◌∷◌, filter, map, not}
 use Rattle.std.specs.List.{AllByRecursion}
-use Rattle.pool_history.specs.Channels.{ChannelMove, ClassSet, OpenChannel, channel_in, channels_told, last_class, opened, present_class}
+use Rattle.pool_history.specs.Channels.{ChannelMove, ClassSet, OpenChannel, account_or, channel_in, channels_told, last_class, opened, present_class}
 use Rattle.history_laws.specs.Apart.{AreDisjoint}
 use Rattle.history_laws.specs.Openings.{AreLeadsApart}
 use Rattle.prefix_space.specs.HeldLeads.{is_held}
@@ -12,6 +12,14 @@ use Rattle.channels.specs.declared.channel.Setting.{Setting}
 pub record ChannelTable : Type 0 where
   pub opened : ℕ
   pub open_channels : List OpenChannel
+  -- so many openings, and so many classes that are set, need no memory
+  pub opening_room : ℕ
+  pub setting_room : ℕ
+
+-- nothing changed but the room
+pub record ShowsSameChannels (old new : ChannelTable) : Type 0 where
+  pub opened_stays : new.opened ≡ old.opened
+  pub channels_stay : new.open_channels ≡ old.open_channels
 
 -- a table was told these moves
 pub record IsTold (table : ChannelTable) (moves : List ChannelMove) : Type 0 where
@@ -65,6 +73,23 @@ pub record AreKept (opened : ℕ) (settings : List Setting) (entries : List (ℕ
   pub leads : (lead : List ℕ)
       → is_held held lead ≡ is_held (map (λ entry. entry.1.lead) entries) lead
   pub apart : AreLeadsApart (map (λ entry. entry.1.lead) entries)
+
+-- the entries, with the channel of an id changed
+abbrev pub with_changed : (Channel → Channel) → ℕ → List (ℕ × Channel) → List (ℕ × Channel)
+with_changed change id entries =
+    map (λ entry. if id == entry.0 then (entry.0, change entry.1) else entry) entries
+
+-- a channel as it is kept, with an account where it has none, and with another present class
+abbrev pub named_channel : List ℕ → Channel → Channel
+named_channel account channel =
+    record channel { account = account_or channel.account account }
+
+abbrev pub reclassed_channel : ℕ → Channel → Channel
+reclassed_channel class channel = record channel { class = class }
+
+-- the entries of other sessions
+abbrev pub without_session : ℕ → List (ℕ × Channel) → List (ℕ × Channel)
+without_session session entries = filter (λ entry. not (entry.1.session == session)) entries
 
 -- the lead of what is kept, where it is a session's
 abbrev pub lead_if_own : ℕ → Option Channel → Option (List ℕ)

@@ -1,11 +1,16 @@
 //! The open channels of a pool, exact to the moves that they were told of.
 #![tactic(auto)]
 
+mod accounts;
+mod changes;
 mod channel;
+mod plan;
 mod table;
 
+pub use accounts::{account_in, is_known_account};
 pub use channel::Channel;
-pub use table::{Channels, NotOpen, spaces_apart};
+pub use plan::ChannelPlan;
+pub use table::{Channels, NotOpen, SetError, spaces_apart};
 
 #[cfg(test)]
 mod tests;

@@ -1,11 +1,15 @@
 //! The table of open channels.
 
+use crate::accounts::{account_in, is_known_account};
+use crate::changes::{drop_session, give_leads, put_account, put_class};
 use crate::channel::{Channel, Setting};
+use crate::plan::ChannelPlan;
 use indexmap::IndexMap;
-use pool_history::{Class, Lead};
+use pool_history::{Class, Lead, NameError, Opened, Rules};
 use prefix_space::Space;
 use std::alloc::{AllocError, Global};
 use std::marker::Model;
+use sv2_types::Str255;
 use thiserror::Error;
 
 /// The session has no such open channel.
@@ -13,8 +17,18 @@ use thiserror::Error;
 #[error("invalid-channel-id")]
 pub struct NotOpen;
 
+/// Why a channel's class isn't set.
+#[derive(Clone, Copy, Debug, PartialEq, Eq, Drop, Error)]
+pub enum SetError {
+    #[error("invalid-channel-id")]
+    NotOpen,
+    #[error("out of memory")]
+    Memory,
+}
+
 /// The open channels, the leads that they hold, and the classes that were set for them. Contracts
-/// see the channels in the order of their ids, and how many were opened.
+/// see the channels in the order of their ids, how many were opened, and for how many more there is
+/// room.
 #[derive(Debug, Drop)]
 pub struct Channels {
     opened: u32,
@@ -29,13 +43,16 @@ impl Model for Channels {
 
     ghost Value = { ChannelTable };
 
-    ghost use Rattle.std.specs.Prelude.{map, reverse};
+    ghost use Rattle.std.specs.Prelude.{◌-◌, map, min, reverse, vec_capacity, vec_len};
+    ghost use Rattle.indexmap.specs.IndexMap.{spare};
     ghost use Rattle.channels.specs.Tables.{AreKept, shown_channel};
 
     ghost view = { λ table. record {
       opened = table.opened;
       open_channels = map (λ entry. shown_channel (reverse table.settings.items) entry.0 entry.1)
           table.channels.entries;
+      opening_room = min (spare table.channels) table.space.spare;
+      setting_room = vec_capacity table.settings - vec_len table.settings;
     } };
 
     ghost invariant = { λ table. AreKept table.opened (reverse table.settings.items)
@@ -45,8 +62,13 @@ impl Model for Channels {
 impl Channels {
     ghost use Rattle.std.specs.Prelude.{◌≡◌, ◌↔◌, None, List, [], ◌∷◌, IfOk, IsErr, OnErr, OnOk, map};
     ghost use Rattle.std.specs.Option.{option_copied, option_map};
-    ghost use Rattle.pool_history.specs.Channels.{ChannelMove, Closes, channel_in, channels_in, class_at};
-    ghost use Rattle.channels.specs.Tables.{IsTold, kept_channel};
+    ghost use Rattle.pool_history.specs.Accounts.{account_of};
+    ghost use Rattle.pool_history.specs.Channels.{ChannelMove, Closes, Leaves, Names, Sets, channel_in, channels_in, class_at};
+    ghost use Rattle.pool_history.specs.Refusing.{nameable};
+    ghost use Rattle.pool_history.specs.Conditions.{found};
+    ghost use Rattle.channels.specs.declared.plan.ChannelPlan.TheVariants as plan;
+    ghost use Rattle.channels.specs.Plans.{CanApply, IsDoneUnless, IsUnless, MaySetClass, move_of, opened_by, plan_for};
+    ghost use Rattle.channels.specs.Tables.{IsTold, ShowsSameChannels, kept_channel};
 
     /// No channel is open, and none was.
     pub fn new(alloc: Global) -> Result<Channels, AllocError>
@@ -110,6 +132,147 @@ impl Channels {
         self.space.give(lead);
         Ok(())
     }
+
+    /// Closes all open channels of a session, and gives their leads back. It takes no memory.
+    pub fn leave(&mut self, session: u32)
+        ensures { (moves : List ChannelMove) → IsTold self.old moves
+            → IsTold self.new (Leaves session ∷ moves) }
+    {
+        give_leads(&self.channels, session, &mut self.space);
+        drop_session(&mut self.channels, session);
+    }
+
+    /// Gives an open channel of a session the account of a user; the first account stays.
+    pub fn name(
+        &mut self,
+        session: u32,
+        channel: u32,
+        identity: &str,
+        rules: &Rules,
+    ) -> Result<(), NameError>
+        ensures answer { IsDoneUnless NameError.Memory result (nameable rules.now
+            (account_of identity.now)
+            (channel_in (channels_in self.old.open_channels session) channel)) }
+        ensures told { OnOk result ((moves : List ChannelMove) → IsTold self.old moves
+            → IsTold self.new (Names channel (account_of identity.now) ∷ moves)) }
+        ensures refused { OnErr result (ShowsSameChannels self.old self.new) }
+    {
+        match self.plan_name(session, channel, identity, rules) {
+            Ok(plan) => {
+                self.apply(plan);
+                Ok(())
+            }
+            Err(refusal) => Err(refusal),
+        }
+    }
+
+    /// Sets the class of an open channel of a session, at a place of the history.
+    pub fn set_class(
+        &mut self,
+        session: u32,
+        channel: u32,
+        at: u64,
+        class: Class,
+    ) -> Result<(), SetError>
+        ensures answer { IsDoneUnless SetError.Memory result (found SetError.NotOpen
+            (channel_in (channels_in self.old.open_channels session) channel)) }
+        ensures told { OnOk result ((moves : List ChannelMove) → IsTold self.old moves
+            → IsTold self.new (Sets at channel class ∷ moves)) }
+        ensures refused { OnErr result (ShowsSameChannels self.old self.new) }
+    {
+        match self.plan_class(session, channel, at, class) {
+            Ok(plan) => {
+                self.apply(plan);
+                Ok(())
+            }
+            Err(refusal) => Err(refusal),
+        }
+    }
+
+    /// Plans `name`, with the memory that it takes.
+    pub fn plan_name(
+        &mut self,
+        session: u32,
+        channel: u32,
+        identity: &str,
+        rules: &Rules,
+    ) -> Result<ChannelPlan, NameError>
+        ensures answer { IsUnless NameError.Memory result
+            (plan_for (plan.Name channel (account_of identity.now))
+            (nameable rules.now (account_of identity.now)
+            (channel_in (channels_in self.old.open_channels session) channel))) }
+        ensures ready { IfOk result (CanApply self.new) }
+        ensures same { ShowsSameChannels self.old self.new }
+    {
+        let account = account_in(identity);
+        if let Some(refusal) = name_refusal(&self.channels, session, channel, account, rules) {
+            return Err(refusal);
+        }
+        let Ok(account) = Str255::of(*self.settings.allocator(), account) else {
+            return Err(NameError::Memory);
+        };
+        Ok(ChannelPlan::Name { channel, account })
+    }
+
+    /// Plans `set_class`, with the memory that it takes.
+    pub fn plan_class(
+        &mut self,
+        session: u32,
+        channel: u32,
+        at: u64,
+        class: Class,
+    ) -> Result<ChannelPlan, SetError>
+        ensures answer { IsUnless SetError.Memory result (plan_for (plan.Class at channel class)
+            (found SetError.NotOpen
+            (channel_in (channels_in self.old.open_channels session) channel))) }
+        ensures ready { IfOk result (CanApply self.new) }
+        ensures same { ShowsSameChannels self.old self.new }
+    {
+        let Some(_lead) = own_lead(&self.channels, session, channel) else {
+            return Err(SetError::NotOpen);
+        };
+        let Ok(()) = self.settings.reserve(1) else {
+            return Err(SetError::Memory);
+        };
+        Ok(ChannelPlan::Class { at, channel, class })
+    }
+
+    /// Does what was planned, on the table as it was then. It takes no memory.
+    pub fn apply(&mut self, plan: ChannelPlan) -> Option<Opened>
+        requires { CanApply self.old plan }
+        ensures opened { result ≡ opened_by plan }
+        ensures told { (moves : List ChannelMove) → IsTold self.old moves
+            → IsTold self.new (move_of plan ∷ moves) }
+    {
+        match plan {
+            ChannelPlan::Name { channel, account } => {
+                self.take_name(channel, account);
+                None
+            }
+            ChannelPlan::Class { at, channel, class } => {
+                self.take_class(at, channel, class);
+                None
+            }
+        }
+    }
+
+    /// Gives a channel an account, where it has none.
+    fn take_name(&mut self, channel: u32, account: Str255)
+        ensures { (moves : List ChannelMove) → IsTold self.old moves
+            → IsTold self.new (Names channel account ∷ moves) }
+    {
+        put_account(&mut self.channels, channel, account);
+    }
+
+    /// Sets the class of an open channel, for which there is room.
+    fn take_class(&mut self, at: u64, channel: u32, class: Class)
+        requires { MaySetClass self.old channel }
+        ensures { (moves : List ChannelMove) → IsTold self.old moves
+            → IsTold self.new (Sets at channel class ∷ moves) }
+    {
+        put_class(&mut self.channels, channel, class);
+        self.settings.push_reserved(Setting { channel, at, class });
+    }
 }
 
 /// Two different open channels search no space together: no twelve bytes are in both.
@@ -122,7 +285,10 @@ pub fn spaces_apart(channels: &Channels, a: u32, b: u32)
 }
 
 ghost use Rattle.std.specs.Option.{option_copied};
-ghost use Rattle.std.specs.Prelude.{◌≡◌, ◌==◌, ◌&&◌, IfOk, filter, find, map, nat_eq, nat_lt, reverse};
+ghost use Rattle.std.specs.Prelude.{◌≡◌, ◌≤◌, ◌==◌, ◌&&◌, None, IfOk, filter, find, length, map, nat_eq, nat_lt, not, reverse};
+ghost use Rattle.std.specs.Str.{bytes_eq};
+ghost use Rattle.pool_history.specs.Accounts.{is_empty};
+ghost use Rattle.channels.specs.Plans.{naming_refusal};
 ghost use Rattle.pool_history.specs.Channels.{class_before};
 ghost use Rattle.indexmap.specs.IndexMap.{IsUnique, get};
 ghost use Rattle.channels.specs.Tables.{AreSpacesApart, lead_if_own, sets_of};
@@ -183,4 +349,44 @@ fn own_lead(channels: &IndexMap<u32, Channel>, session: u32, channel: u32) -> Op
         }
         None => None,
     }
+}
+
+/// Why a session's channel doesn't get an account.
+fn name_refusal(
+    channels: &IndexMap<u32, Channel>,
+    session: u32,
+    channel: u32,
+    account: &str,
+    rules: &Rules,
+) -> Option<NameError>
+    ensures refusal { result ≡ naming_refusal rules.now account.now session
+        (get nat_eq channels.now channel) }
+    ensures short { result ≡ None → length account.now ≤ 255 }
+    ensures unique { IsUnique nat_eq channels.now }
+{
+    // Says that no id is kept twice.
+    let _count = channels.len();
+    match channels.get(&channel) {
+        Some(there) => {
+            if there.session != session {
+                Some(NameError::NotOpen)
+            } else if !is_known_account(rules, account) {
+                Some(NameError::UnknownUser)
+            } else if has_other_account(there, account) {
+                Some(NameError::OtherAccount)
+            } else {
+                None
+            }
+        }
+        None => Some(NameError::NotOpen),
+    }
+}
+
+/// Whether a channel has an account, and another one.
+fn has_other_account(channel: &Channel, account: &str) -> bool
+    ensures { result ≡ (not (is_empty channel.now.account)
+        && not (bytes_eq channel.now.account account.now)) }
+{
+    let text = channel.account.text();
+    !text.is_empty() && text != account
 }

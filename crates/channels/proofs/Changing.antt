@@ -1,0 +1,187 @@
+-- A channel is changed where it stands.
+use Rattle.std.proofs.Common.{◌≡◌, ℕ, ◌≤◌, Bool, true, false, cond, Option, None, Some, is_some, List, [], ◌∷◌, arith, length, map, refl, ap, subst, sym, ◌∙◌}
+use Rattle.std.proofs.Math.Dec.{eqb}
+use Rattle.std.proofs.lemmas.Bool.{eqb-true, false≢true}
+use Rattle.std.specs.List.{AllByRecursion, IsDistinct}
+use Rattle.std.specs.Option.{option_map}
+use Rattle.std.specs.Map.{keys_of, lookup, set_value}
+use Rattle.history_laws.proofs.Entrances.{none-some, some-same}
+use Rattle.history_laws.proofs.Legalities.{some-none}
+use Rattle.history_laws.specs.Openings.{AreLeadsApart}
+use Rattle.pool_history.specs.Channels.{ClassSet, OpenChannel, account_or, channel_in, last_class, with_class, with_name}
+use Rattle.prefix_space.specs.HeldLeads.{is_held}
+use Rattle.channels.specs.declared.channel.Channel.{Channel}
+use Rattle.channels.specs.declared.channel.Setting.{Setting}
+use Rattle.channels.specs.Tables.{AreKept, HasItsClass, named_channel, reclassed_channel, sets_of, shown_channel, with_changed}
+use Rattle.channels.proofs.Closings.{leads_of}
+use Rattle.channels.proofs.Lookups.{channel_in-shown, eqb-flip, shown_all}
+
+-- where the id isn't there nothing changes
+pub absent-changed : (f : Channel → Channel) (id : ℕ) (entries : List (ℕ × Channel)) → AllByRecursion (λ k. eqb id k ≡ false) (keys_of entries)
+    → with_changed f id entries ≡ entries
+absent-changed f id [] all = refl
+absent-changed f id (e ∷ entries) all =
+    ap (λ t. cond t (e.0, f e.1) e ∷ with_changed f id entries) all.0 ∙ ap (λ l. e ∷ l) (absent-changed f id entries all.1)
+
+pub unfound-changed : (f : Channel → Channel) (id : ℕ) (entries : List (ℕ × Channel)) → lookup (eqb id) entries ≡ None → with_changed f id entries ≡ entries
+unfound-changed f id [] found = refl
+unfound-changed f id (e ∷ entries) found = by_test (eqb id e.0) found (unfound-changed f id entries) where
+  by_test : (t : Bool) → cond t (Some e.1) (lookup (eqb id) entries) ≡ None → (lookup (eqb id) entries ≡ None → with_changed f id entries ≡ entries)
+      → cond t (e.0, f e.1) e ∷ with_changed f id entries ≡ e ∷ entries
+  by_test true found rest = absurd (some-none found)
+  by_test false found rest = ap (λ l. e ∷ l) (rest found)
+
+-- where it is, its channel is written over
+pub found-changed : (f : Channel → Channel) (id : ℕ) (c : Channel) (entries : List (ℕ × Channel)) → IsDistinct eqb (keys_of entries)
+    → lookup (eqb id) entries ≡ Some c → set_value (eqb id) entries (f c) ≡ with_changed f id entries
+unfolding IsDistinct
+found-changed f id c [] apart found = absurd (none-some found)
+found-changed f id c (e ∷ entries) apart found = by_test (eqb id e.0) refl found (found-changed f id c entries apart.1) where
+  by_test : (t : Bool) → eqb id e.0 ≡ t → cond t (Some e.1) (lookup (eqb id) entries) ≡ Some c
+      → (lookup (eqb id) entries ≡ Some c → set_value (eqb id) entries (f c) ≡ with_changed f id entries)
+      → cond t ((e.0, f c) ∷ entries) (e ∷ set_value (eqb id) entries (f c)) ≡ cond t (e.0, f e.1) e ∷ with_changed f id entries
+  by_test true is found rest =
+      ap (λ k. (e.0, f k) ∷ entries) (sym (some-same found))
+      ∙ ap (λ l. (e.0, f e.1) ∷ l)
+      (sym (absent-changed f id entries (subst (λ n. AllByRecursion (λ k. eqb n k ≡ false) (keys_of entries)) (sym (eqb-true id e.0 is)) apart.0)))
+  by_test false is found rest = ap (λ l. e ∷ l) (rest found)
+
+-- what holds of the entries afterwards
+pub all-changed : (P Q : ℕ × Channel → Type 0) (f : Channel → Channel) (id : ℕ) (entries : List (ℕ × Channel))
+    → ((e : ℕ × Channel) → eqb id e.0 ≡ true → P e → Q (e.0, f e.1)) → ((e : ℕ × Channel) → eqb id e.0 ≡ false → P e → Q e)
+    → AllByRecursion P entries → AllByRecursion Q (with_changed f id entries)
+all-changed P Q f id [] here there all = tt
+all-changed P Q f id (e ∷ entries) here there all = (by_test (eqb id e.0) refl, all-changed P Q f id entries here there all.1) where
+  by_test : (t : Bool) → eqb id e.0 ≡ t → Q (cond t (e.0, f e.1) e)
+  by_test true is = here e is all.0
+  by_test false is = there e is all.0
+
+pub leads-changed : (f : Channel → Channel) (id : ℕ) → ((c : Channel) → (f c).lead ≡ c.lead) → (entries : List (ℕ × Channel)) → leads_of (with_changed f id entries) ≡ leads_of entries
+leads-changed f id same [] = refl
+leads-changed f id same (e ∷ entries) = by_test (eqb id e.0) ∙ ap (λ l. e.1.lead ∷ l) (leads-changed f id same entries) where
+  by_test : (t : Bool) → (cond t (e.0, f e.1) e).1.lead ∷ leads_of (with_changed f id entries) ≡ e.1.lead ∷ leads_of (with_changed f id entries)
+  by_test true = ap (λ l. l ∷ leads_of (with_changed f id entries)) (same e.1)
+  by_test false = refl
+
+-- an account is given to what is shown
+pub shown-named : (settings : List Setting) (id : ℕ) (account : List ℕ) (entries : List (ℕ × Channel))
+    → shown_all settings (with_changed (named_channel account) id entries) ≡ map (with_name id account) (shown_all settings entries)
+shown-named settings id account [] = refl
+shown-named settings id account (e ∷ entries) =
+    ap (λ c. c ∷ shown_all settings (with_changed (named_channel account) id entries)) (by_test (eqb id e.0) ∙ ap named (eqb-flip id e.0))
+    ∙ ap (λ l. with_name id account (shown_channel settings e.0 e.1) ∷ l) (shown-named settings id account entries) where
+      named : Bool → OpenChannel
+      named t =
+          cond t (record (shown_channel settings e.0 e.1) { account = account_or e.1.account account }) (shown_channel settings e.0 e.1)
+
+      by_test : (t : Bool) → shown_channel settings (cond t (e.0, named_channel account e.1) e).0 (cond t (e.0, named_channel account e.1) e).1 ≡ named t
+      by_test true = refl
+      by_test false = refl
+
+-- a class is set for what is shown
+pub shown-set : (settings : List Setting) (at id class : ℕ) (entries : List (ℕ × Channel))
+    → shown_all (record { channel = id; at = at; class = class } ∷ settings) (with_changed (reclassed_channel class) id entries)
+    ≡ map (with_class at id class) (shown_all settings entries)
+shown-set settings at id class [] = refl
+shown-set settings at id class (e ∷ entries) =
+    ap (λ c. c ∷ shown_all longer (with_changed (reclassed_channel class) id entries)) (by_test (eqb id e.0) refl ∙ ap set (eqb-flip id e.0))
+    ∙ ap (λ l. with_class at id class (shown_channel settings e.0 e.1) ∷ l) (shown-set settings at id class entries) where
+      longer : List Setting
+      longer = record { channel = id; at = at; class = class } ∷ settings
+
+      with_sets : List ClassSet → OpenChannel
+      with_sets sets = record (shown_channel settings e.0 e.1) { sets = sets }
+
+      set : Bool → OpenChannel
+      set t =
+          cond t (with_sets (record { at = at; class = class } ∷ sets_of e.0 settings)) (shown_channel settings e.0 e.1)
+
+      among : Bool → List ClassSet
+      among t = cond t (record { at = at; class = class } ∷ sets_of e.0 settings) (sets_of e.0 settings)
+
+      by_test : (t : Bool) → eqb id e.0 ≡ t
+          → shown_channel longer (cond t (e.0, reclassed_channel class e.1) e).0 (cond t (e.0, reclassed_channel class e.1) e).1 ≡ set t
+      by_test true is = ap (λ b. with_sets (among b)) is
+      by_test false is = ap (λ b. with_sets (among b)) is
+
+-- the tables fit each other afterwards
+pub named-kept : (opened : ℕ) (settings : List Setting) (entries : List (ℕ × Channel)) (held : List (List ℕ)) (id : ℕ) (account : List ℕ)
+    → AreKept opened settings entries held → AreKept opened settings (with_changed (named_channel account) id entries) held
+named-kept opened settings entries held id account kept =
+    let same : leads_of (with_changed (named_channel account) id entries) ≡ leads_of entries = leads-changed (named_channel account) id (λ c. refl) entries in
+    record {
+      ids =
+          all-changed (λ e. e.0 ≤ opened) (λ e. e.0 ≤ opened) (named_channel account) id entries (λ e is below. below) (λ e is below. below) kept.ids;
+      settings_are = kept.settings_are;
+      classes =
+          all-changed (λ e. HasItsClass settings e.0 e.1) (λ e. HasItsClass settings e.0 e.1) (named_channel account) id entries
+          (λ e is has. record { class_is = has.class_is }) (λ e is has. has) kept.classes;
+      leads = λ lead. kept.leads lead ∙ ap (λ l. is_held l lead) (sym same);
+      apart = subst AreLeadsApart (sym same) kept.apart;
+    }
+
+pub set-kept : (opened : ℕ) (settings : List Setting) (entries : List (ℕ × Channel)) (held : List (List ℕ)) (at id class : ℕ) → id ≤ opened
+    → AreKept opened settings entries held
+    → AreKept opened (record { channel = id; at = at; class = class } ∷ settings) (with_changed (reclassed_channel class) id entries) held
+set-kept opened settings entries held at id class below kept =
+    let same : leads_of (with_changed (reclassed_channel class) id entries) ≡ leads_of entries = leads-changed (reclassed_channel class) id (λ c. refl) entries in
+    record {
+      ids =
+          all-changed (λ e. e.0 ≤ opened) (λ e. e.0 ≤ opened) (reclassed_channel class) id entries (λ e is below. below) (λ e is below. below) kept.ids;
+      settings_are = (below, kept.settings_are);
+      classes =
+          all-changed (λ e. HasItsClass settings e.0 e.1) (λ e. HasItsClass (record { channel = id; at = at; class = class } ∷ settings) e.0 e.1)
+          (reclassed_channel class) id entries here there kept.classes;
+      leads = λ lead. kept.leads lead ∙ ap (λ l. is_held l lead) (sym same);
+      apart = subst AreLeadsApart (sym same) kept.apart;
+    } where
+      last : (e : ℕ × Channel) → Bool → ℕ
+      last e t = last_class (cond t (record { at = at; class = class } ∷ sets_of e.0 settings) (sets_of e.0 settings)) e.1.opening_class
+
+      here : (e : ℕ × Channel) → eqb id e.0 ≡ true → HasItsClass settings e.0 e.1
+          → HasItsClass (record { channel = id; at = at; class = class } ∷ settings) e.0 (reclassed_channel class e.1)
+      here e is has = record { class_is = sym (ap (last e) is) }
+
+      there : (e : ℕ × Channel) → eqb id e.0 ≡ false → HasItsClass settings e.0 e.1
+          → HasItsClass (record { channel = id; at = at; class = class } ∷ settings) e.0 e.1
+      there e is has = record { class_is = has.class_is ∙ sym (ap (last e) is) }
+
+-- what was found was opened
+pub found-below : (opened id : ℕ) (c : Channel) (entries : List (ℕ × Channel)) → AllByRecursion (λ e. e.0 ≤ opened) entries → lookup (eqb id) entries ≡ Some c → id ≤ opened
+found-below opened id c [] all found = absurd (none-some found)
+found-below opened id c (e ∷ entries) all found = by_test (eqb id e.0) refl found (found-below opened id c entries all.1) where
+  by_test : (t : Bool) → eqb id e.0 ≡ t → cond t (Some e.1) (lookup (eqb id) entries) ≡ Some c → (lookup (eqb id) entries ≡ Some c → id ≤ opened) → id ≤ opened
+  by_test true is found rest = subst (λ n. n ≤ opened) (sym (eqb-true id e.0 is)) all.0
+  by_test false is found rest = rest found
+
+-- a channel without account gets it, and one that has some keeps it
+pub first-named : (account : List ℕ) (c : Channel) → eqb (length c.account) 0 ≡ true → named_channel account c ≡ record c { account = account }
+first-named account c none = by_account c.account none where
+  by_account : (l : List ℕ) → eqb (length l) 0 ≡ true → record c { account = account_or l account } ≡ record c { account = account }
+  by_account [] none = refl
+  by_account (byte ∷ bytes) none = let e : length (byte ∷ bytes) ≡ 0 = eqb-true (length (byte ∷ bytes)) 0 none in absurd (omega (arith, e))
+
+pub later-named : (account : List ℕ) (c : Channel) → eqb (length c.account) 0 ≡ false → named_channel account c ≡ c
+later-named account c some = by_account c.account some where
+  by_account : (l : List ℕ) → eqb (length l) 0 ≡ false → record c { account = account_or l account } ≡ record c { account = l }
+  by_account [] some = absurd (false≢true (sym some))
+  by_account (byte ∷ bytes) some = refl
+
+pub first-written : (account : List ℕ) (id : ℕ) (c : Channel) (entries : List (ℕ × Channel)) → IsDistinct eqb (keys_of entries) → lookup (eqb id) entries ≡ Some c
+    → eqb (length c.account) 0 ≡ true → set_value (eqb id) entries (record c { account = account }) ≡ with_changed (named_channel account) id entries
+first-written account id c entries apart found none =
+    ap (λ w. set_value (eqb id) entries w) (sym (first-named account c none)) ∙ found-changed (named_channel account) id c entries apart found
+
+pub later-written : (account : List ℕ) (id : ℕ) (c : Channel) (entries : List (ℕ × Channel)) → IsDistinct eqb (keys_of entries) → lookup (eqb id) entries ≡ Some c
+    → eqb (length c.account) 0 ≡ false → set_value (eqb id) entries c ≡ with_changed (named_channel account) id entries
+later-written account id c entries apart found some =
+    ap (λ w. set_value (eqb id) entries w) (sym (later-named account c some)) ∙ found-changed (named_channel account) id c entries apart found
+
+-- an open channel was opened
+pub open-below : (opened id : ℕ) (settings : List Setting) (entries : List (ℕ × Channel)) → AllByRecursion (λ e. e.0 ≤ opened) entries
+    → is_some (channel_in (shown_all settings entries) id) ≡ true → id ≤ opened
+open-below opened id settings entries all there =
+    by_option (lookup (eqb id) entries) refl (sym (ap is_some (channel_in-shown settings entries id)) ∙ there) where
+      by_option : (o : Option Channel) → lookup (eqb id) entries ≡ o → is_some (option_map (shown_channel settings id) o) ≡ true → id ≤ opened
+      by_option None is there = absurd (false≢true there)
+      by_option (Some c) is there = found-below opened id c entries all is

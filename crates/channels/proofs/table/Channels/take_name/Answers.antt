@@ -1,0 +1,24 @@
+use Rattle.std.proofs.Common.{List, map, reverse, ap, subst, sym, ◌∙◌}
+use Rattle.pool_history.specs.Channels.{with_name}
+use Rattle.channels.specs.declared.channel.Setting.{Setting}
+use Rattle.channels.specs.Tables.{AreKept}
+use Rattle.channels.proofs.Changing.{named-kept, shown-named}
+use Rattle.channels.proofs.Lookups.{shown_all}
+use Rattle.channels.proofs.table.Channels.take_name.Goals as goal
+
+pub invariant_of-self : goal.invariant_of-self
+invariant_of-self c =
+    let settings : List Setting = reverse c.self.inside.settings.items in
+    subst (λ es. AreKept c.self.inside.opened settings es c.self.inside.space.held) (sym c.put_account.ensures.entries)
+    (named-kept c.self.inside.opened settings c.self.inside.channels.entries c.self.inside.space.held c.args.channel c.args.account c.self.invariant)
+
+pub returns : goal.returns
+returns c moves told =
+    let settings : List Setting = reverse c.self.inside.settings.items in
+    record {
+      opened_are = ap (λ table. table.opened) c.self.view_is ∙ told.opened_are;
+      channels_are =
+          ap (shown_all settings) c.put_account.ensures.entries
+          ∙ shown-named settings c.args.channel c.args.account c.self.inside.channels.entries
+          ∙ ap (map (with_name c.args.channel c.args.account)) (ap (λ table. table.open_channels) c.self.view_is ∙ told.channels_are);
+    }

@@ -1,0 +1,59 @@
+//! Changes of the channels that are kept.
+
+ghost use Rattle.std.specs.Prelude.{◌≡◌, ℕ, ◌≤◌, ◌==◌, List, filter, map, nat_eq, not};
+ghost use Rattle.history_laws.specs.Openings.{AreLeadsApart};
+ghost use Rattle.indexmap.specs.IndexMap.{spare};
+ghost use Rattle.prefix_space.specs.HeldLeads.{is_held};
+ghost use Rattle.channels.specs.Tables.{named_channel, reclassed_channel, with_changed, without_session};
+
+use crate::channel::Channel;
+use indexmap::IndexMap;
+use pool_history::Class;
+use prefix_space::Space;
+use sv2_types::Str255;
+
+/// Gives a channel an account, where it has none.
+pub(crate) fn put_account(channels: &mut IndexMap<u32, Channel>, id: u32, account: Str255)
+    ensures entries { channels.new.entries
+        ≡ with_changed (named_channel account) id channels.old.entries }
+    ensures room { spare channels.new ≡ spare channels.old }
+{
+    if let Some(there) = channels.get_mut(&id) {
+        if there.account.text().is_empty() {
+            there.account = account;
+        }
+    }
+}
+
+/// Gives a channel another present class.
+pub(crate) fn put_class(channels: &mut IndexMap<u32, Channel>, id: u32, class: Class)
+    ensures entries { channels.new.entries
+        ≡ with_changed (reclassed_channel class) id channels.old.entries }
+    ensures room { spare channels.new ≡ spare channels.old }
+{
+    if let Some(there) = channels.get_mut(&id) {
+        there.class = class;
+    }
+}
+
+/// Gives back the leads of a session's channels.
+pub(crate) fn give_leads(channels: &IndexMap<u32, Channel>, session: u32, space: &mut Space)
+    requires held { (lead : List ℕ) → is_held space.old.held lead
+        ≡ is_held (map (λ entry. entry.1.lead) channels.now.entries) lead }
+    requires apart { AreLeadsApart (map (λ entry. entry.1.lead) channels.now.entries) }
+    ensures { (lead : List ℕ) → is_held space.new.held lead
+        ≡ is_held (map (λ entry. entry.1.lead) (without_session session channels.now.entries)) lead }
+{
+    for (_, channel) in channels.iter() {
+        if channel.session == session {
+            space.give(channel.lead);
+        }
+    }
+}
+
+/// Drops a session's channels.
+pub(crate) fn drop_session(channels: &mut IndexMap<u32, Channel>, session: u32)
+    ensures { channels.new.entries ≡ without_session session channels.old.entries }
+{
+    channels.retain(|_, channel| channel.session != session);
+}

@@ -1,0 +1,28 @@
+//! Changes of a table that were planned.
+
+ghost use Rattle.std.specs.Prelude.{◌≡◌};
+ghost use Rattle.channels.specs.Plans.{opened_by};
+
+use pool_history::{Class, Opened};
+use sv2_types::Str255;
+
+/// A change of a table that was planned, with the memory that it needs.
+#[derive(Debug, Drop)]
+pub enum ChannelPlan {
+    /// A channel gets an account, where it has none.
+    Name { channel: u32, account: Str255 },
+    /// A channel's class is set, at a place of the history.
+    Class { at: u64, channel: u32, class: Class },
+}
+
+impl ChannelPlan {
+    /// What an opening will give.
+    pub fn opened(&self) -> Option<Opened>
+        ensures { result ≡ opened_by self.now }
+    {
+        match self {
+            ChannelPlan::Name { .. } => None,
+            ChannelPlan::Class { .. } => None,
+        }
+    }
+}
