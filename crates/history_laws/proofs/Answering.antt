@@ -1,10 +1,10 @@
 -- What answers do to a legal history.
-use Rattle.std.proofs.Common.{nat_le, ◌≡◌, ◌^◌, ℕ, ◌+◌, ◌≤◌, Bool, true, false, cond, ◌&&◌, not, Option, None, Some, Result, Ok, Err, List, [], ◌∷◌, ◌++◌, length, refl, ap, subst, sym, ◌∙◌}
-use Rattle.std.proofs.lemmas.Bool.{and_from, and_parts, cond_both, eq-eqb, false≢true, ltb-false, not-false, not_from_false, leb-true, not-true}
+use Rattle.std.proofs.Common.{nat_le, ◌≡◌, ◌^◌, ℕ, ◌+◌, ◌≤◌, Bool, true, false, ◌&&◌, not, Option, None, Some, Result, Ok, Err, List, [], ◌∷◌, ◌++◌, length, refl, ap, subst, sym, ◌∙◌}
+use Rattle.std.proofs.lemmas.Bool.{and_from, and_parts, cond_both, eq-eqb, false≢true, not_from_false, leb-true, not-true}
 use Rattle.std.proofs.lemmas.Nat.{and_assoc}
 use Rattle.std.specs.Int.Bits.{and_self}
 use Rattle.std.proofs.lemmas.List.{append-nil}
-use Rattle.std.specs.Prelude.{bit_and, is_none, is_some, nat_eq, nat_lt}
+use Rattle.std.specs.Prelude.{bit_and, is_some, nat_eq, nat_lt}
 use Rattle.std.specs.Option.{option_to_list}
 use Rattle.pool_history.specs.declared.asking.OpenAsk.{OpenAsk}
 use Rattle.pool_history.specs.declared.asking.Request.{Request}
@@ -30,7 +30,7 @@ use Rattle.pool_history.specs.Accounts.{account_of, is_empty, is_known}
 use Rattle.pool_history.specs.Answering.{Effect, account_for, classing, closing, committing, crediting, entering, with_event, naming, opening, permits, step, step_as, step_by, step_for, step_in, step_under, without_event, unless_refused, briefing, granting, with_found}
 use Rattle.pool_history.specs.Channels.{OpenChannel, present_class, channel_in, channels_of}
 use Rattle.pool_history.specs.Crediting.{first_failed, last_failed}
-use Rattle.pool_history.specs.Judging.{Admitted, Share, admitted, share_of, agree, has_account, is_standard, serves}
+use Rattle.pool_history.specs.Judging.{Admitted, Share, admission, share_of, agree, has_account, is_standard, serves}
 use Rattle.pool_history.specs.Conditions.{or_code, first_false, found, provided, unless_refusal}
 use Rattle.pool_history.specs.Legal.{Legal, LegalPast, allowed_flags, are_acceptable, cause_by, cause_in, cause_of, custom_cause, failed_as, may_feed, grant_cause, is_class, is_next_lead, is_opening_account, may_become, may_get, may_mine, refused_as, may_select_work, within, may_anything, is_just, is_lead_length, is_nameless, is_standard_in, unfound_as}
 use Rattle.pool_history.specs.Refusing.{class_for, class_of_target, custom_refusal, grant_refusal, has_other, has_too_many, held_leads, lead_for, lead_length, may_open, most_enters, own_channel, template_refusal, open_count, openable, nameable, updatable, tippable, open_conditions, lead_unless}
@@ -43,7 +43,7 @@ use Rattle.history_laws.proofs.Legalities.{one_more_legal, some-none}
 use Rattle.history_laws.proofs.Ranges.{class-fits, lead-fits, least-range, legal-rules}
 use Rattle.history_laws.proofs.Served.{IsServed, own-served}
 use Rattle.pool_base.specs.Results.{◌>>=◌}
-use Rattle.pool_history.specs.Jobs.{future_of, jobs_of}
+use Rattle.pool_history.specs.Jobs.{jobs_of}
 
 -- an event, if there is one, has no cause by the rules
 abbrev pub NoCause : Rules → List Event → Option Event → Type 0
@@ -55,11 +55,6 @@ pub unless-event : {X : Type 0} (P : Option Event → Type 0) (refuse : X → Re
     → P (unless_refused refuse r made).event
 unless-event P refuse None made none event = event refl
 unless-event P refuse (Some x) made none event = none
-
--- the first of several refusals isn't there
-pub peel : {X : Type 0} (b : Bool) (x : X) (r : Option X) → cond b (Some x) r ≡ None → (b ≡ false) × (r ≡ None)
-peel true x r n = absurd (some-none n)
-peel false x r n = (refl, n)
 
 -- a worker's present session in a legal past, and what it was entered with
 pub record Present (rules : Rules) (past : List Event) (worker session : ℕ) (entered : Entrance) : Type 0 where
@@ -272,9 +267,9 @@ pub record HasChannel (past : List Event) (session : ℕ) (share : Share) : Type
   pub is_open : channel_in (channels_of past) share.channel ≡ Some channel
   pub serves : serves session share channel ≡ true
 
-pub admitted-channel : (rules : Rules) (past : List Event) (session : ℕ) (share : Share) (with : Admitted) → admitted rules past session share ≡ Ok with
+pub admission-channel : (rules : Rules) (past : List Event) (session : ℕ) (share : Share) (with : Admitted) → admission rules past session share ≡ Ok with
     → HasChannel past session share
-admitted-channel rules past session share with h =
+admission-channel rules past session share with h =
     let o : Option OpenChannel = channel_in (channels_of past) share.channel in
     let a = first-ok (found failed.Channel o) _ with h in
     let b = first-ok (provided (serves session share a.0) failed.Channel a.0) _ with a.2 in
@@ -294,7 +289,7 @@ standard-agrees past session share c =
     (agree (is_standard c.channel.kind) share.is_standard) c.serves).1
 
 pub commit-legal : (rules : Rules) (past : List Event) (worker session : ℕ) (entered : Entrance) (share : Share) → Present rules past worker session entered
-    → may_mine entered ≡ true → (r : Result Admitted Failed) → admitted rules past session share ≡ r → NoCause rules past (committing rules past session share r).event
+    → may_mine entered ≡ true → (r : Result Admitted Failed) → admission rules past session share ≡ r → NoCause rules past (committing rules past session share r).event
 commit-legal rules past worker session entered share p may (Err code) is = tt
 commit-legal rules past worker session entered share p may (Ok with) is =
     let b : Bool = is_standard_in (channel_in (channels_of past) share.channel) in
@@ -302,7 +297,7 @@ commit-legal rules past worker session entered share p may (Ok with) is =
     (λ n.
     permitted may_mine (failed_as (first_failed rules past session (record share { is_standard = b }))) p may
     ∙ ap (λ t. failed_as (first_failed rules past session (record share { is_standard = t })))
-    (standard-agrees past session share (admitted-channel rules past session share with is))
+    (standard-agrees past session share (admission-channel rules past session share with is))
     ∙ ap (λ r. failed_as (last_failed rules past share r)) is ∙ ap failed_as n)
 
 -- a token is granted
@@ -344,12 +339,12 @@ step_in-legal rules past worker session entered (request.Update id target) p may
     class-legal rules past worker session entered id target p may c w.0 w.1)
 step_in-legal rules past worker session entered (request.Close id) p may =
     close-legal rules past worker session entered id p may (own_channel past session id) refl
-step_in-legal rules past worker session entered (request.Brief sub) p may = no_event (admitted rules past session (share_of sub)) where
+step_in-legal rules past worker session entered (request.Brief sub) p may = no_event (admission rules past session (share_of sub)) where
   no_event : (r : Result Admitted Failed) → NoCause rules past (briefing rules r).event
   no_event (Ok with) = tt
   no_event (Err code) = tt
 step_in-legal rules past worker session entered (request.Commit checked) p may =
-    commit-legal rules past worker session entered (share_of checked.sub) p may (admitted rules past session (share_of checked.sub)) refl
+    commit-legal rules past worker session entered (share_of checked.sub) p may (admission rules past session (share_of checked.sub)) refl
 step_in-legal rules past worker session entered (request.Poll from) p may = tt
 step_in-legal rules past worker session entered (request.Grant identity path) p may =
     grant-legal rules past worker session entered (account_of identity) path p may

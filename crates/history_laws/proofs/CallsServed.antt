@@ -1,15 +1,14 @@
 -- Calls that part a history keep it legal.
-use Rattle.std.proofs.Common.{◌≡◌, ℕ, List, [], ◌∷◌, ◌++◌, take, refl, subst, sym, ◌∙◌}
+use Rattle.std.proofs.Common.{List, [], ◌∷◌, ◌++◌, take, subst, sym}
 use Rattle.std.proofs.lemmas.List.{append-nil}
 use Rattle.std.specs.List.{AllByRecursion}
 use Rattle.calls.proofs.Behind.{all-kept, its-front}
 use Rattle.calls.specs.Calls.{Faulted, IsOutcome, Outcome, Replied}
-use Rattle.pool_history.specs.declared.asking.Request.TheVariants as request
 use Rattle.pool_history.specs.declared.events.Event.{Event}
 use Rattle.pool_history.specs.declared.refusals.BookError.{BookError}
 use Rattle.pool_history.specs.declared.replies.Reply.{Reply}
 use Rattle.pool_history.specs.Answering.{Answer}
-use Rattle.pool_history.specs.Calls.{IsGoodPoolCall, PoolCall, wants_memory}
+use Rattle.pool_history.specs.Calls.{PoolCall, wants_memory}
 use Rattle.pool_history.specs.Legal.{Legal}
 use Rattle.history_laws.specs.Serving.{CallsAreAnswered, CallsAreJudged, CallsKeepLegality}
 use Rattle.history_laws.proofs.Answering.{answers-legal}

@@ -10,7 +10,6 @@ use Rattle.coinbase.specs.Custom.{CustomTerms, custom_assembly, custom_parts, is
 use Rattle.coinbase.specs.Outputs.{outputs_of}
 use Rattle.coinbase.specs.declared.tx.TxOut.{TxOut}
 use Rattle.coinbase.specs.declared.error.OutputsError.TheVariants as custom
-use Rattle.pool_history.specs.Judging.{outputs_in}
 use Rattle.pool_base.specs.Results.{◌>>=◌}
 
 -- how long a list of three parts is
@@ -102,11 +101,14 @@ assembled-fits terms script parts h =
     let d = not_refused (nat_lt 65535 (whole_len (template_parts terms script))) (TooLong (whole_len (template_parts terms script))) (Ok (template_parts terms script)) parts c.1 in
     (parts-fit (template_parts terms script) (ltb-false 65535 (whole_len (template_parts terms script)) d.0), ltb-true terms.reward (2 ^ 40) c.0)
 
--- a miner's own coinbase that isn't refused pays less than 2^40
-pub some_outputs-same : (r : Result (List TxOut) ℕ) (outputs : List TxOut) → some_outputs r ≡ Ok outputs → outputs_in r ≡ outputs
-some_outputs-same (Err at) outputs h = absurd (err-ok h)
-some_outputs-same (Ok []) outputs h = absurd (err-ok h)
-some_outputs-same (Ok (first ∷ others)) outputs h = cc
+-- a miner's own coinbase that isn't refused has outputs, which pay less than 2^40
+pub some_outputs-read : (r : Result (List TxOut) ℕ) (outputs : List TxOut) → some_outputs r ≡ Ok outputs → (r ≡ Ok outputs) × (1 ≤ length outputs)
+some_outputs-read (Err at) outputs h = absurd (err-ok h)
+some_outputs-read (Ok []) outputs h = absurd (err-ok h)
+some_outputs-read (Ok (first ∷ others)) outputs h =
+    let same : first ∷ others ≡ outputs = cc in
+    let one : 1 ≤ length (first ∷ others) = omega arith in
+    (ap Ok same, subst (λ l. 1 ≤ length l) same one)
 
 pub without_foreign-same : (o : Option ℕ) (outputs told : List TxOut) → without_foreign o outputs ≡ Ok told → outputs ≡ told
 without_foreign-same None outputs told h = cc
@@ -116,15 +118,26 @@ pub first-of : {X Y E : Type 0} (r : Result X E) (f : X → Result Y E) (y : Y) 
 first-of (Ok x) f y h = (x, refl, h)
 first-of (Err e) f y h = absurd (err-ok h)
 
-pub outputs-pay : (terms : CustomTerms) (script : List ℕ) (told : Parts × ℕ) → custom_assembly terms script ≡ Ok told
-    → total (outputs_in (outputs_of terms.outputs)) < 2 ^ 40
+-- what a miner's own coinbase that isn't refused pays to
+pub record PaysOutputs (bytes : List ℕ) : Type 0 where
+  pub outputs : List TxOut
+  pub read : outputs_of bytes ≡ Ok outputs
+  pub some : 1 ≤ length outputs
+  pub small : total outputs < 2 ^ 40
+
+pub outputs-pay : (terms : CustomTerms) (script : List ℕ) (told : Parts × ℕ) → custom_assembly terms script ≡ Ok told → PaysOutputs terms.outputs
 outputs-pay terms script told h =
     let a = not_refused (nat_lt 88 (length terms.prefix)) (custom.ScriptTooLong (length terms.prefix)) (paying_outputs terms script >>= λ outputs. with_total terms outputs) told h in
     let b = first-of (paying_outputs terms script) (λ outputs. with_total terms outputs) told a.1 in
     let c = not_refused (nat_lt 1024 (length terms.outputs)) (custom.TooLong (length terms.outputs))
     (some_outputs (outputs_of terms.outputs) >>= λ outputs. without_foreign (position (is_foreign script) outputs) outputs) b.0 b.1 in
     let d = first-of (some_outputs (outputs_of terms.outputs)) (λ outputs. without_foreign (position (is_foreign script) outputs) outputs) b.0 c.1 in
-    let same : outputs_in (outputs_of terms.outputs) ≡ b.0 =
-    some_outputs-same (outputs_of terms.outputs) d.0 d.1 ∙ without_foreign-same (position (is_foreign script) d.0) d.0 b.0 d.2 in
+    let r = some_outputs-read (outputs_of terms.outputs) d.0 d.1 in
+    let same : d.0 ≡ b.0 = without_foreign-same (position (is_foreign script) d.0) d.0 b.0 d.2 in
     let e = kept_ok (nat_lt (total b.0) (2 ^ 40)) (custom.RewardTooLarge (total b.0)) (Ok (custom_parts terms (length b.0), total b.0)) told b.2 in
-    subst (λ outputs. total outputs < 2 ^ 40) (sym same) (ltb-true (total b.0) (2 ^ 40) e.0)
+    record {
+      outputs = d.0;
+      read = r.0;
+      some = r.1;
+      small = subst (λ outputs. total outputs < 2 ^ 40) (sym same) (ltb-true (total b.0) (2 ^ 40) e.0);
+    }

@@ -1,5 +1,5 @@
 -- The limits of a legal history.
-use Rattle.std.proofs.Common.{◌⊎◌, inl, inr, ◌≡◌, ℕ, ◌+◌, ◌<◌, ◌≤◌, Bool, true, false, cond, ◌||◌, not, Option, None, Some, List, [], ◌∷◌, length, refl, ap, subst, sym, ◌∙◌, arith}
+use Rattle.std.proofs.Common.{◌⊎◌, inl, inr, ◌≡◌, ℕ, ◌+◌, ◌<◌, ◌≤◌, Bool, true, false, ◌||◌, Option, None, Some, List, [], ◌∷◌, length, refl, ap, subst, sym, ◌∙◌, arith}
 use Rattle.std.proofs.Math.Dec.{eqb}
 use Rattle.std.proofs.lemmas.Bool.{cond_both, eqb-true, false≢true, leb-false, ltb-true, not-true, or_cases, or_left, or_parts, or_right}
 use Rattle.std.proofs.lemmas.Map.Steps.{length-le_from_distinct_below}
@@ -11,7 +11,6 @@ use Rattle.pool_history.specs.declared.causes.Cause.TheVariants as cause
 use Rattle.pool_history.specs.declared.events.Event.{Event}
 use Rattle.pool_history.specs.declared.events.Event.TheVariants as event
 use Rattle.pool_history.specs.declared.refusals.CustomError.TheVariants as custom
-use Rattle.pool_history.specs.declared.refusals.Failed.TheVariants as failed
 use Rattle.pool_history.specs.declared.refusals.GrantError.{GrantError}
 use Rattle.pool_history.specs.declared.refusals.GrantError.TheVariants as grant
 use Rattle.pool_history.specs.declared.refusals.JobError.TheVariants as job_error
@@ -33,11 +32,6 @@ use Rattle.pool_history.specs.declared.events.Role.{Role}
 use Rattle.pool_history.specs.declared.templates.TemplateData.{TemplateData}
 use Rattle.pool_history.specs.declared.events.Kind.{Kind}
 
--- the first of several refusals
-pub first-false : {X : Type 0} (b : Bool) (x : X) (r : Option X) → cond b (Some x) r ≡ None → (b ≡ false) × (r ≡ None)
-first-false true x r n = absurd (some-none n)
-first-false false x r n = (refl, n)
-
 -- an accepted Enter, Template and Grant
 pub entered-few : (past : List Event) (worker : ℕ) (role : Role) (flags : ℕ)
     → cause_of past (event.Enter worker role flags) ≡ None → enters past < most_enters
@@ -53,7 +47,7 @@ came-few past session template n =
     let none : template_refusal u.rules.pool_script past template ≡ None =
     refused-none cause.BadTemplate (template_refusal u.rules.pool_script past template)
     (within-next may_feed past session (refused_as cause.BadTemplate (template_refusal u.rules.pool_script past template)) u.none) in
-    leb-false most_templates (templates past) (first-false (nat_le most_templates (templates past)) (job_error.TooMany (templates past)) _ none).0
+    ltb-true (templates past) most_templates (provided-both (nat_lt (templates past) most_templates) (job_error.TooMany (templates past)) _ none).0
 
 pub grant-none : (o : Option GrantError) → grant_cause o ≡ None → o ≡ None
 grant-none None n = refl
@@ -67,8 +61,8 @@ granted-few past session account fixed path n =
     let u : IsUncaused past (event.Grant session account fixed path) = uncaused past (event.Grant session account fixed path) refl n in
     let none : grant_refusal u.rules past account path ≡ None =
     grant-none (grant_refusal u.rules past account path) (within-next may_select_work past session (grant_cause (grant_refusal u.rules past account path)) u.none) in
-    let more = first-false (not (is_known u.rules account)) grant.UnknownUser _ none in
-    leb-false most_grants (grants past) (first-false (nat_le most_grants (grants past)) (grant.TooManyGrants (grants past)) _ more.1).0
+    let more = provided-both (is_known u.rules account) grant.UnknownUser _ none in
+    ltb-true (grants past) most_grants (provided-both (nat_lt (grants past) most_grants) (grant.TooManyGrants (grants past)) _ more.1).0
 
 pub opened-few : (past : List Event) (session : ℕ) (k : Kind) (account : List ℕ) (class : ℕ) (lead : List ℕ)
     → cause_of past (event.Open session k account class lead) ≡ None → opens past < most_opens

@@ -1,5 +1,5 @@
 -- The headers of all credits are those of the Credits by their places.
-use Rattle.std.proofs.Common.{◌⊎◌, inl, inr, ◌≡◌, ℕ, Bool, true, false, ◌||◌, Option, None, Some, List, [], ◌∷◌, ◌++◌, reverse, refl, ap, subst, sym, ◌∙◌, append_assoc}
+use Rattle.std.proofs.Common.{◌⊎◌, inl, inr, ◌≡◌, ℕ, true, Option, None, Some, List, [], ◌∷◌, ◌++◌, reverse, refl, ap, subst, sym, ◌∙◌, append_assoc}
 use Rattle.std.proofs.lemmas.Bool.{false≢true, or_cases, or_left, or_right}
 use Rattle.std.proofs.lemmas.List.{reverse-append, reverse-reverse}
 use Rattle.std.proofs.lemmas.List.Folds.{list_any-append}
@@ -8,8 +8,8 @@ use Rattle.std.specs.List.{list_any}
 use Rattle.std.specs.Str.{bytes_eq}
 use Rattle.pool_history.specs.declared.events.Event.{Event}
 use Rattle.pool_history.specs.declared.events.Event.TheVariants as event
-use Rattle.pool_history.specs.Crediting.{booked_with, credit_share, headers, listed}
-use Rattle.pool_history.specs.Judging.{Admitted, Share, rebuilt}
+use Rattle.pool_history.specs.Crediting.{booked_with, credit_share, headers, found_list}
+use Rattle.pool_history.specs.Judging.{Admitted, Share, rebuilt_header}
 use Rattle.pool_history.specs.Legal.{Legal}
 use Rattle.pool_history.specs.Sessions.{past_of, script_of}
 use Rattle.history_laws.specs.Credited.{CreditsHaveHeaders, IsBookedAfter, share_in}
@@ -17,6 +17,7 @@ use Rattle.history_laws.specs.NineConditions.{HasCredited, HeadersByPlaces}
 use Rattle.history_laws.proofs.Crediting.{Added, added-later, credits-booked}
 use Rattle.history_laws.proofs.Holding.{bytes_eq-self}
 use Rattle.history_laws.proofs.Legalities.{past-append, past-one, prefixes_legal}
+use Rattle.history_laws.proofs.RebuiltWith.{booked-placed, placed-booked}
 
 -- one event more
 further : (older : List Event) (e : Event) (header : List ℕ) → HasCredited (reverse older) header → HasCredited (reverse (e ∷ older)) header
@@ -39,7 +40,7 @@ further older e header h = record {
 
 -- the header that a Credit adds
 abbrev header-with : List Event → ℕ → ℕ → ℕ → ℕ → ℕ → List ℕ → Admitted → List ℕ
-header-with older channel job nonce ntime version extranonce with = rebuilt (script_of older) with (credit_share with channel job nonce ntime version extranonce)
+header-with older channel job nonce ntime version extranonce with = rebuilt_header (script_of older) with (credit_share with channel job nonce ntime version extranonce)
 
 here : (older : List Event) (session channel job nonce ntime version : ℕ) (extranonce header : List ℕ) (with : Admitted) → booked_with older channel job ≡ Some with
     → header-with older channel job nonce ntime version extranonce with ≡ header
@@ -56,7 +57,7 @@ here older session channel job nonce ntime version extranonce header with is sam
   after = [];
   parts = reverse-append (event.Credit session channel job nonce ntime version extranonce ∷ []) older;
   with = with;
-  is_with = ap (λ past. booked_with past channel job) (reverse-reverse older) ∙ is;
+  is_with = booked-placed (reverse older) channel job with (ap (λ past. booked_with past channel job) (reverse-reverse older) ∙ is);
   is_header = ap (λ past. header-with past channel job nonce ntime version extranonce with) (reverse-reverse older) ∙ same;
 }
 
@@ -68,7 +69,7 @@ credited-there (event.Credit session channel job nonce ntime version extranonce 
       f with = header-with older channel job nonce ntime version extranonce with
 
       by : (o : Option Admitted) → booked_with older channel job ≡ o
-          → list_any (bytes_eq header) (listed (λ with. header-with older channel job nonce ntime version extranonce with) o ++ headers older) ≡ true
+          → list_any (bytes_eq header) (found_list (λ with. header-with older channel job nonce ntime version extranonce with) o ++ headers older) ≡ true
           → (list_any (bytes_eq header) (headers older) ≡ true → HasCredited (reverse (event.Credit session channel job nonce ntime version extranonce ∷ older)) header)
           → HasCredited (reverse (event.Credit session channel job nonce ntime version extranonce ∷ older)) header
       by None is g rest = rest g
@@ -91,7 +92,7 @@ among-headers history header h =
     ∙ ap (λ l. past_of h.after ++ l) (past-one h.before c) in
     let a : Added (past_of h.after) (c ∷ past) = added-later (past_of h.after) (c ∷ past) in
     let own : headers (c ∷ past) ≡ header ∷ headers past =
-    ap (λ o. listed (λ with. header-with past h.channel h.job h.nonce h.ntime h.version h.extranonce with) o ++ headers past) h.is_with
+    ap (λ o. found_list (λ with. header-with past h.channel h.job h.nonce h.ntime h.version h.extranonce with) o ++ headers past) (placed-booked h.before h.channel h.job h.with h.is_with)
     ∙ ap (λ x. x ∷ headers past) h.is_header in
     let all : headers (past_of history) ≡ a.more_headers ++ header ∷ headers past =
     ap headers parts ∙ a.headers_are ∙ ap (λ l. a.more_headers ++ l) own in
@@ -111,7 +112,7 @@ credits-have_headers before after session channel job nonce ntime version extran
     let share : Share = share_in before channel job nonce ntime version extranonce in
     let front : Legal (before ++ c ∷ []) = prefixes_legal (before ++ c ∷ []) after (subst Legal (sym (append_assoc before (c ∷ []) after)) l) in
     let was : IsBookedAfter before session share c = credits-booked before session channel job nonce ntime version extranonce front in
-    let header : List ℕ = rebuilt was.rules.pool_script was.with share in
+    let header : List ℕ = rebuilt_header was.rules.pool_script was.with share in
     let a : Added (past_of after) (past_of (before ++ c ∷ [])) = added-later (past_of after) (past_of (before ++ c ∷ [])) in
     let all : headers (past_of (before ++ c ∷ after)) ≡ a.more_headers ++ header ∷ headers (past_of before) =
     ap (λ h. headers (past_of h)) (sym (append_assoc before (c ∷ []) after)) ∙ ap headers (past-append (before ++ c ∷ []) after)

@@ -6,7 +6,6 @@ use Rattle.std.specs.Option.{option_and_then, option_map}
 use Rattle.std.specs.List.{list_any}
 use Rattle.std.specs.Str.{bytes_eq}
 use Rattle.block_header.specs.Hash.{dsha, meets}
-use Rattle.pool_base.specs.Results.{◌>>=◌}
 use Rattle.pool_history.specs.declared.events.Event.{Event}
 use Rattle.pool_history.specs.declared.events.Event.TheVariants as event
 use Rattle.pool_history.specs.declared.refusals.Failed.{Failed}
@@ -15,11 +14,11 @@ use Rattle.pool_history.specs.declared.settings.Rules.{Rules}
 use Rattle.pool_history.specs.Accounts.{are_distinct}
 use Rattle.pool_history.specs.Channels.{OpenChannel, channel_in, channels_of}
 use Rattle.pool_history.specs.Conditions.{or_code, found, provided}
-use Rattle.pool_history.specs.Crediting.{Booked, bookings_of, booked_with, booking, admitted_class, credit_share, first_failed, headers, last_failed, listed}
-use Rattle.pool_history.specs.Headers.{rolled}
+use Rattle.pool_history.specs.Crediting.{Booked, bookings_of, booked_with, booking, admitted_class, credit_share, first_failed, headers, last_failed, found_list}
+use Rattle.pool_history.specs.Headers.{rolled_length}
 use Rattle.pool_history.specs.declared.templates.TipData.{TipData}
 use Rattle.pool_history.specs.Jobs.{Job, jobs_of, live_job}
-use Rattle.pool_history.specs.Judging.{Admitted, Share, admitted, is_in_time, is_known_job, is_version, rebuilt, serves}
+use Rattle.pool_history.specs.Judging.{Admitted, Share, admission, is_in_time, is_known_job, is_version, rebuilt_header, serves}
 use Rattle.pool_history.specs.Legal.{LegalPast, cause_of, failed_as, is_standard_in, may_mine}
 use Rattle.pool_history.specs.Sessions.{credits, past_of, rules_of, script_of, script_in}
 use Rattle.history_laws.specs.Credited.{CreditsAreBooked, NoShareTwice}
@@ -30,28 +29,39 @@ use Rattle.history_laws.proofs.Entrances.{none-some, some-same}
 use Rattle.history_laws.proofs.Judged.{ok-same}
 use Rattle.history_laws.proofs.Legalities.{one_more_legal, past-append, past-one, some-none}
 
--- a channel, a job and a tip in one
-abbrev with_all : OpenChannel → Job → TipData → Admitted
-with_all channel job tip = record { channel = channel; job = job; tip = tip }
+-- a channel, a job, since when it is live and a tip in one
+abbrev pub with_all : OpenChannel → Job → ℕ → TipData → Admitted
+with_all channel job place tip = record { channel = channel; job = job; live_at = place; tip = tip }
 
-pub admitted-booked : (rules : Rules) (past : List Event) (session : ℕ) (share : Share) (with : Admitted) → admitted rules past session share ≡ Ok with
+-- of a channel, of a live job, and of since when that is live
+abbrev pub with_tip : List Event → OpenChannel → Job → ℕ → Option Admitted
+with_tip past there live place = option_map (λ tip. with_all there live place tip) (jobs_of past).tip
+
+abbrev pub with_place : List Event → OpenChannel → Job → Option Admitted
+with_place past there live = option_and_then (λ place. with_tip past there live place) live.live_at
+
+abbrev pub with_job : List Event → ℕ → OpenChannel → Option Admitted
+with_job past job there = option_and_then (λ live. with_place past there live) (live_job (jobs_of past) job)
+
+pub admission-booked : (rules : Rules) (past : List Event) (session : ℕ) (share : Share) (with : Admitted) → admission rules past session share ≡ Ok with
     → booked_with past share.channel share.job ≡ Some with
-admitted-booked rules past session share with h =
+admission-booked rules past session share with h =
     let o : Option OpenChannel = channel_in (channels_of past) share.channel in
     let a = first-ok (found failed.Channel o) _ with h in
     let b = first-ok (provided (serves session share a.0) failed.Channel a.0) _ with a.2 in
-    let c = first-ok (provided (nat_eq (length share.extranonce) (rolled b.0.kind b.0.lead)) failed.ExtranonceSize b.0) _ with b.2 in
+    let c = first-ok (provided (nat_eq (length share.extranonce) (rolled_length b.0.kind b.0.lead)) failed.ExtranonceSize b.0) _ with b.2 in
     let d = first-ok (provided (is_known_job (jobs_of past) share) failed.Job b.0) _ with c.2 in
     let e = first-ok (found failed.Stale (live_job (jobs_of past) share.job)) _ with d.2 in
-    let f = first-ok (found failed.Stale (jobs_of past).tip) _ with e.2 in
+    let p = first-ok (found failed.Stale e.0.live_at) _ with e.2 in
+    let f = first-ok (found failed.Stale (jobs_of past).tip) _ with p.2 in
     let g = first-ok (provided (is_version rules e.0.source share.version) failed.Version b.0) _ with f.2 in
     let k = first-ok (provided (is_in_time rules e.0.source f.0 share.ntime) failed.Ntime b.0) _ with g.2 in
     let same : a.0 ≡ b.0 = (provided-ok (serves session share a.0) failed.Channel a.0 b.0 b.1).1 in
-    ap (option_and_then (λ there. option_and_then (λ live. option_map (λ tip. with_all there live tip) (jobs_of past).tip) (live_job (jobs_of past) share.job)))
-    (found-some failed.Channel o a.0 a.1)
-    ∙ ap (option_and_then (λ live. option_map (λ tip. with_all a.0 live tip) (jobs_of past).tip)) (found-some failed.Stale (live_job (jobs_of past) share.job) e.0 e.1)
-    ∙ ap (option_map (λ tip. with_all a.0 e.0 tip)) (found-some failed.Stale (jobs_of past).tip f.0 f.1)
-    ∙ ap (λ x. Some (with_all x e.0 f.0)) same ∙ ap Some (ok-same k.2)
+    ap (option_and_then (with_job past share.job)) (found-some failed.Channel o a.0 a.1)
+    ∙ ap (option_and_then (with_place past a.0)) (found-some failed.Stale (live_job (jobs_of past) share.job) e.0 e.1)
+    ∙ ap (option_and_then (with_tip past a.0 e.0)) (found-some failed.Stale e.0.live_at p.0 p.1)
+    ∙ ap (option_map (λ tip. with_all a.0 e.0 p.0 tip)) (found-some failed.Stale (jobs_of past).tip f.0 f.1)
+    ∙ ap (λ x. Some (with_all x e.0 p.0 f.0)) same ∙ ap Some (ok-same k.2)
 
 -- a value that was found, and what was made of it
 pub then-some : {X Y : Type 0} (f : X → Option Y) (o : Option X) (y : Y) → option_and_then f o ≡ Some y → (x : X) × (o ≡ Some x) × (f x ≡ Some y)
@@ -66,17 +76,19 @@ map-some f (Some x) y h = (x, refl, some-same h)
 pub record WasFound (past : List Event) (channel job : ℕ) (with : Admitted) : Type 0 where
   pub channel_is : channel_in (channels_of past) channel ≡ Some with.channel
   pub job_is : live_job (jobs_of past) job ≡ Some with.job
+  pub live_at_is : with.job.live_at ≡ Some with.live_at
   pub tip_is : (jobs_of past).tip ≡ Some with.tip
 
 pub booked-found : (past : List Event) (channel job : ℕ) (with : Admitted) → booked_with past channel job ≡ Some with → WasFound past channel job with
 booked-found past channel job with h =
-    let a = then-some (λ there. option_and_then (λ live. option_map (λ tip. with_all there live tip) (jobs_of past).tip) (live_job (jobs_of past) job))
-    (channel_in (channels_of past) channel) with h in
-    let b = then-some (λ live. option_map (λ tip. with_all a.0 live tip) (jobs_of past).tip) (live_job (jobs_of past) job) with a.2 in
-    let c = map-some (λ tip. with_all a.0 b.0 tip) (jobs_of past).tip with b.2 in
+    let a = then-some (with_job past job) (channel_in (channels_of past) channel) with h in
+    let b = then-some (with_place past a.0) (live_job (jobs_of past) job) with a.2 in
+    let p = then-some (with_tip past a.0 b.0) b.0.live_at with b.2 in
+    let c = map-some (λ tip. with_all a.0 b.0 p.0 tip) (jobs_of past).tip with p.2 in
     record {
       channel_is = a.1 ∙ ap (λ w. Some w.channel) c.2;
       job_is = b.1 ∙ ap (λ w. Some w.job) c.2;
+      live_at_is = ap (λ w. w.job.live_at) (sym c.2) ∙ p.1 ∙ ap (λ w. Some w.live_at) c.2;
       tip_is = c.1 ∙ ap (λ w. Some w.tip) c.2;
     }
 
@@ -93,16 +105,16 @@ kept-both false x y n = absurd (some-none n)
 -- a share that no condition fails
 pub record IsGood (rules : Rules) (past : List Event) (session : ℕ) (share : Share) : Type 0 where
   pub with : Admitted
-  pub is_admitted : admitted rules past session share ≡ Ok with
-  pub meets_class : meets (dsha (rebuilt rules.pool_script with share)) (admitted_class with) ≡ true
-  pub header_new : list_any (bytes_eq (rebuilt rules.pool_script with share)) (headers past) ≡ false
+  pub is_admitted : admission rules past session share ≡ Ok with
+  pub meets_class : meets (dsha (rebuilt_header rules.pool_script with share)) (admitted_class with) ≡ true
+  pub header_new : list_any (bytes_eq (rebuilt_header rules.pool_script with share)) (headers past) ≡ false
   pub room : nat_lt (credits past) rules.credit_limit ≡ true
 
-pub good_by : (rules : Rules) (past : List Event) (session : ℕ) (share : Share) (r : Result Admitted Failed) → admitted rules past session share ≡ r
+pub good_by : (rules : Rules) (past : List Event) (session : ℕ) (share : Share) (r : Result Admitted Failed) → admission rules past session share ≡ r
     → last_failed rules past share r ≡ None → IsGood rules past session share
 good_by rules past session share (Err code) is n = absurd (some-none n)
 good_by rules past session share (Ok with) is n =
-    let header : List ℕ = rebuilt rules.pool_script with share in
+    let header : List ℕ = rebuilt_header rules.pool_script with share in
     let full : Option Failed = or_code (nat_lt (credits past) rules.credit_limit) failed.Full None in
     let twice : Option Failed = or_code (not (list_any (bytes_eq header) (headers past))) failed.Duplicate full in
     let a = provided-both (meets (dsha header) (admitted_class with)) failed.Difficulty twice n in
@@ -147,12 +159,12 @@ good_credit past session channel job nonce ntime version extranonce n =
     let u : IsUncaused past e = uncaused past e refl n in
     let none : first_failed u.rules past session share ≡ None =
     failed-none (first_failed u.rules past session share) (within-next may_mine past session (failed_as (first_failed u.rules past session share)) u.none) in
-    record { rules = u.rules; are_rules = u.are_rules; good = good_by u.rules past session share (admitted u.rules past session share) refl none }
+    record { rules = u.rules; are_rules = u.are_rules; good = good_by u.rules past session share (admission u.rules past session share) refl none }
 
 -- what it adds
 pub record Adds (past : List Event) (session : ℕ) (share : Share) (e : Event) (g : IsGoodCredit past session share) : Type 0 where
   pub is_booked : booked_with past share.channel share.job ≡ Some g.good.with
-  pub header : headers (e ∷ past) ≡ rebuilt g.rules.pool_script g.good.with share ∷ headers past
+  pub header : headers (e ∷ past) ≡ rebuilt_header g.rules.pool_script g.good.with share ∷ headers past
   pub counts : bookings_of (e ∷ past) ≡ booking g.rules.pool_script share g.good.with ∷ bookings_of past
 
 pub credit-adds : (past : List Event) (session channel job nonce ntime version : ℕ) (extranonce : List ℕ)
@@ -161,7 +173,7 @@ pub credit-adds : (past : List Event) (session channel job nonce ntime version :
 credit-adds past session channel job nonce ntime version extranonce g =
     let share : Share = judged_share past channel job nonce ntime version extranonce in
     let with : Admitted = g.good.with in
-    let is : booked_with past channel job ≡ Some with = admitted-booked g.rules past session share with g.good.is_admitted in
+    let is : booked_with past channel job ≡ Some with = admission-booked g.rules past session share with g.good.is_admitted in
     let there : channel_in (channels_of past) channel ≡ Some with.channel = booked-channel past channel job with is in
     let same : credit_share with channel job nonce ntime version extranonce ≡ share =
     ap (λ b. record share { is_standard = b }) (sym (ap is_standard_in there)) in
@@ -169,11 +181,11 @@ credit-adds past session channel job nonce ntime version extranonce g =
     record {
       is_booked = is;
       header =
-          ap (λ r. listed (λ w. rebuilt (script_of past) w (credit_share w channel job nonce ntime version extranonce)) r ++ headers past) is
-          ∙ ap (λ s. rebuilt s with (credit_share with channel job nonce ntime version extranonce) ∷ headers past) script
-          ∙ ap (λ s. rebuilt g.rules.pool_script with s ∷ headers past) same;
+          ap (λ r. found_list (λ w. rebuilt_header (script_of past) w (credit_share w channel job nonce ntime version extranonce)) r ++ headers past) is
+          ∙ ap (λ s. rebuilt_header s with (credit_share with channel job nonce ntime version extranonce) ∷ headers past) script
+          ∙ ap (λ s. rebuilt_header g.rules.pool_script with s ∷ headers past) same;
       counts =
-          ap (λ r. listed (λ w. booking (script_of past) (credit_share w channel job nonce ntime version extranonce) w) r ++ bookings_of past) is
+          ap (λ r. found_list (λ w. booking (script_of past) (credit_share w channel job nonce ntime version extranonce) w) r ++ bookings_of past) is
           ∙ ap (λ s. booking s (credit_share with channel job nonce ntime version extranonce) with ∷ bookings_of past) script
           ∙ ap (λ s. booking g.rules.pool_script s with ∷ bookings_of past) same;
     }
@@ -211,7 +223,7 @@ credits-counted (event.Credit session channel job nonce ntime version extranonce
     let a : Adds older session (judged_share older channel job nonce ntime version extranonce) (event.Credit session channel job nonce ntime version extranonce) g =
     credit-adds older session channel job nonce ntime version extranonce g in
     let c : Counted older = credits-counted older l.0 in
-    let header : List ℕ = rebuilt g.rules.pool_script g.good.with (judged_share older channel job nonce ntime version extranonce) in
+    let header : List ℕ = rebuilt_header g.rules.pool_script g.good.with (judged_share older channel job nonce ntime version extranonce) in
     record {
       of_headers = ap length a.header ∙ one (headers older) header c.of_headers;
       of_credits = ap length a.counts ∙ one (bookings_of older) (booking g.rules.pool_script (judged_share older channel job nonce ntime version extranonce) g.good.with) c.of_credits;
@@ -243,9 +255,9 @@ added-later (event.Credit session channel job nonce ntime version extranonce ∷
     let a : Added later past = added-later later past in
     let older : List Event = later ++ past in
     let hs : List (List ℕ) =
-    listed (λ w. rebuilt (script_of older) w (credit_share w channel job nonce ntime version extranonce)) (booked_with older channel job) in
+    found_list (λ w. rebuilt_header (script_of older) w (credit_share w channel job nonce ntime version extranonce)) (booked_with older channel job) in
     let bs : List Booked =
-    listed (λ w. booking (script_of older) (credit_share w channel job nonce ntime version extranonce) w) (booked_with older channel job) in
+    found_list (λ w. booking (script_of older) (credit_share w channel job nonce ntime version extranonce) w) (booked_with older channel job) in
     record {
       more_headers = hs ++ a.more_headers;
       headers_are = ap (λ l. hs ++ l) a.headers_are ∙ sym (append_assoc hs a.more_headers (headers past));

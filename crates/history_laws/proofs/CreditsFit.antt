@@ -23,9 +23,9 @@ use Rattle.pool_history.specs.Refusing.{own_channel}
 use Rattle.pool_history.specs.Sessions.{past_of}
 use Rattle.pool_history.proofs.PlacesOfClasses.{all-end, all-filter, all-map}
 use Rattle.history_laws.specs.Credited.{BookedFits, CreditsFit}
-use Rattle.history_laws.proofs.Answering.{HasChannel, admitted-channel}
+use Rattle.history_laws.proofs.Answering.{HasChannel, admission-channel}
 use Rattle.history_laws.proofs.Causes.{IsOpening, IsUncaused, legal_opening, provided-both, uncaused, within-next}
-use Rattle.history_laws.proofs.Crediting.{Adds, IsGoodCredit, admitted-booked, booked-channel, credit-adds, good_credit, judged_share}
+use Rattle.history_laws.proofs.Crediting.{Adds, IsGoodCredit, admission-booked, booked-channel, credit-adds, good_credit, judged_share}
 use Rattle.history_laws.proofs.Entrances.{none-some, some-same}
 use Rattle.history_laws.proofs.Holding.{all-find}
 use Rattle.history_laws.proofs.JobsFit.{IsMiners, TemplateFits, jobs-fit}
@@ -123,7 +123,7 @@ pub source-pays : (script : List ℕ) (source : Source) → TemplateFits script 
 source-pays script (FromTemplate template) (inl f) = f.1
 source-pays script (FromTemplate template) (inr m) = elim m [ ]
 source-pays script (FromMiner custom) (inl f) = elim f [ ]
-source-pays script (FromMiner custom) (inr m) = m
+source-pays script (FromMiner custom) (inr m) = subst (λ n. n < 2 ^ 40) (sym m.reward) m.small
 
 pub block-pays : (b : Bool) (pays reward : ℕ) → pays < 2 ^ 40 → cond b (Some pays) None ≡ Some reward → reward < 2 ^ 40
 block-pays true pays reward few is = let same : pays ≡ reward = some-same is in omega (arith, same, few)
@@ -135,8 +135,8 @@ pub credit-fits : (past : List Event) (session channel job nonce ntime version :
 credit-fits past session channel job nonce ntime version extranonce l g =
     let share : Share = judged_share past channel job nonce ntime version extranonce in
     let with : Admitted = g.good.with in
-    let h : HasChannel past session share = admitted-channel g.rules past session share with g.good.is_admitted in
-    let is = admitted-booked g.rules past session share with g.good.is_admitted in
+    let h : HasChannel past session share = admission-channel g.rules past session share with g.good.is_admitted in
+    let is = admission-booked g.rules past session share with g.good.is_admitted in
     let there : channel_in (channels_of past) channel ≡ Some with.channel = booked-channel past channel job with is in
     let same : h.channel ≡ with.channel = some-same (sym h.is_open ∙ there) in
     let sized : IsSized with.channel = all-find IsSized (λ d. eqb d.id channel) (channels_of past) with.channel (channels-sized past l) there in
@@ -151,7 +151,7 @@ credit-fits past session channel job nonce ntime version extranonce l g =
       some = subst (λ c. 1 ≤ length c.account) same (let few : 0 < length h.channel.account = ltb-true 0 (length h.channel.account) served in omega (arith, few));
       short = sized.account;
       least = work-least (admitted_class with);
-      most = work-most (admitted_class with) (sized.class with.job.since);
+      most = work-most (admitted_class with) (sized.class with.live_at);
       reward = λ reward told. block-pays (is_block g.rules.pool_script with share) (reward_of with.job.source) reward pays told;
     }
 

@@ -4,8 +4,7 @@ use Rattle.std.proofs.lemmas.Bool.{cond_both}
 use Rattle.std.specs.Prelude.{bit_and, nat_lt}
 use Rattle.std.specs.List.{AllByRecursion}
 use Rattle.std.specs.Option.{option_to_list}
-use Rattle.calls.proofs.Behind.{all-map, callers-go_on, its-front}
-use Rattle.calls.specs.Calls.{IsOutcome, RiseFrom}
+use Rattle.calls.proofs.Behind.{all-map, callers-go_on}
 use Rattle.calls.specs.Standing.{StandInOrder, StandsBehind}
 use Rattle.pool_history.specs.declared.asking.Request.TheVariants as request
 use Rattle.pool_history.specs.declared.events.Event.{Event}
@@ -14,8 +13,8 @@ use Rattle.pool_history.specs.declared.events.Role.{Role}
 use Rattle.pool_history.specs.declared.replies.Reply.{Reply}
 use Rattle.pool_history.specs.declared.replies.Reply.TheVariants as reply
 use Rattle.pool_history.specs.declared.settings.Rules.{Rules}
-use Rattle.pool_history.specs.Answering.{Answer, Effect, entering, with_event, step_under, without_event}
-use Rattle.pool_history.specs.Calls.{IsGoodPoolCall, PoolCall, wants_memory}
+use Rattle.pool_history.specs.Answering.{Answer, Effect, with_event, step_under, without_event}
+use Rattle.pool_history.specs.Calls.{IsGoodPoolCall, PoolCall}
 use Rattle.pool_history.specs.Legal.{allowed_flags}
 use Rattle.pool_history.specs.Refusing.{most_enters}
 use Rattle.pool_history.specs.Sessions.{enters, past_of, rules_of}

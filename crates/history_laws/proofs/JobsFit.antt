@@ -1,12 +1,11 @@
 -- What a legal history owes to its sessions can be told.
-use Rattle.std.proofs.Common.{◌⊎◌, inl, inr, ◌≡◌, ℕ, ◌+◌, Bool, true, false, cond, ◌&&◌, not, Option, None, Some, Result, Ok, Err, List, [], ◌∷◌, ◌++◌, length, refl, subst, sym, ◌∙◌, ◌<◌, ◌^◌}
+use Rattle.std.proofs.Common.{◌⊎◌, inl, inr, ◌≡◌, ℕ, ◌+◌, Bool, true, false, ◌||◌, not, is_some, Option, None, Some, Result, Ok, Err, List, [], ◌∷◌, ◌++◌, length, refl, ap, subst, sym, ◌∙◌, ◌<◌, ◌^◌}
 use Rattle.std.proofs.lemmas.Bool.{cond_both}
-use Rattle.std.specs.Prelude.{is_none, nat_le, nat_lt}
+use Rattle.std.specs.Prelude.{nat_le, nat_lt}
 use Rattle.pool_history.specs.declared.causes.Cause.{Cause}
 use Rattle.pool_history.specs.declared.causes.Cause.TheVariants as cause
 use Rattle.pool_history.specs.declared.events.Event.{Event}
 use Rattle.pool_history.specs.declared.events.Event.TheVariants as event
-use Rattle.pool_history.specs.declared.refusals.JobError.{JobError}
 use Rattle.pool_history.specs.declared.refusals.JobError.TheVariants as job_error
 use Rattle.pool_history.specs.declared.settings.Rules.{Rules}
 use Rattle.pool_history.specs.declared.templates.CustomData.{CustomData}
@@ -15,21 +14,22 @@ use Rattle.pool_history.specs.declared.templates.TipData.{TipData}
 use Rattle.coinbase.specs.Coin.{template_assembly, template_parts}
 use Rattle.coinbase.specs.Parts.{Parts}
 use Rattle.coinbase.specs.declared.error.AssemblyError.{AssemblyError}
-use Rattle.pool_history.specs.Jobs.{FromMiner, FromTemplate, Job, Source, Standing, future_in, jobs_of, made_live, with_custom, with_template, with_tip}
-use Rattle.pool_history.specs.Judging.{template_terms, custom_terms}
+use Rattle.pool_history.specs.Jobs.{FromMiner, FromTemplate, Job, Source, Standing, future_in, jobs_of, made_live, with_custom, with_template, with_tip, template_job, custom_job, live_at_once}
+use Rattle.pool_history.specs.Judging.{custom_terms, outputs_in, template_terms}
 use Rattle.pool_history.specs.Crediting.{reward_of}
 use Rattle.pool_history.specs.Channels.{OpenChannel}
-use Rattle.coinbase.specs.Custom.{custom_assembly}
+use Rattle.coinbase.specs.Custom.{custom_assembly, total}
 use Rattle.coinbase.specs.declared.error.OutputsError.{OutputsError}
 use Rattle.pool_history.specs.declared.refusals.CustomError.{CustomError}
 use Rattle.pool_history.specs.declared.refusals.CustomError.TheVariants as custom_error
 use Rattle.pool_history.specs.Legal.{LegalPast, cause_of, may_feed, refused_as, custom_cause, may_select_work}
 use Rattle.pool_history.specs.Refusing.{coinbase_refusal, is_template_known, most_templates, template_refusal, Granted, custom_refusal, is_bad_path, is_extended, is_other_tip, on_channel, outputs_refusal, over_tip, own_channel, unspent, with_token}
-use Rattle.pool_history.specs.Sessions.{rules_of, templates}
-use Rattle.history_laws.proofs.Causes.{IsUncaused, uncaused, within-next}
-use Rattle.history_laws.proofs.Coinbases.{PartsFit, assembled-fits, outputs-pay}
+use Rattle.pool_history.specs.Sessions.{past_of, rules_of, templates}
+use Rattle.history_laws.proofs.Causes.{IsUncaused, provided-both, uncaused, within-next}
+use Rattle.history_laws.specs.Limits.{HasReadOutputs, OwnJobsAreRead}
+use Rattle.history_laws.proofs.Coinbases.{PaysOutputs, PartsFit, assembled-fits, outputs-pay}
 use Rattle.history_laws.proofs.Entrances.{none-some, some-same}
-use Rattle.history_laws.proofs.Legalities.{rules-older, some-none}
+use Rattle.history_laws.proofs.Legalities.{none_caused, rules-older, some-none}
 use Rattle.history_laws.proofs.Living.{In, WasFuture, in-end, in-last, in-left, in-sixteen, made-future}
 
 -- a template's coinbase is short enough, and its reward small enough
@@ -37,10 +37,10 @@ abbrev pub TemplateFits : List ℕ → Source → Type 0
 TemplateFits script (FromTemplate template) = PartsFit (template_parts (template_terms template) script) × (reward_of (FromTemplate template) < 2 ^ 40)
 TemplateFits script (FromMiner custom) = ⊥
 
--- a miner's own reward is, too
+-- a miner's own outputs are read, and its reward is, too
 abbrev pub IsMiners : Source → Type 0
 IsMiners (FromTemplate template) = ⊥
-IsMiners (FromMiner custom) = reward_of (FromMiner custom) < 2 ^ 40
+IsMiners (FromMiner custom) = HasReadOutputs custom
 
 -- so are those of all jobs that are future or live
 pub record JobsFit (script : List ℕ) (s : Standing) : Type 0 where
@@ -49,10 +49,6 @@ pub record JobsFit (script : List ℕ) (s : Standing) : Type 0 where
   pub custom : (j : Job) → In j s.custom → IsMiners j.source
 
 -- what an accepted template says
-pub dropped-both : {X : Type 0} (b : Bool) (x : X) (r : Option X) → cond b (Some x) r ≡ None → r ≡ None
-dropped-both true x r n = absurd (some-none n)
-dropped-both false x r n = n
-
 pub coinbase-ok : (r : Result Parts AssemblyError) → coinbase_refusal r ≡ None → (parts : Parts) × (r ≡ Ok parts)
 coinbase-ok (Ok parts) n = (parts, refl)
 coinbase-ok (Err e) n = absurd (some-none n)
@@ -60,15 +56,11 @@ coinbase-ok (Err e) n = absurd (some-none n)
 pub accepted-fits : (script : List ℕ) (past : List Event) (template : TemplateData) → template_refusal script past template ≡ None
     → TemplateFits script (FromTemplate template)
 accepted-fits script past template n =
-    let last : Option JobError = coinbase_refusal (template_assembly (template_terms template) script) in
-    let third : Option JobError = cond (not template.future_template && is_none (jobs_of past).tip) (Some job_error.NoTip) last in
-    let second : Option JobError =
-    cond (is_template_known (jobs_of past) template.template_id) (Some (job_error.TemplateKnown template.template_id)) third in
-    let a : second ≡ None = dropped-both (nat_le most_templates (templates past)) (job_error.TooMany (templates past)) second n in
-    let b : third ≡ None =
-    dropped-both (is_template_known (jobs_of past) template.template_id) (job_error.TemplateKnown template.template_id) third a in
-    let c : last ≡ None = dropped-both (not template.future_template && is_none (jobs_of past).tip) job_error.NoTip last b in
-    let p : (parts : Parts) × (template_assembly (template_terms template) script ≡ Ok parts) = coinbase-ok (template_assembly (template_terms template) script) c in
+    let jobs : List Job = (jobs_of past).future ++ (jobs_of past).live in
+    let a = provided-both (nat_lt (templates past) most_templates) (job_error.TooMany (templates past)) _ n in
+    let b = provided-both (not (is_template_known jobs template.template_id)) (job_error.TemplateKnown template.template_id) _ a.1 in
+    let c = provided-both (template.future_template || is_some (jobs_of past).tip) job_error.NoTip _ b.1 in
+    let p : (parts : Parts) × (template_assembly (template_terms template) script ≡ Ok parts) = coinbase-ok (template_assembly (template_terms template) script) c.1 in
     assembled-fits (template_terms template) script p.0 p.1
 
 pub refused-none : {X : Type 0} (code : Cause) (o : Option X) → refused_as code o ≡ None → o ≡ None
@@ -94,15 +86,13 @@ pub tip-pays : (script : List ℕ) (granted : Granted) (offer : CustomData) (o :
     → IsMiners (FromMiner offer)
 tip-pays script granted offer None n = absurd (some-none n)
 tip-pays script granted offer (Some tip) n =
-    let last : Option CustomError = outputs_refusal (custom_assembly (custom_terms offer) script) in
-    let third : Option CustomError = cond (is_bad_path granted offer.merkle_path) (Some (custom_error.BadPath (length offer.merkle_path))) last in
-    let second : Option CustomError = cond (nat_lt offer.min_ntime tip.header_timestamp) (Some (custom_error.EarlyTime tip.header_timestamp)) third in
-    let a : second ≡ None = dropped-both (is_other_tip tip offer) custom_error.StaleTip second n in
-    let b : third ≡ None = dropped-both (nat_lt offer.min_ntime tip.header_timestamp) (custom_error.EarlyTime tip.header_timestamp) third a in
-    let c : last ≡ None = dropped-both (is_bad_path granted offer.merkle_path) (custom_error.BadPath (length offer.merkle_path)) last b in
+    let a = provided-both (not (is_other_tip tip offer)) custom_error.StaleTip _ n in
+    let b = provided-both (nat_le tip.header_timestamp offer.min_ntime) (custom_error.EarlyTime tip.header_timestamp) _ a.1 in
+    let c = provided-both (not (is_bad_path granted offer.merkle_path)) (custom_error.BadPath (length offer.merkle_path)) _ b.1 in
     let p : (told : Parts × ℕ) × (custom_assembly (custom_terms offer) script ≡ Ok told) =
-    assembled-ok (custom_assembly (custom_terms offer) script) c in
-    outputs-pay (custom_terms offer) script p.0 p.1
+    assembled-ok (custom_assembly (custom_terms offer) script) c.1 in
+    let o : PaysOutputs offer.coinbase_tx_outputs = outputs-pay (custom_terms offer) script p.0 p.1 in
+    record { outputs = o.outputs; read = o.read; some = o.some; reward = ap (λ r. total (outputs_in r)) o.read; small = o.small }
 
 pub token-pays : (script : List ℕ) (past : List Event) (offer : CustomData) (o : Option Granted) → with_token script past offer o ≡ None → IsMiners (FromMiner offer)
 token-pays script past offer None n = absurd (some-none n)
@@ -145,10 +135,10 @@ fits-template script s job true h f = record {
   of_end j (inr e) = subst (λ x. TemplateFits script x.source) (sym e) h
 fits-template script s job false h f = record {
   future = f.future;
-  live = λ j i. of_end j (in-end j s.live job (in-last j 64 (s.live ++ job ∷ []) i));
+  live = λ j i. of_end j (in-end j s.live (live_at_once job) (in-last j 64 (s.live ++ live_at_once job ∷ []) i));
   custom = f.custom;
 } where
-  of_end : (j : Job) → In j s.live ⊎ (j ≡ job) → TemplateFits script j.source
+  of_end : (j : Job) → In j s.live ⊎ (j ≡ live_at_once job) → TemplateFits script j.source
   of_end j (inl i) = f.live j i
   of_end j (inr e) = subst (λ x. TemplateFits script x.source) (sym e) h
 
@@ -165,9 +155,9 @@ pub fits-custom : (script : List ℕ) (s : Standing) (job : Job) (channel : ℕ)
 fits-custom script s job channel h f = record {
   future = f.future;
   live = f.live;
-  custom = λ j i. of_end j (in-end j s.custom job (in-sixteen j channel (s.custom ++ job ∷ []) i));
+  custom = λ j i. of_end j (in-end j s.custom (live_at_once job) (in-sixteen j channel (s.custom ++ live_at_once job ∷ []) i));
 } where
-  of_end : (j : Job) → In j s.custom ⊎ (j ≡ job) → IsMiners j.source
+  of_end : (j : Job) → In j s.custom ⊎ (j ≡ live_at_once job) → IsMiners j.source
   of_end j (inl i) = f.custom j i
   of_end j (inr e) = subst (λ x. IsMiners x.source) (sym e) h
 
@@ -177,11 +167,17 @@ jobs-fit (event.Start first ∷ []) rules l are = record { future = λ j i. elim
 jobs-fit (event.Start first ∷ x ∷ older) rules l are = jobs-fit (x ∷ older) rules l.0 (sym (rules-older (event.Start first) x older) ∙ are)
 jobs-fit (event.Template session template ∷ older) rules l are =
     let s : Standing = jobs_of older in
-    fits-template rules.pool_script s (record { number = length s.all + 1; session = session; since = length older; source = FromTemplate template })
+    fits-template rules.pool_script s (template_job (length s.all + 1) (length older) session template)
     template.future_template (legal-template older rules session template are l.1) (jobs-fit older rules l.0 are)
 jobs-fit (event.Tip session tip ∷ older) rules l are = fits-tip rules.pool_script (jobs_of older) tip (length older) (jobs-fit older rules l.0 are)
 jobs-fit (event.Custom session custom ∷ older) rules l are =
     let s : Standing = jobs_of older in
-    fits-custom rules.pool_script s (record { number = length s.all + 1; session = 0; since = length older; source = FromMiner custom }) custom.channel_id (legal-custom older rules session custom are l.1)
+    fits-custom rules.pool_script s (custom_job (length s.all + 1) (length older) custom) custom.channel_id (legal-custom older rules session custom are l.1)
     (jobs-fit older rules l.0 are)
 jobs-fit (e ∷ older) rules l are = jobs-fit older rules l.0 are
+
+pub own-jobs_read : OwnJobsAreRead
+own-jobs_read before after session custom l =
+    let none : cause_of (past_of before) (event.Custom session custom) ≡ None = none_caused (before ++ event.Custom session custom ∷ after) l before (event.Custom session custom) after refl in
+    let u : IsUncaused (past_of before) (event.Custom session custom) = uncaused (past_of before) (event.Custom session custom) refl none in
+    legal-custom (past_of before) u.rules session custom u.are_rules none

@@ -1,7 +1,7 @@
 -- What is kept of jobs says all that is read of them.
 use Rattle.std.proofs.Common.{◌⊎◌, inl, inr, ◌≡◌, ℕ, ◌+◌, ◌<◌, ◌≤◌, suc, Bool, true, false, ◌&&◌, ◌||◌, cond, not, Option, None, Some, List, [], ◌∷◌, ◌++◌, length, refl, ap, ap₂, subst, sym, ◌∙◌, arith}
 use Rattle.std.proofs.Math.Dec.{eqb}
-use Rattle.std.proofs.lemmas.Bool.{and_from, and_parts, eq-eqb, eqb-false, eqb-true, false≢true, le-leb, leb-false, leb-true, lt-ltb, ltb-true, ne_eqb, not_from_false}
+use Rattle.std.proofs.lemmas.Bool.{and_from, and_parts, eqb-false, eqb-true, false≢true, le-leb, leb-true, lt-ltb, ltb-true, ne_eqb}
 use Rattle.std.proofs.lemmas.List.{append-nil, length-append, length-reverse}
 use Rattle.std.specs.Prelude.{nat_eq, nat_le, nat_lt}
 use Rattle.std.specs.List.{flat_map, list_any}
@@ -11,7 +11,7 @@ use Rattle.pool_history.specs.declared.events.JobState.TheVariants as state
 use Rattle.pool_history.specs.declared.templates.CustomData.{CustomData}
 use Rattle.pool_history.specs.declared.templates.TemplateData.{TemplateData}
 use Rattle.pool_history.specs.ByPlaces.{jobs_from, jobs_in}
-use Rattle.pool_history.specs.Jobs.{Came, Tipped, Brought, Job, JobMove, Source, FromTemplate, FromMiner, Standing, at_most_sixteen, has_number, is_open_to, jobs_of, last_of, after_move, job_numbered, state_of}
+use Rattle.pool_history.specs.Jobs.{Came, Tipped, Brought, Job, JobMove, Source, FromTemplate, FromMiner, Standing, at_most_sixteen, has_number, is_open_to, jobs_of, last_of, after_move, job_numbered, state_of, template_job, custom_job, live_at_once}
 use Rattle.pool_history.specs.Judging.{is_known_state, is_mineable}
 use Rattle.pool_history.specs.Sessions.{past_of}
 use Rattle.pool_history.proofs.PlacesOfJobs.{jobs_are_by_places}
@@ -38,22 +38,22 @@ with-count n own future live s = record { count = n; own = own; future = future;
 pub kept-move : KeptJobsMove
 unfolding with-count
 kept-move (Came at session template) s = by template.future_template where
-  by : (b : Bool) → kept_of (Rattle.pool_history.specs.Jobs.with_template (record { number = length s.all + 1; session = session; since = at; source = FromTemplate template }) b s)
-      ≡ Rattle.history_laws.specs.KeptJobs.keeping_template (record { number = length s.all + 1; session = session; since = at; source = FromTemplate template }) b (kept_of s)
+  by : (b : Bool) → kept_of (Rattle.pool_history.specs.Jobs.with_template (template_job (length s.all + 1) at session template) b s)
+      ≡ Rattle.history_laws.specs.KeptJobs.keeping_template (template_job (length s.all + 1) at session template) b (kept_of s)
   by true =
-      let j : Job = record { number = length s.all + 1; session = session; since = at; source = FromTemplate template } in
+      let j : Job = template_job (length s.all + 1) at session template in
       let future : List Job = Rattle.pool_history.specs.Jobs.last 16 (s.future ++ j ∷ []) in
       ap (λ n. with-count n (owns (s.all ++ j ∷ [])) future s.live s) (count-end s.all j)
       ∙ ap (λ own. with-count (length s.all + 1) own future s.live s) (owns-end s.all j ∙ append-nil (owns s.all))
   by false =
-      let j : Job = record { number = length s.all + 1; session = session; since = at; source = FromTemplate template } in
-      let live : List Job = Rattle.pool_history.specs.Jobs.last 64 (s.live ++ j ∷ []) in
+      let j : Job = template_job (length s.all + 1) at session template in
+      let live : List Job = Rattle.pool_history.specs.Jobs.last 64 (s.live ++ live_at_once j ∷ []) in
       ap (λ n. with-count n (owns (s.all ++ j ∷ [])) s.future live s) (count-end s.all j)
       ∙ ap (λ own. with-count (length s.all + 1) own s.future live s) (owns-end s.all j ∙ append-nil (owns s.all))
 kept-move (Tipped at tip) s = refl
 kept-move (Brought at custom) s =
-    let j : Job = record { number = length s.all + 1; session = 0; since = at; source = FromMiner custom } in
-    let more : Standing = record s { custom = at_most_sixteen custom.channel_id (s.custom ++ j ∷ []) } in
+    let j : Job = custom_job (length s.all + 1) at custom in
+    let more : Standing = record s { custom = at_most_sixteen custom.channel_id (s.custom ++ live_at_once j ∷ []) } in
     ap (λ n. with-count n (owns (s.all ++ j ∷ [])) s.future s.live more) (count-end s.all j)
     ∙ ap (λ own. with-count (length s.all + 1) own s.future s.live more) (owns-end s.all j)
 
@@ -160,10 +160,10 @@ none-there k n =
 mines-by : (c at k n : ℕ) (h : List Event) → Mines c k n (jobs_from at k h)
 mines-by c at k n [] = none-there k n
 mines-by c at k n (event.Template session template ∷ more) =
-    mines-template c k n (record { number = k; session = session; since = at; source = FromTemplate template }) template (jobs_from (at + 1) (k + 1) more) refl refl
+    mines-template c k n (template_job k at session template) template (jobs_from (at + 1) (k + 1) more) refl refl
     (no-later c (at + 1) (k + 1) n more) (mines-by c (at + 1) (k + 1) n more)
 mines-by c at k n (event.Custom session custom ∷ more) =
-    mines-custom c k n (record { number = k; session = 0; since = at; source = FromMiner custom }) custom (jobs_from (at + 1) (k + 1) more) refl refl
+    mines-custom c k n (custom_job k at custom) custom (jobs_from (at + 1) (k + 1) more) refl refl
     (no-later c (at + 1) (k + 1) n more) (mines-by c (at + 1) (k + 1) n more)
 mines-by c at k n (event.Start rules ∷ more) = mines-by c (at + 1) k n more
 mines-by c at k n (event.Enter worker role flags ∷ more) = mines-by c (at + 1) k n more
@@ -223,8 +223,8 @@ kept-suffice h = record {
   newest_came = λ session template.
       let s : Standing = jobs_of (past_of h) in
       let at : length (past_of h) ≡ length h = length-reverse h in
-      let job : Job = record { number = length s.all + 1; session = session; since = length (past_of h); source = FromTemplate template } in
+      let job : Job = template_job (length s.all + 1) (length (past_of h)) session template in
       ap (λ past. last_of (jobs_of past).all) (past-one h (event.Template session template))
       ∙ ap last_of (all-came s job template.future_template) ∙ last-end s.all job
-      ∙ ap (λ n. Some (record { number = length s.all + 1; session = session; since = n; source = FromTemplate template })) at;
+      ∙ ap (λ n. Some (template_job (length s.all + 1) n session template)) at;
 }

@@ -12,7 +12,7 @@ use Rattle.pool_base.specs.Results.{◌>>=◌}
 use Rattle.block_header.specs.Hash.{dsha, meets}
 use Rattle.std.specs.List.{list_any}
 use Rattle.std.specs.Str.{bytes_eq}
-use Rattle.pool_history.specs.Headers.{rolled}
+use Rattle.pool_history.specs.Headers.{rolled_length}
 use Rattle.pool_history.specs.declared.replies.Reply.{Reply}
 use Rattle.pool_history.specs.declared.replies.Reply.TheVariants as reply
 use Rattle.pool_history.specs.declared.settings.Rules.{Rules}
@@ -23,10 +23,10 @@ use Rattle.pool_history.specs.Answering.{Answer, Effect, briefing, classing, clo
 use Rattle.pool_history.specs.Channels.{OpenChannel, channel_in, channels_of, present_class}
 use Rattle.pool_history.specs.Conditions.{or_code, found, provided}
 use Rattle.pool_history.specs.Crediting.{admitted_class, first_failed, headers, last_failed}
-use Rattle.pool_history.specs.Jobs.{future_of, jobs_of, live_job}
-use Rattle.pool_history.specs.Judging.{Admitted, Share, admitted, briefing_of, is_in_time, is_known_job, is_version, rebuilt, serves, share_of}
+use Rattle.pool_history.specs.Jobs.{jobs_of, live_job}
+use Rattle.pool_history.specs.Judging.{Admitted, Share, admission, briefing_of, is_in_time, is_known_job, is_version, rebuilt_header, serves, share_of}
 use Rattle.pool_history.specs.Legal.{allowed_flags, may_mine}
-use Rattle.pool_history.specs.Refusing.{class_for, custom_refusal, grant_refusal, lead_for, most_enters, own_channel, template_refusal, openable, nameable, updatable, tippable}
+use Rattle.pool_history.specs.Refusing.{class_for, custom_refusal, grant_refusal, most_enters, own_channel, template_refusal, openable, nameable, updatable, tippable}
 use Rattle.pool_history.specs.Sessions.{Entrance, credits, enters, entrance, past_of, present, rules_of, grants}
 use Rattle.std.specs.Prelude.{bit_and, nat_eq, nat_lt}
 use Rattle.history_laws.specs.Answered.{fails_early, is_early, CreditsAreCommitted, IsCommitted, IsJudged, MayNotSubmit, MaySubmit, SharesAreBriefed, SharesAreJudged, SharesNeedASession, credit_of}
@@ -36,7 +36,7 @@ use Rattle.history_laws.proofs.Entrances.{none-some, some-same}
 -- the step of a worker that may submit shares
 pub step-mining : (h : List Event) (worker : ℕ) (may : MaySubmit h worker) (checked : Checked)
     → step (past_of h) worker (request.Commit checked)
-    ≡ committing may.rules (past_of h) may.session (share_of checked.sub) (admitted may.rules (past_of h) may.session (share_of checked.sub))
+    ≡ committing may.rules (past_of h) may.session (share_of checked.sub) (admission may.rules (past_of h) may.session (share_of checked.sub))
 step-mining h worker may checked =
     ap (λ o. step_under o (past_of h) worker (request.Commit checked)) may.are_rules
     ∙ ap (step_for may.rules (past_of h) (request.Commit checked)) may.is_present
@@ -44,7 +44,7 @@ step-mining h worker may checked =
     ∙ ap (λ b. cond b (step_in may.rules (past_of h) may.session (request.Commit checked)) (without_event reply.NoSession)) may.mines
 
 pub step-briefing : (h : List Event) (worker : ℕ) (may : MaySubmit h worker) (sub : Submission)
-    → step (past_of h) worker (request.Brief sub) ≡ briefing may.rules (admitted may.rules (past_of h) may.session (share_of sub))
+    → step (past_of h) worker (request.Brief sub) ≡ briefing may.rules (admission may.rules (past_of h) may.session (share_of sub))
 step-briefing h worker may sub =
     ap (λ o. step_under o (past_of h) worker (request.Brief sub)) may.are_rules
     ∙ ap (step_for may.rules (past_of h) (request.Brief sub)) may.is_present
@@ -54,7 +54,7 @@ step-briefing h worker may sub =
 -- a share was booked, or refused
 pub record WasBooked (rules : Rules) (past : List Event) (session : ℕ) (share : Share) (s : Effect) : Type 0 where
   pub with : Admitted
-  pub is_admitted : admitted rules past session share ≡ Ok with
+  pub is_admitted : admission rules past session share ≡ Ok with
   pub none : first_failed rules past session share ≡ None
   pub step_is : s ≡ crediting session share with
 
@@ -63,7 +63,7 @@ pub record WasRefused (rules : Rules) (past : List Event) (session : ℕ) (share
   pub failed : first_failed rules past session share ≡ Some code
   pub step_is : s ≡ without_event (reply.Refused code)
 
-pub booked-or-refused : (rules : Rules) (past : List Event) (session : ℕ) (share : Share) (r : Result Admitted Failed) → admitted rules past session share ≡ r
+pub booked-or-refused : (rules : Rules) (past : List Event) (session : ℕ) (share : Share) (r : Result Admitted Failed) → admission rules past session share ≡ r
     → WasBooked rules past session share (committing rules past session share r) ⊎ WasRefused rules past session share (committing rules past session share r)
 booked-or-refused rules past session share (Err code) is = inr (record { code = code; failed = ap (last_failed rules past share) is; step_is = refl })
 booked-or-refused rules past session share (Ok with) is = by_last (last_failed rules past share (Ok with)) refl where
@@ -90,10 +90,10 @@ cons-nil h = cc
 pub judged : SharesAreJudged
 judged h worker may checked events answer a =
     let share : Share = share_of checked.sub in
-    let s : Effect = committing may.rules (past_of h) may.session share (admitted may.rules (past_of h) may.session share) in
+    let s : Effect = committing may.rules (past_of h) may.session share (admission may.rules (past_of h) may.session share) in
     let made : events ≡ option_to_list s.event = a.events_are ∙ ap (λ t. option_to_list t.event) (step-mining h worker may checked) in
     let replied : answer ≡ s.reply = a.reply_is ∙ ap (λ t. t.reply) (step-mining h worker may checked) in
-    judged-by h worker may share s events answer made replied (booked-or-refused may.rules (past_of h) may.session share (admitted may.rules (past_of h) may.session share) refl) where
+    judged-by h worker may share s events answer made replied (booked-or-refused may.rules (past_of h) may.session share (admission may.rules (past_of h) may.session share) refl) where
       judged-by : (h : List Event) (worker : ℕ) (may : MaySubmit h worker) (share : Share) (s : Effect) (events : List Event) (answer : Reply)
           → events ≡ option_to_list s.event → answer ≡ s.reply
           → WasBooked may.rules (past_of h) may.session share s ⊎ WasRefused may.rules (past_of h) may.session share s → IsJudged h worker may share events answer
@@ -131,19 +131,20 @@ pub provided-early : {X : Type 0} (b : Bool) (code : Failed) (x : X) → is_earl
 provided-early true code x h = tt
 provided-early false code x h = h
 
-pub admitted-early : (rules : Rules) (past : List Event) (session : ℕ) (share : Share) → IsEarly (admitted rules past session share)
-admitted-early rules past session share =
+pub admission-early : (rules : Rules) (past : List Event) (session : ℕ) (share : Share) → IsEarly (admission rules past session share)
+admission-early rules past session share =
     early-bind (found failed.Channel (channel_in (channels_of past) share.channel)) _ (found-early failed.Channel (channel_in (channels_of past) share.channel) refl)
     (λ there. early-bind (provided (serves session share there) failed.Channel there) _ (provided-early (serves session share there) failed.Channel there refl)
-    (λ channel. early-bind (provided (nat_eq (length share.extranonce) (rolled channel.kind channel.lead)) failed.ExtranonceSize channel) _
-    (provided-early (nat_eq (length share.extranonce) (rolled channel.kind channel.lead)) failed.ExtranonceSize channel refl)
+    (λ channel. early-bind (provided (nat_eq (length share.extranonce) (rolled_length channel.kind channel.lead)) failed.ExtranonceSize channel) _
+    (provided-early (nat_eq (length share.extranonce) (rolled_length channel.kind channel.lead)) failed.ExtranonceSize channel refl)
     (λ c. early-bind (provided (is_known_job (jobs_of past) share) failed.Job channel) _ (provided-early (is_known_job (jobs_of past) share) failed.Job channel refl)
     (λ d. early-bind (found failed.Stale (live_job (jobs_of past) share.job)) _ (found-early failed.Stale (live_job (jobs_of past) share.job) refl)
-    (λ job. early-bind (found failed.Stale (jobs_of past).tip) _ (found-early failed.Stale (jobs_of past).tip refl)
+    (λ job. early-bind (found failed.Stale job.live_at) _ (found-early failed.Stale job.live_at refl)
+    (λ place. early-bind (found failed.Stale (jobs_of past).tip) _ (found-early failed.Stale (jobs_of past).tip refl)
     (λ tip. early-bind (provided (is_version rules job.source share.version) failed.Version channel) _
     (provided-early (is_version rules job.source share.version) failed.Version channel refl)
     (λ e. early-bind (provided (is_in_time rules job.source tip share.ntime) failed.Ntime channel) _
-    (provided-early (is_in_time rules job.source tip share.ntime) failed.Ntime channel refl) (λ f. tt))))))))
+    (provided-early (is_in_time rules job.source tip share.ntime) failed.Ntime channel refl) (λ f. tt)))))))))
 
 -- a condition whose code isn't early
 pub or-late : (b : Bool) (code : Failed) (next : Option Failed) → is_early code ≡ false → fails_early next ≡ false → fails_early (or_code b code next) ≡ false
@@ -153,7 +154,7 @@ or-late false code next c n = c
 -- the last three conditions
 pub last-late : (rules : Rules) (past : List Event) (share : Share) (with : Admitted) → fails_early (last_failed rules past share (Ok with)) ≡ false
 last-late rules past share with =
-    let header : List ℕ = rebuilt rules.pool_script with share in
+    let header : List ℕ = rebuilt_header rules.pool_script with share in
     let full : Option Failed = or_code (nat_lt (credits past) rules.credit_limit) failed.Full None in
     let twice : Option Failed = or_code (not (list_any (bytes_eq header) (headers past))) failed.Duplicate full in
     or-late (meets (dsha header) (admitted_class with)) failed.Difficulty twice refl
@@ -164,37 +165,37 @@ last-late rules past share with =
 pub record Briefed (rules : Rules) (past : List Event) (session : ℕ) (share : Share) (answer : Reply) : Type 0 where
   pub refused : (code : Failed) → first_failed rules past session share ≡ Some code → is_early code ≡ true → answer ≡ reply.Refused code
   pub told : fails_early (first_failed rules past session share) ≡ false
-      → (with : Admitted) × (admitted rules past session share ≡ Ok with) × (answer ≡ reply.Brief (briefing_of rules.pool_script with.channel with.job.source with.tip))
+      → (with : Admitted) × (admission rules past session share ≡ Ok with) × (answer ≡ reply.Brief (briefing_of rules.pool_script with.channel with.job.source with.tip))
 
-pub briefed-by : (rules : Rules) (past : List Event) (session : ℕ) (share : Share) (r : Result Admitted Failed) → admitted rules past session share ≡ r
+pub briefed-by : (rules : Rules) (past : List Event) (session : ℕ) (share : Share) (r : Result Admitted Failed) → admission rules past session share ≡ r
     → Briefed rules past session share (briefing rules r).reply
 briefed-by rules past session share (Err code) is =
     let first : first_failed rules past session share ≡ Some code = ap (last_failed rules past share) is in
-    let early : is_early code ≡ true = subst IsEarly is (admitted-early rules past session share) in
+    let early : is_early code ≡ true = subst IsEarly is (admission-early rules past session share) in
     record {
       refused = λ other same h. ap reply.Refused (some-same (sym first ∙ same));
-      told = λ late. absurd (false≢true (sym late ∙ ap fails_early first ∙ early));
+      told = λ late_jobs. absurd (false≢true (sym late_jobs ∙ ap fails_early first ∙ early));
     }
 briefed-by rules past session share (Ok with) is =
     let first : first_failed rules past session share ≡ last_failed rules past share (Ok with) = ap (last_failed rules past share) is in
     record {
       refused = λ code same early. absurd (false≢true (sym (last-late rules past share with) ∙ ap fails_early (sym first ∙ same) ∙ early));
-      told = λ late. (with, is, refl);
+      told = λ late_jobs. (with, is, refl);
     }
 
 pub briefed : SharesAreBriefed
 briefed h worker may sub events answer a =
     let share : Share = share_of sub in
-    let made : events ≡ option_to_list (briefing may.rules (admitted may.rules (past_of h) may.session share)).event =
+    let made : events ≡ option_to_list (briefing may.rules (admission may.rules (past_of h) may.session share)).event =
     a.events_are ∙ ap (λ t. option_to_list t.event) (step-briefing h worker may sub) in
-    let replied : answer ≡ (briefing may.rules (admitted may.rules (past_of h) may.session share)).reply =
+    let replied : answer ≡ (briefing may.rules (admission may.rules (past_of h) may.session share)).reply =
     a.reply_is ∙ ap (λ t. t.reply) (step-briefing h worker may sub) in
-    let b : Briefed may.rules (past_of h) may.session share (briefing may.rules (admitted may.rules (past_of h) may.session share)).reply =
-    briefed-by may.rules (past_of h) may.session share (admitted may.rules (past_of h) may.session share) refl in
+    let b : Briefed may.rules (past_of h) may.session share (briefing may.rules (admission may.rules (past_of h) may.session share)).reply =
+    briefed-by may.rules (past_of h) may.session share (admission may.rules (past_of h) may.session share) refl in
     record {
-      none = made ∙ no_event may.rules (admitted may.rules (past_of h) may.session share);
+      none = made ∙ no_event may.rules (admission may.rules (past_of h) may.session share);
       refused = λ code same early. replied ∙ b.refused code same early;
-      told = λ late. ((b.told late).0, (b.told late).1, replied ∙ (b.told late).2);
+      told = λ late_jobs. ((b.told late_jobs).0, (b.told late_jobs).1, replied ∙ (b.told late_jobs).2);
     } where
       no_event : (rules : Rules) (r : Result Admitted Failed) → option_to_list (briefing rules r).event ≡ []
       no_event rules (Ok with) = refl
@@ -241,7 +242,7 @@ step_in-credits rules past session (request.Close id) = inr (by_channel (own_cha
   by_channel : (o : Option OpenChannel) → NoCredit (closing session id o).event
   by_channel None = tt
   by_channel (Some c) = tt
-step_in-credits rules past session (request.Brief sub) = inr (by_result (admitted rules past session (share_of sub))) where
+step_in-credits rules past session (request.Brief sub) = inr (by_result (admission rules past session (share_of sub))) where
   by_result : (r : Result Admitted Failed) → NoCredit (briefing rules r).event
   by_result (Ok with) = tt
   by_result (Err code) = tt

@@ -18,7 +18,9 @@ pub mod JobsFit
 pub mod JobsKept
 pub mod Judged
 pub mod Keeping
+pub mod KeptExamples
 pub mod Legalities
+pub mod LiveJobs
 pub mod Living
 pub mod Lowest
 pub mod MemoryFree
@@ -29,6 +31,7 @@ pub mod Numbering
 pub mod Opening
 pub mod Placing
 pub mod Ranges
+pub mod RebuiltWith
 pub mod RepliesFit
 pub mod Served
 pub mod Spending

@@ -7,8 +7,7 @@ use Rattle.std.specs.Prelude.{filter, find, nat_lt}
 use Rattle.pool_history.specs.declared.events.Event.{Event}
 use Rattle.pool_history.specs.declared.events.Event.TheVariants as event
 use Rattle.pool_history.specs.declared.templates.TipData.{TipData}
-use Rattle.pool_history.specs.Channels.{class_at}
-use Rattle.pool_history.specs.Jobs.{FromMiner, FromTemplate, Job, Standing, at_most_sixteen, future_in, has_template, is_own, jobs_of, last, live_job, made_live, with_custom, with_template, with_tip, without_first}
+use Rattle.pool_history.specs.Jobs.{Job, Standing, at_most_sixteen, custom_job, future_in, has_template, is_own, jobs_of, last, live_at_once, live_job, made_live, template_job, with_custom, with_template, with_tip, without_first}
 use Rattle.pool_history.specs.Sessions.{past_of}
 use Rattle.history_laws.specs.Staying.{ClassesStay, IsLater, JobsStay}
 use Rattle.history_laws.proofs.Entrances.{none-some, some-same}
@@ -75,62 +74,62 @@ alive standing = standing.live ++ standing.custom
 pub record CameIn (before after : Standing) (job : Job) (at : ℕ) : Type 0 where
   pub more : length after.all ≡ length before.all + 1
   pub number : job.number ≡ length before.all + 1
-  pub since : job.since ≡ at
+  pub at_end : job.at ≡ at
   pub future : (j : Job) → In j after.future → In j before.future ⊎ (j ≡ job)
-  pub living : (j : Job) → In j (alive after) → In j (alive before) ⊎ (j ≡ job)
+  pub living : (j : Job) → In j (alive after) → In j (alive before) ⊎ (j ≡ live_at_once job)
   pub one_of : ((j : Job) → In j after.future → In j before.future) ⊎ ((j : Job) → In j (alive after) → In j (alive before))
 
 pub length-one : {X : Type 0} (xs : List X) (x : X) → length (xs ++ x ∷ []) ≡ length xs + 1
 length-one xs x = length-append xs (x ∷ [])
 
-pub came-future : (s : Standing) (job : Job) (at : ℕ) → job.number ≡ length s.all + 1 → job.since ≡ at → CameIn s (with_template job true s) job at
-came-future s job at number since = record {
+pub came-future : (s : Standing) (job : Job) (at : ℕ) → job.number ≡ length s.all + 1 → job.at ≡ at → CameIn s (with_template job true s) job at
+came-future s job at number at_end = record {
   more = length-one s.all job;
   number = number;
-  since = since;
+  at_end = at_end;
   future = λ j i. in-end j s.future job (in-last j 16 (s.future ++ job ∷ []) i);
   living = λ j i. inl i;
   one_of = inr (λ j i. i);
 }
 
-pub came-live : (s : Standing) (job : Job) (at : ℕ) → job.number ≡ length s.all + 1 → job.since ≡ at → CameIn s (with_template job false s) job at
-came-live s job at number since = record {
+pub came-live : (s : Standing) (job : Job) (at : ℕ) → job.number ≡ length s.all + 1 → job.at ≡ at → CameIn s (with_template job false s) job at
+came-live s job at number at_end = record {
   more = length-one s.all job;
   number = number;
-  since = since;
+  at_end = at_end;
   future = λ j i. inl i;
-  living = λ j i. by_part j (in-append j (last 64 (s.live ++ job ∷ [])) s.custom i);
+  living = λ j i. by_part j (in-append j (last 64 (s.live ++ live_at_once job ∷ [])) s.custom i);
   one_of = inl (λ j i. i);
 } where
-  by_end : (j : Job) → In j s.live ⊎ (j ≡ job) → In j (alive s) ⊎ (j ≡ job)
+  by_end : (j : Job) → In j s.live ⊎ (j ≡ live_at_once job) → In j (alive s) ⊎ (j ≡ live_at_once job)
   by_end j (inl i) = inl (in-left j s.live s.custom i)
   by_end j (inr e) = inr e
 
-  by_part : (j : Job) → In j (last 64 (s.live ++ job ∷ [])) ⊎ In j s.custom → In j (alive s) ⊎ (j ≡ job)
-  by_part j (inl i) = by_end j (in-end j s.live job (in-last j 64 (s.live ++ job ∷ []) i))
+  by_part : (j : Job) → In j (last 64 (s.live ++ live_at_once job ∷ [])) ⊎ In j s.custom → In j (alive s) ⊎ (j ≡ live_at_once job)
+  by_part j (inl i) = by_end j (in-end j s.live (live_at_once job) (in-last j 64 (s.live ++ live_at_once job ∷ []) i))
   by_part j (inr i) = inl (in-right j s.live s.custom i)
 
-pub came-own : (s : Standing) (job : Job) (channel at : ℕ) → job.number ≡ length s.all + 1 → job.since ≡ at → CameIn s (with_custom job channel s) job at
-came-own s job channel at number since = record {
+pub came-own : (s : Standing) (job : Job) (channel at : ℕ) → job.number ≡ length s.all + 1 → job.at ≡ at → CameIn s (with_custom job channel s) job at
+came-own s job channel at number at_end = record {
   more = length-one s.all job;
   number = number;
-  since = since;
+  at_end = at_end;
   future = λ j i. inl i;
-  living = λ j i. by_part j (in-append j s.live (at_most_sixteen channel (s.custom ++ job ∷ [])) i);
+  living = λ j i. by_part j (in-append j s.live (at_most_sixteen channel (s.custom ++ live_at_once job ∷ [])) i);
   one_of = inl (λ j i. i);
 } where
-  by_end : (j : Job) → In j s.custom ⊎ (j ≡ job) → In j (alive s) ⊎ (j ≡ job)
+  by_end : (j : Job) → In j s.custom ⊎ (j ≡ live_at_once job) → In j (alive s) ⊎ (j ≡ live_at_once job)
   by_end j (inl i) = inl (in-right j s.live s.custom i)
   by_end j (inr e) = inr e
 
-  by_part : (j : Job) → In j s.live ⊎ In j (at_most_sixteen channel (s.custom ++ job ∷ [])) → In j (alive s) ⊎ (j ≡ job)
+  by_part : (j : Job) → In j s.live ⊎ In j (at_most_sixteen channel (s.custom ++ live_at_once job ∷ [])) → In j (alive s) ⊎ (j ≡ live_at_once job)
   by_part j (inl i) = inl (in-left j s.live s.custom i)
-  by_part j (inr i) = by_end j (in-end j s.custom job (in-sixteen j channel (s.custom ++ job ∷ []) i))
+  by_part j (inr i) = by_end j (in-end j s.custom (live_at_once job) (in-sixteen j channel (s.custom ++ live_at_once job ∷ []) i))
 
 -- a template's job, future or not
-pub came-template : (s : Standing) (job : Job) (future : Bool) (at : ℕ) → job.number ≡ length s.all + 1 → job.since ≡ at → CameIn s (with_template job future s) job at
-came-template s job true at number since = came-future s job at number since
-came-template s job false at number since = came-live s job at number since
+pub came-template : (s : Standing) (job : Job) (future : Bool) (at : ℕ) → job.number ≡ length s.all + 1 → job.at ≡ at → CameIn s (with_template job future s) job at
+came-template s job true at number at_end = came-future s job at number at_end
+came-template s job false at number at_end = came-live s job at number at_end
 
 -- what a tip made live was of the future
 pub record WasFuture (s : Standing) (at : ℕ) (j : Job) : Type 0 where
@@ -138,7 +137,7 @@ pub record WasFuture (s : Standing) (at : ℕ) (j : Job) : Type 0 where
   pub of_future : In job s.future
   pub number : j.number ≡ job.number
   pub source : j.source ≡ job.source
-  pub since : j.since ≡ at
+  pub since : j.live_at ≡ Some at
 
 pub made-future : (s : Standing) (at id : ℕ) (j : Job) → In j (made_live at (future_in s.future id) ++ []) → WasFuture s at j
 made-future s at id j i = by_job (future_in s.future id) refl i where
@@ -149,7 +148,7 @@ made-future s at id j i = by_job (future_in s.future id) refl i where
     of_future = find-in (λ job. has_template id job.source) s.future f is;
     number = ap (λ x. x.number) e;
     source = ap (λ x. x.source) e;
-    since = ap (λ x. x.since) e;
+    since = ap (λ x. x.live_at) e;
   }
   by_job (Some f) is (inr i) = elim i [ ]
 
@@ -159,11 +158,20 @@ made-one at (Some f) a b (inl e) (inl g) = e ∙ sym g
 made-one at (Some f) a b (inl e) (inr k) = elim k [ ]
 made-one at (Some f) a b (inr i) k = elim i [ ]
 
+-- a job is live since a place before another
+pub record LivesSince (job : Job) (at : ℕ) : Type 0 where
+  pub place : ℕ
+  pub live_at : job.live_at ≡ Some place
+  pub before : place < at
+
+pub lives-later : (job : Job) (at : ℕ) → LivesSince job at → LivesSince job (suc at)
+lives-later job at l = record { place = l.place; live_at = l.live_at; before = let h : l.place < at = l.before in omega (arith, h) }
+
 -- the numbers of jobs: no job of the future has that of one that is alive, and of these each has its own
 pub record IsNumbered (s : Standing) (at : ℕ) : Type 0 where
   pub future_below : (f : Job) → In f s.future → f.number ≤ length s.all
   pub living_below : (j : Job) → In j (alive s) → j.number ≤ length s.all
-  pub living_since : (j : Job) → In j (alive s) → j.since < at
+  pub living_since : (j : Job) → In j (alive s) → LivesSince j at
   pub apart : (f j : Job) → In f s.future → In j (alive s) → f.number ≡ j.number → ⊥
   pub one : (a b : Job) → In a (alive s) → In b (alive s) → a.number ≡ b.number → a ≡ b
 
@@ -171,7 +179,7 @@ pub numbered-later : (s : Standing) (at : ℕ) → IsNumbered s at → IsNumbere
 numbered-later s at n = record {
   future_below = n.future_below;
   living_below = n.living_below;
-  living_since = λ j i. let h : j.since < at = n.living_since j i in omega (arith, h);
+  living_since = λ j i. lives-later j at (n.living_since j i);
   apart = n.apart;
   one = n.one;
 }
@@ -188,7 +196,7 @@ numbered-came s after job at n c = record {
   old-future {f = f} (inl i) = inl (n.future_below f i)
   old-future (inr e) = inr (ap (λ x. x.number) e ∙ c.number)
 
-  old-living : {j : Job} → In j (alive s) ⊎ (j ≡ job) → (j.number ≤ length s.all) ⊎ (j.number ≡ length s.all + 1)
+  old-living : {j : Job} → In j (alive s) ⊎ (j ≡ live_at_once job) → (j.number ≤ length s.all) ⊎ (j.number ≡ length s.all + 1)
   old-living {j = j} (inl i) = inl (n.living_below j i)
   old-living (inr e) = inr (ap (λ x. x.number) e ∙ c.number)
 
@@ -196,11 +204,11 @@ numbered-came s after job at n c = record {
   below j (inl h) = let m : length after.all ≡ length s.all + 1 = c.more in omega (arith, h, m)
   below j (inr h) = let m : length after.all ≡ length s.all + 1 = c.more in omega (arith, h, m)
 
-  since : (j : Job) → In j (alive s) ⊎ (j ≡ job) → j.since < suc at
-  since j (inl i) = let h : j.since < at = n.living_since j i in omega (arith, h)
-  since j (inr e) = let h : j.since ≡ at = ap (λ x. x.since) e ∙ c.since in omega (arith, h)
+  since : (j : Job) → In j (alive s) ⊎ (j ≡ live_at_once job) → LivesSince j (suc at)
+  since j (inl i) = lives-later j at (n.living_since j i)
+  since j (inr e) = record { place = at; live_at = ap (λ x. x.live_at) e ∙ ap Some c.at_end; before = omega arith }
 
-  new-living : (f j : Job) → In f s.future → In j (alive s) ⊎ (j ≡ job) → f.number ≡ j.number → ⊥
+  new-living : (f j : Job) → In f s.future → In j (alive s) ⊎ (j ≡ live_at_once job) → f.number ≡ j.number → ⊥
   new-living f j i (inl k) same = n.apart f j i k same
   new-living f j i (inr e) same =
       let h : f.number ≤ length s.all = n.future_below f i in
@@ -219,7 +227,7 @@ numbered-came s after job at n c = record {
   apart f j i k same (inl kept) = new-living f j (kept f i) (c.living j k) same
   apart f j i k same (inr kept) = new-future f j (c.future f i) (kept j k) same
 
-  one : (a b : Job) → In a (alive s) ⊎ (a ≡ job) → In b (alive s) ⊎ (b ≡ job) → a.number ≡ b.number → a ≡ b
+  one : (a b : Job) → In a (alive s) ⊎ (a ≡ live_at_once job) → In b (alive s) ⊎ (b ≡ live_at_once job) → a.number ≡ b.number → a ≡ b
   one a b (inl i) (inl k) same = n.one a b i k same
   one a b (inl i) (inr e) same =
       let h : a.number ≤ length s.all = n.living_below a i in
@@ -239,7 +247,9 @@ numbered-tipped s tip at n = record {
       let h : w.job.number ≤ length s.all = n.future_below w.job w.of_future in
       let g : j.number ≡ w.job.number = w.number in
       omega (arith, h, g);
-  living_since = λ j i. let w : WasFuture s at j = made-future s at tip.template_id j i in let g : j.since ≡ at = w.since in omega (arith, g);
+  living_since = λ j i.
+      let w : WasFuture s at j = made-future s at tip.template_id j i in
+      record { place = at; live_at = w.since; before = omega arith };
   apart = λ f j i k same. elim i [ ];
   one = λ a b i k same. made-one at (future_in s.future tip.template_id) a b i k;
 }
@@ -254,13 +264,13 @@ jobs-numbered [] = record {
 }
 jobs-numbered (event.Template session template ∷ older) =
     let s : Standing = jobs_of older in
-    let job : Job = record { number = length s.all + 1; session = session; since = length older; source = FromTemplate template } in
+    let job : Job = template_job (length s.all + 1) (length older) session template in
     numbered-came s (with_template job template.future_template s) job (length older) (jobs-numbered older)
     (came-template s job template.future_template (length older) refl refl)
 jobs-numbered (event.Tip session tip ∷ older) = numbered-tipped (jobs_of older) tip (length older) (jobs-numbered older)
 jobs-numbered (event.Custom session custom ∷ older) =
     let s : Standing = jobs_of older in
-    let job : Job = record { number = length s.all + 1; session = 0; since = length older; source = FromMiner custom } in
+    let job : Job = custom_job (length s.all + 1) (length older) custom in
     numbered-came s (with_custom job custom.channel_id s) job (length older) (jobs-numbered older) (came-own s job custom.channel_id (length older) refl refl)
 jobs-numbered (e ∷ older) = numbered-later (jobs_of older) (length older) (jobs-numbered older)
 
@@ -276,19 +286,19 @@ only-came s after new at number job o c = record {
   future = λ f i same. future f (c.future f i) same;
   living = λ j i same. living j (c.living j i) same;
 } where
-  isnt_new : (j : Job) → j ≡ new → j.number ≡ number → ⊥
+  isnt_new : (j : Job) → j.number ≡ new.number → j.number ≡ number → ⊥
   isnt_new j e same =
-      let g : j.number ≡ length s.all + 1 = ap (λ x. x.number) e ∙ c.number in
+      let g : j.number ≡ length s.all + 1 = e ∙ c.number in
       let h : number ≤ length s.all = o.came in
       omega (arith, g, h, same)
 
   future : (f : Job) → In f s.future ⊎ (f ≡ new) → f.number ≡ number → ⊥
   future f (inl i) same = o.future f i same
-  future f (inr e) same = isnt_new f e same
+  future f (inr e) same = isnt_new f (ap (λ x. x.number) e) same
 
-  living : (j : Job) → In j (alive s) ⊎ (j ≡ new) → j.number ≡ number → j ≡ job
+  living : (j : Job) → In j (alive s) ⊎ (j ≡ live_at_once new) → j.number ≡ number → j ≡ job
   living j (inl i) same = o.living j i same
-  living j (inr e) same = absurd (isnt_new j e same)
+  living j (inr e) same = absurd (isnt_new j (ap (λ x. x.number) e) same)
 
 pub only-tipped : (s : Standing) (tip : TipData) (at number : ℕ) (job : Job) → HasOnly s number job → HasOnly (with_tip at tip s) number job
 only-tipped s tip at number job o = record {
@@ -302,12 +312,12 @@ only-tipped s tip at number job o = record {
 pub only-later : (e : Event) (older : List Event) (number : ℕ) (job : Job) → HasOnly (jobs_of older) number job → HasOnly (jobs_of (e ∷ older)) number job
 only-later (event.Template session template) older number job o =
     let s : Standing = jobs_of older in
-    let new : Job = record { number = length s.all + 1; session = session; since = length older; source = FromTemplate template } in
+    let new : Job = template_job (length s.all + 1) (length older) session template in
     only-came s (with_template new template.future_template s) new (length older) number job o (came-template s new template.future_template (length older) refl refl)
 only-later (event.Tip session tip) older number job o = only-tipped (jobs_of older) tip (length older) number job o
 only-later (event.Custom session custom) older number job o =
     let s : Standing = jobs_of older in
-    let new : Job = record { number = length s.all + 1; session = 0; since = length older; source = FromMiner custom } in
+    let new : Job = custom_job (length s.all + 1) (length older) custom in
     only-came s (with_custom new custom.channel_id s) new (length older) number job o (came-own s new custom.channel_id (length older) refl refl)
 only-later e older number job o = o
 
@@ -347,6 +357,12 @@ classes-stay h more id number before after job later was is lived lives =
     let same : later ≡ job = jobs-stay h more number job later lived lives in
     let l : IsLater (length h) before after = channels-stay h more id before after was is in
     let f : In job (alive (jobs_of (past_of h))) × (job.number ≡ number) = live-found (jobs_of (past_of h)) number job lived in
-    let since : job.since < length (past_of h) = (jobs-numbered (past_of h)).living_since job f.0 in
+    let since : LivesSince job (length (past_of h)) = (jobs-numbered (past_of h)).living_since job f.0 in
+    let before_end : since.place < length (past_of h) = since.before in
     let long : length (past_of h) ≡ length h = length-reverse h in
-    ap (λ j. class_at after j.since) same ∙ l.class job.since (omega (arith, since, long))
+    record {
+      place = since.place;
+      was_live_at = since.live_at;
+      is_live_at = ap (λ j. j.live_at) same ∙ since.live_at;
+      same = l.class since.place (omega (arith, before_end, long));
+    }

@@ -1,5 +1,5 @@
 -- No refusal in a reply is want of memory.
-use Rattle.std.proofs.Common.{◌≡◌, ℕ, ◌^◌, Bool, true, false, ◌&&◌, ◌==◌, cond, not, is_none, Option, None, Some, Result, Ok, Err, List, [], ◌∷◌, length, refl, ap, sym, ◌∙◌}
+use Rattle.std.proofs.Common.{◌++◌, ◌≡◌, ℕ, ◌^◌, Bool, true, false, ◌||◌, not, is_some, Option, None, Some, Result, Ok, Err, List, [], ◌∷◌, length, refl, ap, sym, ◌∙◌}
 use Rattle.std.proofs.lemmas.Bool.{cond_both}
 use Rattle.std.specs.Prelude.{nat_eq, nat_le, nat_lt, position}
 use Rattle.coinbase.specs.Coin.{Terms, counted_as, outputs_said, template_assembly, template_parts, with_reward, within_length}
@@ -14,11 +14,8 @@ use Rattle.coinbase.specs.declared.error.OutputsError.TheVariants as outputs_err
 use Rattle.coinbase.specs.declared.tx.TxOut.{TxOut}
 use Rattle.pool_history.specs.declared.asking.OpenAsk.{OpenAsk}
 use Rattle.pool_history.specs.declared.events.Event.{Event}
-use Rattle.pool_history.specs.declared.refusals.CustomError.{CustomError}
 use Rattle.pool_history.specs.declared.refusals.CustomError.TheVariants as custom
-use Rattle.pool_history.specs.declared.refusals.JobError.{JobError}
 use Rattle.pool_history.specs.declared.refusals.JobError.TheVariants as job
-use Rattle.pool_history.specs.declared.refusals.NameError.{NameError}
 use Rattle.pool_history.specs.declared.refusals.NameError.TheVariants as name
 use Rattle.pool_history.specs.declared.refusals.OpenError.{OpenError}
 use Rattle.pool_history.specs.declared.refusals.OpenError.TheVariants as open_error
@@ -94,13 +91,11 @@ coinbase-free (Err error) f = f
 
 pub template-free : (script : List ℕ) (past : List Event) (template : TemplateData) → Free job_wants_memory (template_refusal script past template)
 template-free script past template =
-    let last : Option JobError = coinbase_refusal (template_assembly (template_terms template) script) in
-    let third : Option JobError = cond (not template.future_template && is_none (jobs_of past).tip) (Some job.NoTip) last in
-    let second : Option JobError = cond (is_template_known (jobs_of past) template.template_id) (Some (job.TemplateKnown template.template_id)) third in
-    cond_both (nat_le most_templates (templates past)) (Some (job.TooMany (templates past))) second (Free job_wants_memory) (λ t. refl)
-    (λ f. cond_both (is_template_known (jobs_of past) template.template_id) (Some (job.TemplateKnown template.template_id)) third (Free job_wants_memory) (λ t. refl)
-    (λ g. cond_both (not template.future_template && is_none (jobs_of past).tip) (Some job.NoTip) last (Free job_wants_memory) (λ t. refl)
-    (λ h. coinbase-free (template_assembly (template_terms template) script) (assembly-free (template_terms template) script))))
+    let jobs : List Job = (jobs_of past).future ++ (jobs_of past).live in
+    code-free job_wants_memory (nat_lt (templates past) most_templates) (job.TooMany (templates past)) _ refl
+    (code-free job_wants_memory (not (is_template_known jobs template.template_id)) (job.TemplateKnown template.template_id) _ refl
+    (code-free job_wants_memory (template.future_template || is_some (jobs_of past).tip) job.NoTip _ refl
+    (coinbase-free (template_assembly (template_terms template) script) (assembly-free (template_terms template) script))))
 
 -- a tip, an opening, a name
 pub tip-free : (past : List Event) (tip : TipData) → FreeResult job_wants_memory (tippable past tip)
@@ -174,13 +169,10 @@ outputs-free (Err e) f = f
 over-free : (script : List ℕ) (granted : Granted) (offer : CustomData) (o : Option TipData) → Free custom_wants_memory (over_tip script granted offer o)
 over-free script granted offer None = refl
 over-free script granted offer (Some tip) =
-    let last : Option CustomError = outputs_refusal (custom_assembly (custom_terms offer) script) in
-    let third : Option CustomError = cond (is_bad_path granted offer.merkle_path) (Some (custom.BadPath (length offer.merkle_path))) last in
-    let second : Option CustomError = cond (nat_lt offer.min_ntime tip.header_timestamp) (Some (custom.EarlyTime tip.header_timestamp)) third in
-    cond_both (is_other_tip tip offer) (Some custom.StaleTip) second (Free custom_wants_memory) (λ t. refl)
-    (λ f. cond_both (nat_lt offer.min_ntime tip.header_timestamp) (Some (custom.EarlyTime tip.header_timestamp)) third (Free custom_wants_memory) (λ t. refl)
-    (λ g. cond_both (is_bad_path granted offer.merkle_path) (Some (custom.BadPath (length offer.merkle_path))) last (Free custom_wants_memory) (λ t. refl)
-    (λ h. outputs-free (custom_assembly (custom_terms offer) script) (custom_assembly-free (custom_terms offer) script))))
+    code-free custom_wants_memory (not (is_other_tip tip offer)) custom.StaleTip _ refl
+    (code-free custom_wants_memory (nat_le tip.header_timestamp offer.min_ntime) (custom.EarlyTime tip.header_timestamp) _ refl
+    (code-free custom_wants_memory (not (is_bad_path granted offer.merkle_path)) (custom.BadPath (length offer.merkle_path)) _ refl
+    (outputs-free (custom_assembly (custom_terms offer) script) (custom_assembly-free (custom_terms offer) script))))
 
 token-free : (script : List ℕ) (past : List Event) (offer : CustomData) (o : Option Granted) → Free custom_wants_memory (with_token script past offer o)
 token-free script past offer None = refl

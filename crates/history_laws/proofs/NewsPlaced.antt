@@ -5,7 +5,7 @@ use Rattle.std.proofs.lemmas.List.{append-nil, length-append, length-reverse}
 use Rattle.std.specs.Prelude.{nat_le}
 use Rattle.pool_history.specs.declared.events.Event.{Event}
 use Rattle.pool_history.specs.declared.telling.Note.{Note}
-use Rattle.pool_history.specs.News.{news, owed}
+use Rattle.pool_history.specs.News.{news, owed_notes}
 use Rattle.pool_history.specs.Sessions.{past_of, rules_of}
 use Rattle.history_laws.specs.News.{NewsByPlaces, NewsGoOn, owed_at, owed_from}
 use Rattle.history_laws.proofs.Legalities.{past-append, past-one}
@@ -20,13 +20,13 @@ leb-not a b less = by (nat_le a b) refl where
 news-past : (from : ℕ) (past : List Event) (session : ℕ) → length past ≤ from → news from past session ≡ []
 news-past from [] session few = refl
 news-past from (e ∷ older) session few =
-    ap (λ b. cond b (news from older session ++ owed (rules_of (e ∷ older)) e older session) []) (leb-not from (length older) (omega (arith, few)))
+    ap (λ b. cond b (news from older session ++ owed_notes (rules_of (e ∷ older)) e older session) []) (leb-not from (length older) (omega (arith, few)))
 
 -- one event more
 news-more : (from : ℕ) (e : Event) (older : List Event) (session : ℕ) → from ≤ length older
-    → news from (e ∷ older) session ≡ news from older session ++ owed (rules_of (e ∷ older)) e older session
+    → news from (e ∷ older) session ≡ news from older session ++ owed_notes (rules_of (e ∷ older)) e older session
 news-more from e older session few =
-    ap (λ b. cond b (news from older session ++ owed (rules_of (e ∷ older)) e older session) []) (le-leb from (length older) few)
+    ap (λ b. cond b (news from older session ++ owed_notes (rules_of (e ∷ older)) e older session) []) (le-leb from (length older) few)
 
 news-on : (from : ℕ) (later older : List Event) (session : ℕ) → from ≤ length older
     → news from (later ++ older) session ≡ news from older session ++ news (length older) (later ++ older) session
@@ -35,7 +35,7 @@ news-on from [] older session few =
 news-on from (e ∷ later) older session few =
     let rest : List Event = later ++ older in
     let long : length rest ≡ length later + length older = length-append later older in
-    let own : List Note = owed (rules_of (e ∷ rest)) e rest session in
+    let own : List Note = owed_notes (rules_of (e ∷ rest)) e rest session in
     news-more from e rest session (omega (arith, few, long))
     ∙ ap (λ l. l ++ own) (news-on from later older session few)
     ∙ append_assoc (news from older session) (news (length older) rest session) own

@@ -14,17 +14,17 @@ use Rattle.pool_history.specs.declared.refusals.Failed.TheVariants as failed
 use Rattle.pool_history.specs.declared.settings.Rules.{Rules}
 use Rattle.pool_history.specs.declared.templates.TipData.{TipData}
 use Rattle.pool_history.specs.Channels.{OpenChannel, channel_in, channels_of}
-use Rattle.pool_history.specs.Crediting.{booked_with, credit_share, is_block, listed}
-use Rattle.pool_history.specs.Headers.{extranonce_prefix, rolled}
-use Rattle.pool_history.specs.Jobs.{FromMiner, FromTemplate, Job, Source, Standing, jobs_of, last_of, live_job, newest, with_template}
-use Rattle.pool_history.specs.Judging.{Admitted, Share, admitted, is_known_job, job_parts, serves, is_in_time, is_version}
+use Rattle.pool_history.specs.Crediting.{booked_with, credit_share, is_block, found_list}
+use Rattle.pool_history.specs.Headers.{extranonce_prefix, rolled_length}
+use Rattle.pool_history.specs.Jobs.{FromMiner, FromTemplate, Job, Source, Standing, jobs_of, last_of, live_job, newest, with_template, template_job}
+use Rattle.pool_history.specs.Judging.{Admitted, Share, admission, is_known_job, job_parts, serves, is_in_time, is_version}
 use Rattle.pool_history.specs.Legal.{LegalPast, cause_of, is_lead_length}
-use Rattle.pool_history.specs.News.{Audience, Group, Rolling, Single, alone, audience, job_note, live_ntime, news, opening_notes, owed, owed_by, present_notes, solution, solution_by, solution_notes, tip_note, tip_notes, told_of}
+use Rattle.pool_history.specs.News.{Audience, Group, Rolling, Single, alone, audience, job_note, live_ntime, news, opening_notes, owed_notes, owed_notes_by, present_notes, solution, solution_by, solution_notes, tip_note, tip_notes, told_of}
 use Rattle.pool_history.specs.Sessions.{opens, rules_of}
 use Rattle.pool_history.specs.Telling.{NoteFits}
-use Rattle.history_laws.proofs.Answering.{first-ok, found-some, provided-ok}
+use Rattle.history_laws.proofs.Answering.{first-ok, provided-ok}
 use Rattle.history_laws.proofs.ChannelsFit.{lead-few, open-has_lead}
-use Rattle.history_laws.proofs.Crediting.{IsGoodCredit, admitted-booked, booked-channel, booked-found, good_credit, judged_share}
+use Rattle.history_laws.proofs.Crediting.{IsGoodCredit, admission-booked, booked-channel, booked-found, good_credit, judged_share}
 use Rattle.history_laws.proofs.Entrances.{none-some, some-same}
 use Rattle.history_laws.proofs.JobsFit.{IsMiners, JobsFit, TemplateFits, jobs-fit, legal-template}
 use Rattle.history_laws.proofs.Judged.{ok-same}
@@ -94,27 +94,28 @@ tip_notes-fit tip to None = tt
 tip_notes-fit tip to (Some job) = all-mapped NoteFits (tip_note tip job) to (λ a i. tt)
 
 -- an admitted share rolls what its channel lets it
-pub admitted-rolls : (rules : Rules) (past : List Event) (session : ℕ) (share : Share) (with : Admitted) → admitted rules past session share ≡ Ok with
-    → length share.extranonce ≡ rolled with.channel.kind with.channel.lead
-admitted-rolls rules past session share with h =
+pub admission-rolls : (rules : Rules) (past : List Event) (session : ℕ) (share : Share) (with : Admitted) → admission rules past session share ≡ Ok with
+    → length share.extranonce ≡ rolled_length with.channel.kind with.channel.lead
+admission-rolls rules past session share with h =
     let a = first-ok (found failed.Channel (channel_in (channels_of past) share.channel)) _ with h in
     let b = first-ok (provided (serves session share a.0) failed.Channel a.0) _ with a.2 in
-    let c = first-ok (provided (nat_eq (length share.extranonce) (rolled b.0.kind b.0.lead)) failed.ExtranonceSize b.0) _ with b.2 in
+    let c = first-ok (provided (nat_eq (length share.extranonce) (rolled_length b.0.kind b.0.lead)) failed.ExtranonceSize b.0) _ with b.2 in
     let d = first-ok (provided (is_known_job (jobs_of past) share) failed.Job b.0) _ with c.2 in
     let e = first-ok (found failed.Stale (live_job (jobs_of past) share.job)) _ with d.2 in
-    let f = first-ok (found failed.Stale (jobs_of past).tip) _ with e.2 in
+    let p = first-ok (found failed.Stale e.0.live_at) _ with e.2 in
+    let f = first-ok (found failed.Stale (jobs_of past).tip) _ with p.2 in
     let g = first-ok (provided (is_version rules e.0.source share.version) failed.Version b.0) _ with f.2 in
     let k = first-ok (provided (is_in_time rules e.0.source f.0 share.ntime) failed.Ntime b.0) _ with g.2 in
-    eqb-true (length share.extranonce) (rolled b.0.kind b.0.lead)
-    (provided-ok (nat_eq (length share.extranonce) (rolled b.0.kind b.0.lead)) failed.ExtranonceSize b.0 c.0 c.1).0
-    ∙ ap (λ w. rolled w.channel.kind w.channel.lead) (ok-same k.2)
+    eqb-true (length share.extranonce) (rolled_length b.0.kind b.0.lead)
+    (provided-ok (nat_eq (length share.extranonce) (rolled_length b.0.kind b.0.lead)) failed.ExtranonceSize b.0 c.0 c.1).0
+    ∙ ap (λ w. rolled_length w.channel.kind w.channel.lead) (ok-same k.2)
 
 -- its job is alive
 pub booked-job : (past : List Event) (channel job : ℕ) (with : Admitted) → booked_with past channel job ≡ Some with → live_job (jobs_of past) job ≡ Some with.job
 booked-job past channel job with h = (booked-found past channel job with h).job_is
 
 -- twelve bytes of extranonce
-pub twelve-bytes : (k : Kind) (lead extranonce : List ℕ) → is_lead_length k (length lead) ≡ true → length extranonce ≡ rolled k lead
+pub twelve-bytes : (k : Kind) (lead extranonce : List ℕ) → is_lead_length k (length lead) ≡ true → length extranonce ≡ rolled_length k lead
     → length (extranonce_prefix k lead ++ extranonce) ≡ 12
 twelve-bytes kind.Standard lead extranonce h rolls =
     let zeros : List ℕ = replicate 8 0 in
@@ -158,61 +159,61 @@ solution-fits script session share with (FromTemplate template) (inl f) is twelv
 
 pub credit-fits : (rules : Rules) (past : List Event) (told session channel job nonce ntime version : ℕ) (extranonce : List ℕ) → LegalPast past
     → rules_of past ≡ Some rules → cause_of past (event.Credit session channel job nonce ntime version extranonce) ≡ None
-    → AllByRecursion NoteFits (owed_by rules (event.Credit session channel job nonce ntime version extranonce) past told)
+    → AllByRecursion NoteFits (owed_notes_by rules (event.Credit session channel job nonce ntime version extranonce) past told)
 credit-fits rules past told session channel job nonce ntime version extranonce l are n =
     let share : Share = judged_share past channel job nonce ntime version extranonce in
     let g : IsGoodCredit past session share = good_credit past session channel job nonce ntime version extranonce n in
     let with : Admitted = g.good.with in
-    let is : booked_with past channel job ≡ Some with = admitted-booked g.rules past session share with g.good.is_admitted in
+    let is : booked_with past channel job ≡ Some with = admission-booked g.rules past session share with g.good.is_admitted in
     let lead : is_lead_length with.channel.kind (length with.channel.lead) ≡ true = open-has_lead past channel with.channel l (booked-channel past channel job with is) in
-    let rolls : length extranonce ≡ rolled with.channel.kind with.channel.lead = admitted-rolls g.rules past session share with g.good.is_admitted in
+    let rolls : length extranonce ≡ rolled_length with.channel.kind with.channel.lead = admission-rolls g.rules past session share with g.good.is_admitted in
     let alive : In with.job ((jobs_of past).live ++ (jobs_of past).custom) =
     find-in (λ j. eqb j.number job) ((jobs_of past).live ++ (jobs_of past).custom) with.job (booked-job past channel job with is) in
     let fits : TemplateFits rules.pool_script with.job.source ⊎ IsMiners with.job.source =
     alive-fits rules.pool_script (jobs_of past) with.job (jobs-fit past rules l are) alive in
     let credited : Share = credit_share with channel job nonce ntime version extranonce in
     subst (λ r. AllByRecursion NoteFits (flat_map (λ notes. notes)
-    (listed (λ w. solution_notes rules.pool_script told (credit_share w channel job nonce ntime version extranonce) w) r))) (sym is)
+    (found_list (λ w. solution_notes rules.pool_script told (credit_share w channel job nonce ntime version extranonce) w) r))) (sym is)
     (all-append NoteFits (solution_notes rules.pool_script told credited with) []
     (solution-fits rules.pool_script told credited with with.job.source fits refl
     (twelve-bytes with.channel.kind with.channel.lead extranonce lead rolls)) tt)
 
 -- what is owed for an event
-pub owed_by-fits : (rules : Rules) (e : Event) (past : List Event) (told : ℕ) → LegalPast past → rules_of past ≡ Some rules → cause_of past e ≡ None
-    → AllByRecursion NoteFits (owed_by rules e past told)
-owed_by-fits rules (event.Open opening k account class lead) past told l are n =
+pub owed_notes_by-fits : (rules : Rules) (e : Event) (past : List Event) (told : ℕ) → LegalPast past → rules_of past ≡ Some rules → cause_of past e ≡ None
+    → AllByRecursion NoteFits (owed_notes_by rules e past told)
+owed_notes_by-fits rules (event.Open opening k account class lead) past told l are n =
     cond_both (nat_eq opening told)
     (opening_notes rules (jobs_of past) (channel_in (channels_of (event.Open opening k account class lead ∷ past)) (opens past + 1))) [] (AllByRecursion NoteFits)
     (λ t. opening_notes-fit rules (jobs_of past) (channel_in (channels_of (event.Open opening k account class lead ∷ past)) (opens past + 1)) (jobs-fit past rules l are))
     (λ f. tt)
-owed_by-fits rules (event.Template feed template) past told l are n =
-    let job : Job = record { number = length (jobs_of past).all + 1; session = feed; since = length past; source = FromTemplate template } in
+owed_notes_by-fits rules (event.Template feed template) past told l are n =
+    let job : Job = template_job (length (jobs_of past).all + 1) (length past) feed template in
     told_of-fit rules (live_ntime template.future_template (jobs_of past).tip) (audience past told)
     (last_of (jobs_of (event.Template feed template ∷ past)).all)
     (λ j is. subst (λ x. TemplateFits rules.pool_script x.source)
     (some-same (sym (all-of template.future_template) ∙ is)) (legal-template past rules feed template are n)) where
-      all-of : (future : Bool) → last_of (with_template (record { number = length (jobs_of past).all + 1; session = feed; since = length past; source = FromTemplate template }) future (jobs_of past)).all
-          ≡ Some (record { number = length (jobs_of past).all + 1; session = feed; since = length past; source = FromTemplate template })
-      all-of true = last-end (jobs_of past).all (record { number = length (jobs_of past).all + 1; session = feed; since = length past; source = FromTemplate template })
-      all-of false = last-end (jobs_of past).all (record { number = length (jobs_of past).all + 1; session = feed; since = length past; source = FromTemplate template })
-owed_by-fits rules (event.Tip feed tip) past told l are n = tip_notes-fit tip (audience past told) (newest (jobs_of (event.Tip feed tip ∷ past)))
-owed_by-fits rules (event.Credit session channel job nonce ntime version extranonce) past told l are n =
+      all-of : (future : Bool) → last_of (with_template (template_job (length (jobs_of past).all + 1) (length past) feed template) future (jobs_of past)).all
+          ≡ Some (template_job (length (jobs_of past).all + 1) (length past) feed template)
+      all-of true = last-end (jobs_of past).all (template_job (length (jobs_of past).all + 1) (length past) feed template)
+      all-of false = last-end (jobs_of past).all (template_job (length (jobs_of past).all + 1) (length past) feed template)
+owed_notes_by-fits rules (event.Tip feed tip) past told l are n = tip_notes-fit tip (audience past told) (newest (jobs_of (event.Tip feed tip ∷ past)))
+owed_notes_by-fits rules (event.Credit session channel job nonce ntime version extranonce) past told l are n =
     credit-fits rules past told session channel job nonce ntime version extranonce l are n
-owed_by-fits rules e past told l are n = tt
+owed_notes_by-fits rules e past told l are n = tt
 
 -- and by the rules of the history with it
-pub owed-fits : (o : Option Rules) (e : Event) (past : List Event) (told : ℕ) → rules_of (e ∷ past) ≡ o → LegalPast past → cause_of past e ≡ None
-    → AllByRecursion NoteFits (owed o e past told)
-owed-fits None e past told are l n = tt
-owed-fits (Some rules) (event.Start first) [] told are l n = tt
-owed-fits (Some rules) e [] told are l n = absurd (none-some are)
-owed-fits (Some rules) e (x ∷ past) told are l n = owed_by-fits rules e (x ∷ past) told l (sym (rules-older e x past) ∙ are) n
+pub owed_notes-fits : (o : Option Rules) (e : Event) (past : List Event) (told : ℕ) → rules_of (e ∷ past) ≡ o → LegalPast past → cause_of past e ≡ None
+    → AllByRecursion NoteFits (owed_notes o e past told)
+owed_notes-fits None e past told are l n = tt
+owed_notes-fits (Some rules) (event.Start first) [] told are l n = tt
+owed_notes-fits (Some rules) e [] told are l n = absurd (none-some are)
+owed_notes-fits (Some rules) e (x ∷ past) told are l n = owed_notes_by-fits rules e (x ∷ past) told l (sym (rules-older e x past) ∙ are) n
 
 -- all news
 pub news-fit : (from : ℕ) (past : List Event) (told : ℕ) → LegalPast past → AllByRecursion NoteFits (news from past told)
 news-fit from [] told l = tt
 news-fit from (e ∷ past) told l =
-    cond_both (nat_le from (length past)) (news from past told ++ owed (rules_of (e ∷ past)) e past told) [] (AllByRecursion NoteFits)
-    (λ t. all-append NoteFits (news from past told) (owed (rules_of (e ∷ past)) e past told) (news-fit from past told l.0)
-    (owed-fits (rules_of (e ∷ past)) e past told refl l.0 l.1))
+    cond_both (nat_le from (length past)) (news from past told ++ owed_notes (rules_of (e ∷ past)) e past told) [] (AllByRecursion NoteFits)
+    (λ t. all-append NoteFits (news from past told) (owed_notes (rules_of (e ∷ past)) e past told) (news-fit from past told l.0)
+    (owed_notes-fits (rules_of (e ∷ past)) e past told refl l.0 l.1))
     (λ f. tt)

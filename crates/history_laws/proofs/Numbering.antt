@@ -5,7 +5,7 @@ use Rattle.std.proofs.lemmas.Bool.{cond_both, eqb-true, false≢true, or_cases}
 use Rattle.std.specs.Prelude.{filter, nat_lt}
 use Rattle.std.specs.List.{AllByRecursion}
 use Rattle.pool_history.specs.declared.templates.TipData.{TipData}
-use Rattle.pool_history.specs.Jobs.{Brought, Came, FromMiner, FromTemplate, Job, JobMove, Standing, Tipped, at_most_sixteen, future_in, has_number, has_template, is_own, job_moves, jobs_told, last, made_live, with_custom, with_template, with_tip, without_first}
+use Rattle.pool_history.specs.Jobs.{Brought, Came, Job, JobMove, Standing, Tipped, at_most_sixteen, future_in, has_number, has_template, is_own, job_moves, jobs_told, last, made_live, with_custom, with_template, with_tip, without_first, template_job, custom_job, live_at_once}
 use Rattle.pool_history.specs.Sessions.{past_of}
 use Rattle.pool_history.proofs.PlacesOfClasses.{all-end, all-weaken}
 use Rattle.history_laws.specs.Numbering.{AreRising, IsNumberWithin, JobsAreNumbered, RiseTo}
@@ -143,15 +143,15 @@ numbers-template s job false number n =
     record {
       all = rises-end (length s.all) (length (s.all ++ job ∷ [])) s.all job more number n.all;
       future = rises-more (length s.all) (length (s.all ++ job ∷ [])) s.future up n.future;
-      live = rises-last (length (s.all ++ job ∷ [])) 64 (s.live ++ job ∷ [])
-          (rises-end (length s.all) (length (s.all ++ job ∷ [])) s.live job more number n.live);
+      live = rises-last (length (s.all ++ job ∷ [])) 64 (s.live ++ live_at_once job ∷ [])
+          (rises-end (length s.all) (length (s.all ++ job ∷ [])) s.live (live_at_once job) more number n.live);
       custom = rises-more (length s.all) (length (s.all ++ job ∷ [])) s.custom up n.custom;
-      not_live = share-turned (last 64 (s.live ++ job ∷ [])) s.future
-          (share-more (length s.all) s.live (last 64 (s.live ++ job ∷ [])) s.future job
-          (λ j i. in-end j s.live job (in-last j 64 (s.live ++ job ∷ []) i)) number n.future.within (share-turned s.future s.live n.not_live));
+      not_live = share-turned (last 64 (s.live ++ live_at_once job ∷ [])) s.future
+          (share-more (length s.all) s.live (last 64 (s.live ++ live_at_once job ∷ [])) s.future (live_at_once job)
+          (λ j i. in-end j s.live (live_at_once job) (in-last j 64 (s.live ++ live_at_once job ∷ []) i)) number n.future.within (share-turned s.future s.live n.not_live));
       not_custom = n.not_custom;
-      not_both = share-more (length s.all) s.live (last 64 (s.live ++ job ∷ [])) s.custom job
-          (λ j i. in-end j s.live job (in-last j 64 (s.live ++ job ∷ []) i)) number n.custom.within n.not_both;
+      not_both = share-more (length s.all) s.live (last 64 (s.live ++ live_at_once job ∷ [])) s.custom (live_at_once job)
+          (λ j i. in-end j s.live (live_at_once job) (in-last j 64 (s.live ++ live_at_once job ∷ []) i)) number n.custom.within n.not_both;
     }
 
 pub numbers-custom : (s : Standing) (job : Job) (channel : ℕ) → job.number ≡ length s.all + 1 → Numbers s → Numbers (with_custom job channel s)
@@ -162,16 +162,16 @@ numbers-custom s job channel number n =
       all = rises-end (length s.all) (length (s.all ++ job ∷ [])) s.all job more number n.all;
       future = rises-more (length s.all) (length (s.all ++ job ∷ [])) s.future up n.future;
       live = rises-more (length s.all) (length (s.all ++ job ∷ [])) s.live up n.live;
-      custom = rises-sixteen (length (s.all ++ job ∷ [])) channel (s.custom ++ job ∷ [])
-          (rises-end (length s.all) (length (s.all ++ job ∷ [])) s.custom job more number n.custom);
+      custom = rises-sixteen (length (s.all ++ job ∷ [])) channel (s.custom ++ live_at_once job ∷ [])
+          (rises-end (length s.all) (length (s.all ++ job ∷ [])) s.custom (live_at_once job) more number n.custom);
       not_live = n.not_live;
-      not_custom = share-turned (at_most_sixteen channel (s.custom ++ job ∷ [])) s.future
-          (share-more (length s.all) s.custom (at_most_sixteen channel (s.custom ++ job ∷ [])) s.future job
-          (λ j i. in-end j s.custom job (in-sixteen j channel (s.custom ++ job ∷ []) i)) number n.future.within
+      not_custom = share-turned (at_most_sixteen channel (s.custom ++ live_at_once job ∷ [])) s.future
+          (share-more (length s.all) s.custom (at_most_sixteen channel (s.custom ++ live_at_once job ∷ [])) s.future (live_at_once job)
+          (λ j i. in-end j s.custom (live_at_once job) (in-sixteen j channel (s.custom ++ live_at_once job ∷ []) i)) number n.future.within
           (share-turned s.future s.custom n.not_custom));
-      not_both = share-turned (at_most_sixteen channel (s.custom ++ job ∷ [])) s.live
-          (share-more (length s.all) s.custom (at_most_sixteen channel (s.custom ++ job ∷ [])) s.live job
-          (λ j i. in-end j s.custom job (in-sixteen j channel (s.custom ++ job ∷ []) i)) number n.live.within
+      not_both = share-turned (at_most_sixteen channel (s.custom ++ live_at_once job ∷ [])) s.live
+          (share-more (length s.all) s.custom (at_most_sixteen channel (s.custom ++ live_at_once job ∷ [])) s.live (live_at_once job)
+          (λ j i. in-end j s.custom (live_at_once job) (in-sixteen j channel (s.custom ++ live_at_once job ∷ []) i)) number n.live.within
           (share-turned s.live s.custom n.not_both));
     }
 
@@ -198,12 +198,12 @@ numbers-told [] = record {
 }
 numbers-told (Came at session template ∷ older) =
     let s : Standing = jobs_told older in
-    numbers-template s (record { number = length s.all + 1; session = session; since = at; source = FromTemplate template }) template.future_template refl
+    numbers-template s (template_job (length s.all + 1) at session template) template.future_template refl
     (numbers-told older)
 numbers-told (Tipped at tip ∷ older) = numbers-tip (jobs_told older) at tip (numbers-told older)
 numbers-told (Brought at custom ∷ older) =
     let s : Standing = jobs_told older in
-    numbers-custom s (record { number = length s.all + 1; session = 0; since = at; source = FromMiner custom }) custom.channel_id refl
+    numbers-custom s (custom_job (length s.all + 1) at custom) custom.channel_id refl
     (numbers-told older)
 
 -- a number that a list has is that of a job of it

@@ -1,6 +1,6 @@
 -- The replies to requests on a legal history are of the types that keep them.
 use Rattle.std.proofs.Common.{◌≡◌, ℕ, ◌+◌, ◌≤◌, Bool, true, false, Option, None, Some, Result, Ok, Err, List, [], length, min, refl, subst, sym}
-use Rattle.std.proofs.lemmas.Bool.{and_parts, cond_both, leb-true, ltb-false, ltb-true}
+use Rattle.std.proofs.lemmas.Bool.{and_parts, cond_both, leb-true, ltb-true}
 use Rattle.std.specs.Prelude.{bit_and, nat_eq, nat_le, nat_lt}
 use Rattle.pool_history.specs.declared.asking.OpenAsk.{OpenAsk}
 use Rattle.pool_history.specs.declared.asking.Request.{Request}
@@ -8,7 +8,6 @@ use Rattle.pool_history.specs.declared.asking.Request.TheVariants as request
 use Rattle.pool_history.specs.declared.events.Event.{Event}
 use Rattle.pool_history.specs.declared.events.Event.TheVariants as event
 use Rattle.pool_history.specs.declared.refusals.Failed.{Failed}
-use Rattle.pool_history.specs.declared.refusals.UpdateError.TheVariants as update
 use Rattle.pool_history.specs.declared.replies.Reply.{Reply}
 use Rattle.pool_history.specs.declared.replies.Reply.TheVariants as reply
 use Rattle.pool_history.specs.declared.settings.Rules.{Rules}
@@ -17,7 +16,7 @@ use Rattle.pool_history.specs.Answering.{Effect, briefing, classing, closing, co
 use Rattle.pool_history.specs.Channels.{OpenChannel, present_class}
 use Rattle.pool_history.specs.Crediting.{last_failed}
 use Rattle.pool_history.specs.Jobs.{jobs_of}
-use Rattle.pool_history.specs.Judging.{Admitted, Share, admitted, share_of}
+use Rattle.pool_history.specs.Judging.{Admitted, Share, admission, share_of}
 use Rattle.pool_history.specs.Legal.{LegalPast, allowed_flags, is_just, is_lead_length}
 use Rattle.pool_history.specs.Refusing.{class_for, class_of_target, custom_refusal, grant_refusal, held_leads, lead_for, most_enters, nameable, openable, own_channel, template_refusal, tippable, updatable}
 use Rattle.pool_history.specs.Sessions.{Entrance, enters, entrance, grants, past_of, present, rules_of}
@@ -26,7 +25,7 @@ use Rattle.history_laws.specs.Fitting.{AnswersFit, ReplyFits, ScriptFits, custom
 use Rattle.history_laws.proofs.MemoryFree.{Free, custom-free, free-err, name-free, open-free, template-free, tip-free}
 use Rattle.history_laws.proofs.Answering.{IsOpen, lead-next, was-openable, was-updatable}
 use Rattle.history_laws.proofs.ChannelsFit.{briefing-lead, lead-few, open-has_lead}
-use Rattle.history_laws.proofs.Crediting.{admitted-booked, booked-channel}
+use Rattle.history_laws.proofs.Crediting.{admission-booked, booked-channel}
 use Rattle.history_laws.proofs.NotesFit.{news-fit}
 use Rattle.history_laws.proofs.Ranges.{class-fits, least-range, legal-rules, script-range}
 
@@ -82,11 +81,11 @@ closing-fits session id None = tt
 closing-fits session id (Some c) = tt
 
 pub briefing-fits : (rules : Rules) (past : List Event) (session : ℕ) (share : Share) → LegalPast past → (r : Result Admitted Failed)
-    → admitted rules past session share ≡ r → ReplyFits (briefing rules r).reply
+    → admission rules past session share ≡ r → ReplyFits (briefing rules r).reply
 briefing-fits rules past session share l (Err code) is = tt
 briefing-fits rules past session share l (Ok with) is =
     briefing-lead with.channel.kind with.channel.lead
-    (open-has_lead past share.channel with.channel l (booked-channel past share.channel share.job with (admitted-booked rules past session share with is)))
+    (open-has_lead past share.channel with.channel l (booked-channel past share.channel share.job with (admission-booked rules past session share with is)))
 
 pub committing-fits : (rules : Rules) (past : List Event) (session : ℕ) (share : Share) (r : Result Admitted Failed)
     → ReplyFits (committing rules past session share r).reply
@@ -134,9 +133,9 @@ step_in-fits rules past session (request.Update id target) l are =
     (λ c is. classing-fits rules past session id target l are c (was-updatable target (own_channel past session id) c is).1)
 step_in-fits rules past session (request.Close id) l are = closing-fits session id (own_channel past session id)
 step_in-fits rules past session (request.Brief sub) l are =
-    briefing-fits rules past session (share_of sub) l (admitted rules past session (share_of sub)) refl
+    briefing-fits rules past session (share_of sub) l (admission rules past session (share_of sub)) refl
 step_in-fits rules past session (request.Commit checked) l are =
-    committing-fits rules past session (share_of checked.sub) (admitted rules past session (share_of checked.sub))
+    committing-fits rules past session (share_of checked.sub) (admission rules past session (share_of checked.sub))
 step_in-fits rules past session (request.Poll from) l are = news-fit (min from (length past)) past session l
 step_in-fits rules past session (request.Grant identity path) l are = granting-fits rules past session (account_of identity) path l are
 step_in-fits rules past session (request.Custom custom) l are =

@@ -10,7 +10,7 @@ use Rattle.pool_history.specs.declared.events.Event.TheVariants as event
 use Rattle.pool_history.specs.declared.events.Kind.{Kind}
 use Rattle.pool_history.specs.declared.settings.Rules.{Rules}
 use Rattle.pool_history.specs.Channels.{OpenChannel, account_or, channel_moves, channels_of, with_name, opened, with_class}
-use Rattle.pool_history.specs.Jobs.{FromTemplate, Job, Standing, jobs_of, with_template}
+use Rattle.pool_history.specs.Jobs.{Job, Standing, jobs_of, with_template, template_job}
 use Rattle.pool_history.specs.Legal.{LegalPast, cause_of}
 use Rattle.pool_history.specs.Refusing.{has_too_many, is_spent, most_channels, most_opens, open_count}
 use Rattle.pool_history.specs.Sessions.{opens, past_of, templates}
@@ -149,7 +149,7 @@ jobs-counted (event.Template session template ∷ older) =
     let s : Standing = jobs_of older in
     let deeper : length (jobs_of older).all ≡ templates older + customs older = jobs-counted older in
     let more : length (jobs_of (event.Template session template ∷ older)).all ≡ length (jobs_of older).all + 1 =
-    more-of_template s (record { number = length s.all + 1; session = session; since = length older; source = FromTemplate template }) template.future_template in
+    more-of_template s (template_job (length s.all + 1) (length older) session template) template.future_template in
     omega (arith, deeper, more)
 jobs-counted (event.Custom session custom ∷ older) =
     let deeper : length (jobs_of older).all ≡ templates older + customs older = jobs-counted older in

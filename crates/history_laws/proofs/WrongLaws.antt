@@ -1,5 +1,6 @@
 -- Laws that one might believe and that are false: each is refuted by a small history.
 use Rattle.std.proofs.Common.{◌≡◌, ℕ, Option, None, Some, List, [], ◌∷◌, ◌++◌, refl, ap, sym, ◌∙◌, arith}
+use Rattle.std.specs.Option.{option_and_then, option_map}
 use Rattle.std.specs.Prelude.{replicate}
 use Rattle.pool_history.specs.declared.causes.Cause.TheVariants as cause
 use Rattle.pool_history.specs.declared.events.Event.{Event}
@@ -12,6 +13,7 @@ use Rattle.pool_history.specs.Sessions.{past_of}
 use Rattle.pool_history.specs.Spaces.{InSpace, first_free}
 use Rattle.pool_history.proofs.Given.{comes, enters, opens, start, tips}
 use Rattle.history_laws.specs.Apart.{SpacesAreApart}
+use Rattle.history_laws.proofs.Entrances.{some-same}
 use Rattle.history_laws.proofs.Legalities.{one_more_legal, some-none}
 
 -- without legality: two channels are opened with one lead
@@ -63,25 +65,29 @@ set_before = start ∷ enters ∷ opens ∷ comes ∷ reclasses ∷ tips ∷ []
 abbrev pub set_after : List Event
 set_after = start ∷ enters ∷ opens ∷ comes ∷ tips ∷ reclasses ∷ []
 
-abbrev pub since_of : Option Job → ℕ
-since_of None = 0
-since_of (Some job) = job.since
+abbrev pub since_of : Option Job → Option ℕ
+since_of job = option_and_then (λ job. job.live_at) job
 
 pub no_states-without_places : StatesWithoutPlaces → ⊥
 no_states-without_places law =
     let same : since_of (live_job (jobs_of (past_of set_before)) 1) ≡ since_of (live_job (jobs_of (past_of set_after)) 1) =
     ap (λ s. since_of (live_job s 1)) (law set_before set_after refl) in
-    let before : since_of (live_job (jobs_of (past_of set_before)) 1) ≡ 5 = refl in
-    let after : since_of (live_job (jobs_of (past_of set_after)) 1) ≡ 4 = refl in
-    omega (arith, same, before, after)
+    let before : since_of (live_job (jobs_of (past_of set_before)) 1) ≡ Some 5 = refl in
+    let after : since_of (live_job (jobs_of (past_of set_after)) 1) ≡ Some 4 = refl in
+    differ (some-same (sym before ∙ same ∙ after)) where
+      five : ℕ
+      five = 5
+
+      differ : five ≡ 4 → ⊥
+      differ h = omega (arith, h)
 
 -- so the class at the job differs: 8 where it was set before, and 0 where it was set after
-abbrev pub class_at_job : List Event → Option OpenChannel → Option Job → ℕ
-class_at_job history (Some channel) (Some job) = class_at channel job.since
-class_at_job history channel job = 99
+abbrev pub class_at_job : List Event → Option OpenChannel → Option Job → Option ℕ
+class_at_job history (Some channel) (Some job) = option_map (class_at channel) job.live_at
+class_at_job history channel job = None
 
-pub class-set_before : class_at_job set_before (channel_in (channels_of (past_of set_before)) 1) (live_job (jobs_of (past_of set_before)) 1) ≡ 8
+pub class-set_before : class_at_job set_before (channel_in (channels_of (past_of set_before)) 1) (live_job (jobs_of (past_of set_before)) 1) ≡ Some 8
 class-set_before = refl
 
-pub class-set_after : class_at_job set_after (channel_in (channels_of (past_of set_after)) 1) (live_job (jobs_of (past_of set_after)) 1) ≡ 0
+pub class-set_after : class_at_job set_after (channel_in (channels_of (past_of set_after)) 1) (live_job (jobs_of (past_of set_after)) 1) ≡ Some 0
 class-set_after = refl

@@ -14,8 +14,8 @@ use Rattle.pool_history.specs.declared.shares.Checked.{Checked}
 use Rattle.pool_history.specs.declared.shares.Submission.{Submission}
 use Rattle.pool_history.specs.Answering.{Answer}
 use Rattle.pool_history.specs.Crediting.{first_failed, admitted_work}
-use Rattle.pool_history.specs.Headers.{Briefing, rolled}
-use Rattle.pool_history.specs.Judging.{Admitted, Share, admitted, briefing_of, share_of}
+use Rattle.pool_history.specs.Headers.{Briefing, rolled_length}
+use Rattle.pool_history.specs.Judging.{Admitted, Share, admission, briefing_of, share_of}
 use Rattle.pool_history.specs.Legal.{Legal, may_mine}
 use Rattle.pool_history.specs.Sessions.{Entrance, entrance, past_of, present, rules_of}
 
@@ -49,7 +49,7 @@ pub record IsJudged (history : List Event) (worker : ℕ) (may : MaySubmit histo
   pub credited : (events ≡ credit_of may.session share ∷ [])
       ↔ (first_failed may.rules (past_of history) may.session share ≡ None)
   pub work : first_failed may.rules (past_of history) may.session share ≡ None
-      → (with : Admitted) × (admitted may.rules (past_of history) may.session share ≡ Ok with)
+      → (with : Admitted) × (admission may.rules (past_of history) may.session share ≡ Ok with)
       × (answer ≡ reply.Credited (admitted_work with))
   pub refused : (code : Failed)
       → first_failed may.rules (past_of history) may.session share ≡ Some code
@@ -90,7 +90,7 @@ pub record IsBriefed (history : List Event) (worker : ℕ) (may : MaySubmit hist
       → IsTrue (is_early code)
       → answer ≡ reply.Refused code
   pub told : fails_early (first_failed may.rules (past_of history) may.session share) ≡ false
-      → (with : Admitted) × (admitted may.rules (past_of history) may.session share ≡ Ok with)
+      → (with : Admitted) × (admission may.rules (past_of history) may.session share ≡ Ok with)
       × (answer
       ≡ reply.Brief (briefing_of may.rules.pool_script with.channel with.job.source with.tip))
 
@@ -142,4 +142,4 @@ abbrev pub BriefsRoll : Type 0
 BriefsRoll =
     (history : List Event) (worker : ℕ) (sub : Submission) (events : List Event) (brief : Briefing)
     → Answer history worker (request.Brief sub) events (reply.Brief brief)
-    → length (share_of sub).extranonce ≡ rolled brief.kind brief.lead
+    → length (share_of sub).extranonce ≡ rolled_length brief.kind brief.lead

@@ -9,7 +9,7 @@ use Rattle.pool_history.specs.declared.settings.Rules.{Rules}
 use Rattle.pool_history.specs.Accounts.{are_distinct}
 use Rattle.pool_history.specs.Channels.{channel_in, channels_of}
 use Rattle.pool_history.specs.Crediting.{Booked, bookings_of, booked_with, booking, admitted_class, headers}
-use Rattle.pool_history.specs.Judging.{Admitted, Share, admitted, rebuilt}
+use Rattle.pool_history.specs.Judging.{Admitted, Share, admission, rebuilt_header}
 use Rattle.pool_history.specs.Legal.{Legal, is_standard_in}
 use Rattle.pool_history.specs.Sessions.{credits, past_of, rules_of}
 
@@ -33,12 +33,12 @@ pub record IsBookedAfter (history : List Event) (session : ℕ) (share : Share)
   pub rules : Rules
   pub with : Admitted
   pub are_rules : rules_of (past_of history) ≡ Some rules
-  pub is_admitted : admitted rules (past_of history) session share ≡ Ok with
+  pub is_admitted : admission rules (past_of history) session share ≡ Ok with
   pub is_booked : booked_with (past_of history) share.channel share.job ≡ Some with
   pub meets_its_class : IsTrue
-      (meets (dsha (rebuilt rules.pool_script with share)) (admitted_class with))
+      (meets (dsha (rebuilt_header rules.pool_script with share)) (admitted_class with))
   pub header : headers (past_of (history ++ credit ∷ []))
-      ≡ rebuilt rules.pool_script with share ∷ headers (past_of history)
+      ≡ rebuilt_header rules.pool_script with share ∷ headers (past_of history)
   pub counts : bookings_of (past_of (history ++ credit ∷ []))
       ≡ booking rules.pool_script share with ∷ bookings_of (past_of history)
 
@@ -55,7 +55,7 @@ pub record HasItsHeader (before after : List Event) (session : ℕ) (share : Sha
     (credit : Event) : Type 0 where
   pub was : IsBookedAfter before session share credit
   pub among : IsTrue
-      (list_any (bytes_eq (rebuilt was.rules.pool_script was.with share))
+      (list_any (bytes_eq (rebuilt_header was.rules.pool_script was.with share))
       (headers (past_of (before ++ credit ∷ after))))
 
 -- so is that of each Credit of a legal history

@@ -9,7 +9,7 @@ use Rattle.pool_history.specs.declared.events.JobState.{JobState}
 use Rattle.pool_history.specs.declared.events.JobState.TheVariants.{Unknown, Future, Live, Stale}
 use Rattle.pool_history.specs.declared.templates.TemplateData.{TemplateData}
 use Rattle.pool_history.specs.declared.templates.TipData.{TipData}
-use Rattle.pool_history.specs.Jobs.{Came, Tipped, Brought, Job, JobMove, Source, FromTemplate, FromMiner, Standing, at_most_sixteen, future_in, has_number, jobs_of, last, last_of, made_live, after_move, job_numbered, state_of}
+use Rattle.pool_history.specs.Jobs.{Came, Tipped, Brought, Job, JobMove, Source, FromTemplate, FromMiner, Standing, after_move, at_most_sixteen, custom_job, future_in, has_number, job_numbered, jobs_of, last, last_of, live_at_once, made_live, state_of, template_job}
 use Rattle.pool_history.specs.Judging.{Share, is_known_job, is_known_state, is_mineable}
 use Rattle.pool_history.specs.Sessions.{past_of}
 
@@ -48,19 +48,16 @@ abbrev pub keeping_template : Job → Bool → KeptJobs → KeptJobs
 keeping_template job true kept =
     record kept { count = kept.count + 1; future = last 16 (kept.future ++ job ∷ []) }
 keeping_template job false kept =
-    record kept { count = kept.count + 1; live = last 64 (kept.live ++ job ∷ []) }
+    record kept {
+      count = kept.count + 1;
+      live = last 64 (kept.live ++ live_at_once job ∷ []);
+    }
 
 -- one more move
 abbrev pub kept_after : JobMove → KeptJobs → KeptJobs
 kept_after (Came at session template) kept =
     keeping_template
-    (record {
-      number = kept.count + 1;
-      session = session;
-      since = at;
-      source = FromTemplate template;
-    })
-    template.future_template kept
+    (template_job (kept.count + 1) at session template) template.future_template kept
 kept_after (Tipped at tip) kept =
     record kept {
       future = [];
@@ -73,9 +70,7 @@ kept_after (Brought at custom) kept = record kept {
   count = kept.count + 1;
   own = kept.own ++ record { number = kept.count + 1; channel = custom.channel_id } ∷ [];
   custom = at_most_sixteen custom.channel_id
-      (kept.custom
-      ++ record { number = kept.count + 1; session = 0; since = at; source = FromMiner custom }
-      ∷ []);
+      (kept.custom ++ live_at_once (custom_job (kept.count + 1) at custom) ∷ []);
 }
 
 -- what is kept after a move is told by what was kept before it
@@ -118,12 +113,7 @@ pub record ReadsTheKept (history : List Event) (standing : Standing) : Type 0 wh
       && is_mineable_by (kept_of standing) share.channel share.job)
   pub newest_came : (session : ℕ) (template : TemplateData)
       → last_of (jobs_of (past_of (history ++ event.Template session template ∷ []))).all
-      ≡ Some (record {
-        number = (kept_of standing).count + 1;
-        session = session;
-        since = length history;
-        source = FromTemplate template;
-      })
+      ≡ Some (template_job ((kept_of standing).count + 1) (length history) session template)
 
 -- so it is with the jobs of each history
 abbrev pub KeptJobsSuffice : Type 0

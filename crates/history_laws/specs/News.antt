@@ -3,14 +3,14 @@
 use Rattle.std.specs.Prelude.{◌≡◌, ℕ, ◌≤◌, if◌then◌else◌, List, [], ◌∷◌, ◌++◌, length, nat_le}
 use Rattle.pool_history.specs.declared.events.Event.{Event}
 use Rattle.pool_history.specs.declared.telling.Note.{Note}
-use Rattle.pool_history.specs.News.{news, owed}
+use Rattle.pool_history.specs.News.{news, owed_notes}
 use Rattle.pool_history.specs.Sessions.{past_of, rules_of}
 
 -- what a session is owed for an event that stands behind these: by the history up to and with that
 -- event, and by nothing that comes later
 abbrev pub owed_at : List Event → Event → ℕ → List Note
 owed_at before event session =
-    owed (rules_of (event ∷ past_of before)) event (past_of before) session
+    owed_notes (rules_of (event ∷ past_of before)) event (past_of before) session
 
 -- what is owed of these events behind those, for each once and in their order, from a place on
 abbrev pub owed_from : ℕ → List Event → List Event → ℕ → List Note

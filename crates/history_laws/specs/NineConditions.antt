@@ -1,9 +1,8 @@
 -- The nine conditions of a share, each by itself (Stratum V2, "SubmitShares.Error"; their order is
--- this project's own). Channels, states, tips and credits are those by places over the history from
--- its front; which job is live, and what a credit was booked with, is told by the recursions over
--- jobs, of which `jobs_by_places` and `states_by_places` say the places. A code is told exactly where
--- its condition fails and all before it hold. What the recursion tells is computed in `Rows`.
-use Rattle.std.specs.Prelude.{IsTrue, ◌≡◌, ◌↔◌, ◌⊎◌, ℕ, ◌+◌, ◌≤◌, ◌<◌, Bool, true, Option, None, Some, List, [], ◌∷◌, ◌++◌, length}
+-- this project's own). Channels, jobs, states, tips and credits are those by places over the history
+-- from its front. A code is told exactly where its condition fails and all before it hold. What the
+-- recursion tells is computed in `Rows`.
+use Rattle.std.specs.Prelude.{IsTrue, ◌≡◌, ◌↔◌, ◌⊎◌, ℕ, ◌+◌, ◌≤◌, ◌<◌, true, Option, None, Some, List, [], ◌∷◌, ◌++◌, length}
 use Rattle.std.specs.List.{list_any}
 use Rattle.std.specs.Option.{option_map}
 use Rattle.std.specs.Str.{bytes_eq}
@@ -11,28 +10,32 @@ use Rattle.block_header.specs.Hash.{dsha, meets}
 use Rattle.pool_history.specs.declared.events.Event.{Event}
 use Rattle.pool_history.specs.declared.events.Event.TheVariants as event
 use Rattle.pool_history.specs.declared.events.JobState.TheVariants as state
-use Rattle.pool_history.specs.declared.events.Kind.TheVariants as kind
 use Rattle.pool_history.specs.declared.refusals.Failed.{Failed}
 use Rattle.pool_history.specs.declared.refusals.Failed.TheVariants as failed
 use Rattle.pool_history.specs.declared.settings.Rules.{Rules}
 use Rattle.pool_history.specs.declared.templates.TipData.{TipData}
-use Rattle.pool_history.specs.ByPlaces.{IsState, class_at_place, jobs_in, tip_in}
+use Rattle.pool_history.specs.ByPlaces.{IsState, class_at_place, jobs_in, live_jobs, own_jobs, tip_in}
 use Rattle.pool_history.specs.Channels.{OpenChannel, channel_in}
-use Rattle.pool_history.specs.Crediting.{booked_with, credit_share, first_failed, headers}
-use Rattle.pool_history.specs.Headers.{rolled}
-use Rattle.pool_history.specs.Jobs.{Job, is_open_to, jobs_of, live_job, job_numbered}
-use Rattle.pool_history.specs.Judging.{Admitted, Share, is_standard, min_ntime_of, outside, rebuilt, rolling_mask, version_of}
+use Rattle.pool_history.specs.Crediting.{credit_share, first_failed, headers}
+use Rattle.pool_history.specs.Headers.{rolled_length}
+use Rattle.pool_history.specs.Jobs.{Job, is_open_to, job_numbered}
+use Rattle.pool_history.specs.Judging.{Admitted, Share, is_standard, min_ntime_of, outside, rebuilt_header, rolling_mask, version_of}
 use Rattle.pool_history.specs.Sessions.{credits, past_of, script_of}
 use Rattle.history_laws.specs.Places.{channels_from}
 
--- the open channel that a share names
-abbrev pub NamesChannel : List Event → Share → OpenChannel → Type 0
-NamesChannel history share channel =
-    channel_in (channels_from 0 0 history) share.channel ≡ Some channel
+-- the open channel with an id
+abbrev pub IsOpenChannel : List Event → ℕ → OpenChannel → Type 0
+IsOpenChannel history id channel = channel_in (channels_from 0 0 history) id ≡ Some channel
 
--- the live job that a share names
-abbrev pub NamesJob : List Event → Share → Job → Type 0
-NamesJob history share job = live_job (jobs_of (past_of history)) share.job ≡ Some job
+-- a miner's own live job with a number: among the last sixteen of some channel
+abbrev pub IsOwnLiveJob : List Event → ℕ → Job → Type 0
+IsOwnLiveJob history number job =
+    (channel : ℕ) × (job_numbered number (own_jobs history channel) ≡ Some job)
+
+-- the live job with a number: a template's, or a miner's own
+abbrev pub IsLiveJob : List Event → ℕ → Job → Type 0
+IsLiveJob history number job =
+    (job_numbered number (live_jobs history) ≡ Some job) ⊎ IsOwnLiveJob history number job
 
 -- the last tip
 abbrev pub IsLastTip : List Event → TipData → Type 0
@@ -42,7 +45,7 @@ IsLastTip history tip = option_map (λ tipped. tipped.tip) (tip_in history) ≡ 
 -- message is
 pub record IsItsChannel (history : List Event) (session : ℕ) (share : Share) : Type 0 where
   pub channel : OpenChannel
-  pub is_open : NamesChannel history share channel
+  pub is_open : IsOpenChannel history share.channel channel
   pub is_its : channel.session ≡ session
   pub has_account : 1 ≤ length channel.account
   pub standard : is_standard channel.kind ≡ share.is_standard
@@ -50,8 +53,8 @@ pub record IsItsChannel (history : List Event) (session : ℕ) (share : Share) :
 -- second: the extranonce has the length that the channel rolls
 pub record HasRolledLength (history : List Event) (share : Share) : Type 0 where
   pub channel : OpenChannel
-  pub is_open : NamesChannel history share channel
-  pub long : length share.extranonce ≡ rolled channel.kind channel.lead
+  pub is_open : IsOpenChannel history share.channel channel
+  pub long : length share.extranonce ≡ rolled_length channel.kind channel.lead
 
 -- third: the job is neither unknown nor future, and is no other channel's own
 pub record IsMineable (history : List Event) (share : Share) : Type 0 where
@@ -70,32 +73,34 @@ pub record IsLiveOverTip (history : List Event) (share : Share) : Type 0 where
 -- fifth: the version equals the job's outside the bits that may be rolled
 pub record HasVersion (rules : Rules) (history : List Event) (share : Share) : Type 0 where
   pub job : Job
-  pub is_job : NamesJob history share job
+  pub is_job : IsLiveJob history share.job job
   pub same : outside (rolling_mask rules) share.version
       ≡ outside (rolling_mask rules) (version_of job.source)
 
 -- sixth: the time is in the window from the least one that the job allows on, without wrapping
 pub record IsInWindow (rules : Rules) (history : List Event) (share : Share) : Type 0 where
   pub job : Job
-  pub is_job : NamesJob history share job
+  pub is_job : IsLiveJob history share.job job
   pub tip : TipData
   pub is_tip : IsLastTip history tip
   pub least : min_ntime_of job.source tip ≤ share.ntime
   pub most : share.ntime ≤ min_ntime_of job.source tip + rules.ntime_window
 
--- what a share's header is rebuilt with: its channel, its live job and the last tip
-pub record IsRebuiltWith (history : List Event) (share : Share) (with : Admitted) : Type 0 where
-  pub is_open : NamesChannel history share with.channel
-  pub is_job : NamesJob history share with.job
+-- what a share's header is rebuilt with: its channel, its live job, since when that is live, and
+-- the last tip
+pub record IsRebuiltWith (history : List Event) (channel job : ℕ) (with : Admitted) : Type 0 where
+  pub is_open : IsOpenChannel history channel with.channel
+  pub is_job : IsLiveJob history job with.job
+  pub is_live_at : with.job.live_at ≡ Some with.live_at
   pub is_tip : IsLastTip history with.tip
 
 -- seventh: the hash of the rebuilt header meets the class that the channel had at the place since
 -- which the job is live
 pub record MeetsItsClass (rules : Rules) (history : List Event) (share : Share) : Type 0 where
   pub with : Admitted
-  pub is_with : IsRebuiltWith history share with
-  pub meets_class : meets (dsha (rebuilt rules.pool_script with share))
-      (class_at_place history with.channel.id with.job.since with.channel.opening_class) ≡ true
+  pub is_with : IsRebuiltWith history share.channel share.job with
+  pub meets_class : meets (dsha (rebuilt_header rules.pool_script with share))
+      (class_at_place history with.channel.id with.live_at with.channel.opening_class) ≡ true
 
 -- a Credit of the history has this header, rebuilt of its own fields by the events before it
 pub record HasCredited (history : List Event) (header : List ℕ) : Type 0 where
@@ -111,15 +116,15 @@ pub record HasCredited (history : List Event) (header : List ℕ) : Type 0 where
   pub parts : history
       ≡ before ++ event.Credit session channel job nonce ntime version extranonce ∷ after
   pub with : Admitted
-  pub is_with : booked_with (past_of before) channel job ≡ Some with
-  pub is_header : rebuilt (script_of (past_of before)) with
+  pub is_with : IsRebuiltWith before channel job with
+  pub is_header : rebuilt_header (script_of (past_of before)) with
       (credit_share with channel job nonce ntime version extranonce) ≡ header
 
 -- eighth: no Credit of the history has the rebuilt header
 pub record IsNewHeader (rules : Rules) (history : List Event) (share : Share) : Type 0 where
   pub with : Admitted
-  pub is_with : IsRebuiltWith history share with
-  pub not_credited : ¬ HasCredited history (rebuilt rules.pool_script with share)
+  pub is_with : IsRebuiltWith history share.channel share.job with
+  pub not_credited : ¬ HasCredited history (rebuilt_header rules.pool_script with share)
 
 -- the condition of each code; ninth: there are fewer credits than the limit
 abbrev pub Holds : Rules → List Event → ℕ → Share → Failed → Type 0

@@ -1,15 +1,14 @@
 -- What one more event does to what a history shows, for each of the twelve kinds of event (this
 -- project's own).
 use Rattle.std.specs.Prelude.{◌≡◌, ℕ, ◌+◌, ◌==◌, ◌||◌, Bool, if◌then◌else◌, not, Option, Some, List, [], ◌∷◌, ◌++◌, length, filter, map}
-use Rattle.std.specs.Option.{option_and_then, option_map}
 use Rattle.std.specs.Str.{bytes_eq}
 use Rattle.pool_history.specs.declared.events.Event.{Event}
 use Rattle.pool_history.specs.declared.events.Event.TheVariants as event
 use Rattle.pool_history.specs.declared.settings.Rules.{Rules}
-use Rattle.pool_history.specs.Channels.{OpenChannel, channel_in, channels_of, with_name, with_class}
-use Rattle.pool_history.specs.Crediting.{Booked, bookings_of, booking, credit_share, headers, listed}
-use Rattle.pool_history.specs.Jobs.{Came, Tipped, Brought, Standing, jobs_of, live_job, after_move}
-use Rattle.pool_history.specs.Judging.{Admitted, rebuilt}
+use Rattle.pool_history.specs.Channels.{OpenChannel, channels_of, with_name, with_class}
+use Rattle.pool_history.specs.Crediting.{Booked, booked_in, booking, bookings_of, credit_share, found_list, headers}
+use Rattle.pool_history.specs.Jobs.{Came, Tipped, Brought, Standing, after_move, jobs_of}
+use Rattle.pool_history.specs.Judging.{rebuilt_header}
 use Rattle.pool_history.specs.Refusing.{Granted, grant_of, is_spent, token_of}
 use Rattle.pool_history.specs.Sessions.{Entrance, credits, enters, entrance, grants, opens, past_of, present, rules_of, script_of, templates, unless_left}
 
@@ -134,19 +133,12 @@ ChannelsOneMore =
     → opens (past_of history) ≡ opened
     → channels_of (past_of (history ++ event ∷ [])) ≡ channels_after at opened event seen
 
--- what a credit is booked with: its channel, its live job and the tip
-abbrev pub booked_in : Standing → List OpenChannel → ℕ → ℕ → Option Admitted
-booked_in standing channels channel job = option_and_then
-    (λ there. option_and_then
-    (λ live. option_map (λ tip. record { channel = there; job = live; tip = tip }) standing.tip)
-    (live_job standing job)) (channel_in channels channel)
-
 -- the headers of all credits: a Credit adds its own, rebuilt by what the history before it shows
 abbrev pub headers_after : List ℕ → Standing → List OpenChannel → Event → List (List ℕ)
     → List (List ℕ)
 headers_after script standing channels
     (event.Credit session channel job nonce ntime version extranonce) seen =
-    listed (λ with. rebuilt script with
+    found_list (λ with. rebuilt_header script with
     (credit_share with channel job nonce ntime version extranonce))
     (booked_in standing channels channel job) ++ seen
 headers_after script standing channels event seen = seen
@@ -170,7 +162,7 @@ HeadersOneMore =
 abbrev pub booked_after : List ℕ → Standing → List OpenChannel → Event → List Booked → List Booked
 booked_after script standing channels
     (event.Credit session channel job nonce ntime version extranonce) seen =
-    listed (λ with. booking script
+    found_list (λ with. booking script
     (credit_share with channel job nonce ntime version extranonce) with)
     (booked_in standing channels channel job) ++ seen
 booked_after script standing channels event seen = seen

@@ -50,6 +50,13 @@ JobsStay =
     → live_job (jobs_of (past_of history)) number ≡ Some before
     → live_job (jobs_of (past_of (history ++ more))) number ≡ Some after → after ≡ before
 
+-- a job is live since the place that it was live since, and a channel's class there is as it was
+pub record KeepsItsClass (before after : OpenChannel) (job later : Job) : Type 0 where
+  pub place : ℕ
+  pub was_live_at : job.live_at ≡ Some place
+  pub is_live_at : later.live_at ≡ Some place
+  pub same : class_at after place ≡ class_at before place
+
 -- so the class of a channel at a live job never changes
 abbrev pub ClassesStay : Type 0
 ClassesStay =
@@ -58,7 +65,7 @@ ClassesStay =
     → channel_in (channels_of (past_of (history ++ more))) id ≡ Some after
     → live_job (jobs_of (past_of history)) number ≡ Some job
     → live_job (jobs_of (past_of (history ++ more))) number ≡ Some later
-    → class_at after later.since ≡ class_at before job.since
+    → KeepsItsClass before after job later
 
 -- the rebuilt headers of the credits that stand never change, nor do their accounts, work and
 -- rewards

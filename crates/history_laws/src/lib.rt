@@ -28,7 +28,7 @@ pub use legality::{
     empty_is_legal, first_illegal_is_one, legal_histories_start, legality_by_places,
     legality_is_decided, one_more_is_legal, prefixes_are_legal, start_is_legal,
 };
-pub use limits::{jobs_spend_tokens, legal_histories_keep_limits};
+pub use limits::{jobs_spend_tokens, legal_histories_keep_limits, own_jobs_are_read};
 pub use news::{news_by_places, news_go_on};
 pub use one_more::{
     channels_one_more, counts_one_more, credits_one_more, entrances_one_more, grants_one_more,

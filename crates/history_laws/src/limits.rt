@@ -1,6 +1,6 @@
 //! The limits that a legal history keeps.
 
-ghost use Rattle.history_laws.specs.Limits.{JobsSpendTokens, LegalHistoriesKeepLimits};
+ghost use Rattle.history_laws.specs.Limits.{JobsSpendTokens, LegalHistoriesKeepLimits, OwnJobsAreRead};
 
 /// Enters, openings, open channels of a session, templates, tokens and credits are within their
 /// limits, and there are no more jobs of miners' own than tokens: each of them spends one. All
@@ -12,4 +12,10 @@ pub fn legal_histories_keep_limits()
 /// Each job of a miner's own spends the token of an earlier Grant, which no other job spends.
 pub fn jobs_spend_tokens()
     ensures { JobsSpendTokens }
+{}
+
+/// The outputs of each job of a miner's own are read, there is one at least, and together they pay
+/// its reward, which is below 2^40 satoshis.
+pub fn own_jobs_are_read()
+    ensures { OwnJobsAreRead }
 {}

@@ -1,10 +1,10 @@
 -- What answers add to a legal history with a ledger can be kept.
-use Rattle.std.proofs.Common.{◌≡◌, ℕ, ◌+◌, ◌<◌, ◌≤◌, ◌^◌, Bool, true, false, cond, not, Option, None, Some, Result, Ok, Err, List, [], ◌∷◌, ◌++◌, length, max, refl, subst, sym, arith, length-take-le}
-use Rattle.std.proofs.lemmas.Bool.{cond_both, ltb-false, ltb-true, not-false}
+use Rattle.std.proofs.Common.{◌≡◌, ℕ, ◌+◌, ◌<◌, ◌≤◌, ◌^◌, Bool, true, false, ◌||◌, cond, not, is_some, Option, None, Some, Result, Ok, Err, List, [], ◌∷◌, ◌++◌, length, max, refl, subst, sym, arith, length-take-le}
+use Rattle.std.proofs.lemmas.Bool.{cond_both, leb-true, ltb-false, ltb-true}
 use Rattle.std.proofs.lemmas.Nat.{and_le_l}
 use Rattle.std.proofs.lemmas.Slice.Eq.{bytes_eq-Decides}
 use Rattle.std.proofs.lemmas.Str.{IsUtf8-nil}
-use Rattle.std.specs.Prelude.{bit_and, is_none, nat_le, nat_lt, take}
+use Rattle.std.specs.Prelude.{bit_and, nat_le, nat_lt, take}
 use Rattle.std.specs.List.{AllByRecursion}
 use Rattle.std.specs.Option.{option_to_list}
 use Rattle.std.specs.Str.{bytes_eq}
@@ -24,15 +24,10 @@ use Rattle.pool_history.specs.declared.events.Event.TheVariants as event
 use Rattle.pool_history.specs.declared.events.Kind.{Kind}
 use Rattle.pool_history.specs.declared.events.Kind.TheVariants as kind
 use Rattle.pool_history.specs.declared.events.Role.{Role}
-use Rattle.pool_history.specs.declared.refusals.CustomError.{CustomError}
 use Rattle.pool_history.specs.declared.refusals.CustomError.TheVariants as custom
 use Rattle.pool_history.specs.declared.refusals.Failed.{Failed}
-use Rattle.pool_history.specs.declared.refusals.GrantError.{GrantError}
 use Rattle.pool_history.specs.declared.refusals.GrantError.TheVariants as grant
-use Rattle.pool_history.specs.declared.refusals.JobError.{JobError}
 use Rattle.pool_history.specs.declared.refusals.JobError.TheVariants as job
-use Rattle.pool_history.specs.declared.refusals.NameError.TheVariants as name
-use Rattle.pool_history.specs.declared.refusals.UpdateError.TheVariants as update
 use Rattle.pool_history.specs.declared.replies.Reply.TheVariants as reply
 use Rattle.pool_history.specs.declared.settings.Rules.{Rules}
 use Rattle.pool_history.specs.declared.shares.Submission.{Submission}
@@ -40,15 +35,16 @@ use Rattle.pool_history.specs.declared.templates.CustomData.{CustomData}
 use Rattle.pool_history.specs.declared.templates.TemplateData.{TemplateData}
 use Rattle.pool_history.specs.declared.templates.TipData.{TipData}
 use Rattle.pool_history.specs.Accounts.{account_of, is_empty, is_known}
-use Rattle.pool_history.specs.Answering.{account_for, briefing, classing, closing, committing, crediting, entering, granting, with_event, naming, opening, permits, step, step_as, step_by, step_for, step_in, step_under, without_event, with_found}
+use Rattle.pool_history.specs.Answering.{account_for, briefing, classing, closing, committing, crediting, entering, granting, with_event, naming, opening, permits, step, step_as, step_by, step_for, step_in, step_under, without_event}
 use Rattle.pool_history.specs.Channels.{OpenChannel, present_class}
 use Rattle.pool_history.specs.Crediting.{last_failed}
-use Rattle.pool_history.specs.Jobs.{future_of, jobs_of}
-use Rattle.pool_history.specs.Judging.{Admitted, admitted, custom_terms, share_of, template_terms}
+use Rattle.pool_history.specs.Jobs.{Job, jobs_of}
+use Rattle.pool_history.specs.Judging.{Admitted, admission, custom_terms, share_of, template_terms}
 use Rattle.pool_history.specs.Legal.{LegalPast, allowed_flags}
-use Rattle.pool_history.specs.Refusing.{Granted, class_for, class_of_target, coinbase_refusal, custom_refusal, grant_of, grant_refusal, granted_to, has_other, is_bad_path, is_extended, is_other_tip, is_spent, is_template_known, lead_for, lead_length, held_leads, may_open, most_enters, most_entries, most_grants, most_templates, on_channel, outputs_refusal, over_tip, own_channel, template_refusal, token_of, unspent, with_token, openable, nameable, updatable, tippable}
+use Rattle.pool_history.specs.Refusing.{Granted, class_for, class_of_target, coinbase_refusal, custom_refusal, grant_of, grant_refusal, granted_to, is_bad_path, is_extended, is_other_tip, is_spent, is_template_known, lead_for, lead_length, held_leads, may_open, most_enters, most_entries, most_grants, most_templates, on_channel, outputs_refusal, over_tip, own_channel, template_refusal, token_of, unspent, with_token, openable, nameable, updatable, tippable}
 use Rattle.pool_history.specs.Sessions.{Entrance, enters, entrance, grants, past_of, present, rules_of, templates}
-use Rattle.history_laws.proofs.Answering.{IsOpen, answers-legal, peel, unless-event, found-event, was-openable, was-nameable, was-updatable}
+use Rattle.history_laws.proofs.Answering.{IsOpen, answers-legal, unless-event, found-event, was-openable, was-nameable, was-updatable}
+use Rattle.history_laws.proofs.Causes.{provided-both}
 use Rattle.history_laws.proofs.Counted.{entered-most}
 use Rattle.history_laws.proofs.Crediting.{kept-both}
 use Rattle.history_laws.proofs.Entrances.{entrance-below, none-some}
@@ -125,12 +121,10 @@ template-fits script template parts is =
 template-kept : (script : List ℕ) (past : List Event) (session : ℕ) (template : TemplateData) → IsU32 session → IsTemplate template
     → template_refusal script past template ≡ None → CanBeKept (event.Template session template)
 template-kept script past session template s is n =
-    let last : Option JobError = coinbase_refusal (template_assembly (template_terms template) script) in
-    let third : Option JobError = cond (Rattle.std.specs.Prelude.◌&&◌ (not template.future_template) (is_none (jobs_of past).tip)) (Some job.NoTip) last in
-    let second : Option JobError = cond (is_template_known (jobs_of past) template.template_id) (Some (job.TemplateKnown template.template_id)) third in
-    let a = peel (nat_le most_templates (templates past)) (job.TooMany (templates past)) second n in
-    let b = peel (is_template_known (jobs_of past) template.template_id) (job.TemplateKnown template.template_id) third a.1 in
-    let c = peel (Rattle.std.specs.Prelude.◌&&◌ (not template.future_template) (is_none (jobs_of past).tip)) job.NoTip last b.1 in
+    let jobs : List Job = (jobs_of past).future ++ (jobs_of past).live in
+    let a = provided-both (nat_lt (templates past) most_templates) (job.TooMany (templates past)) _ n in
+    let b = provided-both (not (is_template_known jobs template.template_id)) (job.TemplateKnown template.template_id) _ a.1 in
+    let c = provided-both (template.future_template || is_some (jobs_of past).tip) job.NoTip _ b.1 in
     let ok = coinbase-ok (template_assembly (template_terms template) script) c.1 in
     let short : IsShortTemplate template = template-fits script template ok.0 ok.1 in
     record {
@@ -242,12 +236,10 @@ record IsGranting (account : List ℕ) (path : List (List ℕ)) : Type 0 where
 grant-conditions : (rules : Rules) (past : List Event) (account : List ℕ) (path : List (List ℕ)) → grant_refusal rules past account path ≡ None
     → IsGranting account path
 grant-conditions rules past account path n =
-    let last : Option GrantError = cond (nat_lt most_entries (length path)) (Some (grant.PathTooLong (length path))) None in
-    let second : Option GrantError = cond (nat_le most_grants (grants past)) (Some (grant.TooManyGrants (grants past))) last in
-    let a = peel (not (is_known rules account)) grant.UnknownUser second n in
-    let b = peel (nat_le most_grants (grants past)) (grant.TooManyGrants (grants past)) last a.1 in
-    let c = peel (nat_lt most_entries (length path)) (grant.PathTooLong (length path)) None b.1 in
-    record { spelled = known-spelled rules account (not-false (is_known rules account) a.0); few = fewer (length path) (ltb-false most_entries (length path) c.0) }
+    let a = provided-both (is_known rules account) grant.UnknownUser _ n in
+    let b = provided-both (nat_lt (grants past) most_grants) (grant.TooManyGrants (grants past)) _ a.1 in
+    let c = provided-both (nat_le (length path) most_entries) (grant.PathTooLong (length path)) None b.1 in
+    record { spelled = known-spelled rules account a.0; few = fewer (length path) (leb-true (length path) most_entries c.0) }
   where
     fewer : (n : ℕ) → n ≤ 32 → n ≤ 255
     fewer n h = omega (arith, h)
@@ -326,12 +318,9 @@ custom-fits script offer t n =
 over-tip : (script : List ℕ) (g : Granted) (offer : CustomData) (o : Option TipData) → length offer.token ≤ 8 → over_tip script g offer o ≡ None → IsShortCustom offer
 over-tip script g offer None t n = absurd (some-none n)
 over-tip script g offer (Some tip) t n =
-    let last : Option CustomError = outputs_refusal (custom_assembly (custom_terms offer) script) in
-    let third : Option CustomError = cond (is_bad_path g offer.merkle_path) (Some (custom.BadPath (length offer.merkle_path))) last in
-    let second : Option CustomError = cond (nat_lt offer.min_ntime tip.header_timestamp) (Some (custom.EarlyTime tip.header_timestamp)) third in
-    let a = peel (is_other_tip tip offer) custom.StaleTip second n in
-    let b = peel (nat_lt offer.min_ntime tip.header_timestamp) (custom.EarlyTime tip.header_timestamp) third a.1 in
-    let c = peel (is_bad_path g offer.merkle_path) (custom.BadPath (length offer.merkle_path)) last b.1 in
+    let a = provided-both (not (is_other_tip tip offer)) custom.StaleTip _ n in
+    let b = provided-both (nat_le tip.header_timestamp offer.min_ntime) (custom.EarlyTime tip.header_timestamp) _ a.1 in
+    let c = provided-both (not (is_bad_path g offer.merkle_path)) (custom.BadPath (length offer.merkle_path)) _ b.1 in
     custom-fits script offer t c.1
 
 with-token : (script : List ℕ) (past : List Event) (offer : CustomData) (c : OpenChannel) (o : Option Granted) → unspent past offer.token c ≡ o
@@ -386,12 +375,12 @@ step_in-kept rules past session (request.Update id target) l are s w =
     found-event MayKeep reply.UpdateRefused (classing session id (class_for rules target)) (updatable target (own_channel past session id)) tt
     (λ c is. class-kept rules past session id target l are s w.channel_fits c (was-updatable target (own_channel past session id) c is).1)
 step_in-kept rules past session (request.Close id) l are s w = close-kept session id s w (own_channel past session id)
-step_in-kept rules past session (request.Brief sub) l are s w = no_event (admitted rules past session (share_of sub)) where
+step_in-kept rules past session (request.Brief sub) l are s w = no_event (admission rules past session (share_of sub)) where
   no_event : (r : Result Admitted Failed) → MayKeep (briefing rules r).event
   no_event (Ok with) = tt
   no_event (Err code) = tt
 step_in-kept rules past session (request.Commit checked) l are s w =
-    commit-kept rules past session checked.sub s w (admitted rules past session (share_of checked.sub))
+    commit-kept rules past session checked.sub s w (admission rules past session (share_of checked.sub))
 step_in-kept rules past session (request.Poll from) l are s w = tt
 step_in-kept rules past session (request.Grant identity path) l are s w = grant-kept rules past session (account_of identity) path s w.path_fits
 step_in-kept rules past session (request.Custom offer) l are s w =

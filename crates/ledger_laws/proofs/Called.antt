@@ -1,5 +1,5 @@
 -- Calls that part a history keep a ledger of it.
-use Rattle.std.proofs.Common.{◌≡◌, List, [], ◌++◌, subst, sym}
+use Rattle.std.proofs.Common.{List, ◌++◌, subst, sym}
 use Rattle.std.proofs.lemmas.List.{append-nil}
 use Rattle.calls.proofs.Behind.{all-kept}
 use Rattle.calls.specs.Calls.{Faulted, IsOutcome, Outcome, Replied}

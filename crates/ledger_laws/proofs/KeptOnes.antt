@@ -6,7 +6,7 @@ use Rattle.pool_history.specs.declared.events.Role.TheVariants as role
 use Rattle.pool_history.specs.Ledger.{ledger_text}
 use Rattle.pool_history.specs.Legal.{Legal}
 use Rattle.pool_history.proofs.Given.{start}
-use Rattle.ledger_laws.specs.Keeping.{IsLedgerOf, KeptLedgersAreOfOneHistory}
+use Rattle.ledger_laws.specs.Keeping.{KeptLedgersAreOfOneHistory}
 use Rattle.ledger_laws.proofs.Records.{ledgers}
 
 pub kept-ledgers : KeptLedgersAreOfOneHistory

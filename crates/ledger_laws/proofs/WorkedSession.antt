@@ -6,6 +6,7 @@ use Rattle.sha2.specs.Sha256.{sha256, digest_bytes, hash_after, compress, rounds
 use Rattle.block_header.specs.Hash.{dsha}
 use Rattle.coinbase.specs.Compact.{compact}
 use Rattle.coinbase.specs.Outputs.{outputs_within}
+use Rattle.coinbase.specs.Reading.{number_at, compact_at, sized_at, output_at}
 use Rattle.pool_history.specs.declared.causes.Cause.TheVariants as cause
 use Rattle.pool_history.specs.declared.events.Event.{Event}
 use Rattle.pool_history.specs.declared.events.Event.TheVariants as event
@@ -15,7 +16,7 @@ use Rattle.pool_history.specs.declared.replies.Reply.TheVariants as reply
 use Rattle.pool_history.specs.declared.telling.Note.TheVariants as note
 use Rattle.pool_history.specs.Answering.{committing, with_event}
 use Rattle.pool_history.specs.Crediting.{bookings_of, headers}
-use Rattle.pool_history.specs.Judging.{admitted}
+use Rattle.pool_history.specs.Judging.{admission}
 use Rattle.pool_history.specs.Ledger.{ledger_text, record_of}
 use Rattle.pool_history.specs.Legal.{Legal, cause_of}
 use Rattle.pool_history.specs.News.{news, root_for}
@@ -23,6 +24,7 @@ use Rattle.pool_history.specs.Sessions.{past_of}
 use Rattle.pool_history.specs.Sessions as sessions
 use Rattle.pool_history.specs.Summary.{summary_of}
 use Rattle.pool_history.proofs.Given.{rules, start, enters, opens, comes, tips, tip_of, credits, leaves, session, share, templated, tipped}
+use Rattle.pool_history.proofs.OwnJobs.{brings, granted}
 use Rattle.pool_history.proofs.NewsRows.{first_job, standard_channel}
 use Rattle.pool_history.proofs.SessionS.{cause_of-start, cause_of-enters, cause_of-opens, cause_of-comes, cause_of-tips, cause_of-leaves}
 use Rattle.ledger_laws.specs.Keeping.{IsKept}
@@ -76,7 +78,7 @@ unfolding sha256 digest_bytes hash_after compress rounds schedule first_words co
 summary_of_session = refl
 
 -- the answer to its share
-pub step-commit : committing rules tipped 0 share (admitted rules tipped 0 share) ≡ with_event credits (reply.Credited 1)
+pub step-commit : committing rules tipped 0 share (admission rules tipped 0 share) ≡ with_event credits (reply.Credited 1)
 unfolding sha256 digest_bytes hash_after compress rounds schedule first_words compact
 step-commit = refl
 
@@ -130,3 +132,16 @@ pub booked_without_block : bookings_of (credits ∷ event.Tip 0 (record (tip_of 
     ≡ record { account = 0x61 ∷ []; work = 1; reward = None } ∷ []
 unfolding sha256 digest_bytes hash_after compress rounds schedule first_words compact
 booked_without_block = refl
+
+-- the same share on the miner's own job is a block too, with the reward that the job's outputs pay; its news owe no
+-- solution
+abbrev pub credits_own : Event
+credits_own = event.Credit 0 1 2 0 1000000 0x20000000 (replicate 8 0)
+
+pub booked_of-own_job : bookings_of (credits_own ∷ brings ∷ granted) ≡ record { account = 0x61 ∷ []; work = 1; reward = Some 2000 } ∷ []
+unfolding outputs_within output_at sized_at compact_at number_at sha256 digest_bytes hash_after compress rounds schedule first_words compact
+booked_of-own_job = refl
+
+pub news-own_block : news 7 (credits_own ∷ brings ∷ granted) 0 ≡ []
+unfolding outputs_within output_at sized_at compact_at number_at sha256 digest_bytes hash_after compress rounds schedule first_words compact
+news-own_block = refl

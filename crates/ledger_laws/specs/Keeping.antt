@@ -1,5 +1,5 @@
 -- Legal histories that have a ledger, and that answers keep them so (this project's own).
-use Rattle.std.specs.Prelude.{IsTrue, ◌≡◌, ℕ, List, [], ◌∷◌, ◌++◌, take}
+use Rattle.std.specs.Prelude.{IsTrue, ◌≡◌, ℕ, List, [], ◌∷◌, ◌++◌}
 use Rattle.std.specs.List.{AllByRecursion}
 use Rattle.pool_history.specs.declared.asking.Request.{Request}
 use Rattle.pool_history.specs.declared.events.Event.{Event}

@@ -5,9 +5,8 @@ use Rattle.std.proofs.lemmas.List.Sums.{sum_by-cons}
 use Rattle.pool_history.specs.Accounts.{are_distinct}
 use Rattle.pool_history.specs.Crediting.{Booked}
 use Rattle.pool_history.specs.Sessions.{past_of}
-use Rattle.pool_history.specs.Settling.{Part, Payment, accounts_of, all_weights, fee_of, last_work, parts_in_block, payments_of, settlement, since_block, weight}
+use Rattle.pool_history.specs.Settling.{Part, Payment, accounts_of, all_weights, fee_of, last_work, paid_to, parts_in_block, payments_of, settlement, since_block, weight}
 use Rattle.payout_laws.specs.Conservation.{IsConserved, IsRoundedDown, RewardsAreConserved}
-use Rattle.payout_laws.specs.Payouts.{PayoutsAreQuotients}
 use Rattle.payout_laws.proofs.Sums.{all-behind, bytes_eq-turned, met_never, met_once, sum_by-accounts, sum_by-filter, sum_by-same}
 use Rattle.payout_laws.proofs.Members.{among-accounts_of, distinct-accounts_of, parts_of-among, weight-none}
 use Rattle.payout_laws.proofs.Shares.{all-each, all-payments, amounts, distinct-payments, little_left, not_more, nothing_paid, payment_rounds, some_paid, sum_by-payments, weights}
@@ -82,9 +81,11 @@ rewards_conserved history rules block older reward legal is =
     all-behind HasWork is.newer (block ∷ older) (subst (λ credits. AllByRecursion HasWork credits) is.stands (booked-has_work (past_of history))) in
     conserved rules.window rules.fee reward (block ∷ older) pays.fee (some_weight rules.window block older work.0 pays.room)
 
--- each account is paid its quotient
-pub payouts_quotients : PayoutsAreQuotients
-payouts_quotients window basis_points reward credits account =
+-- each account is paid the quotient of its weight
+pub payouts-weighed : (window : Option ℕ) (basis_points reward : ℕ) (credits : List Booked) (account : List ℕ)
+    → paid_to account (settlement window basis_points reward credits)
+    ≡ (reward - fee_of reward basis_points) * weight account (parts_in_block window credits) / all_weights (parts_in_block window credits)
+payouts-weighed window basis_points reward credits account =
     let paid_out : ℕ = reward - fee_of reward basis_points in
     let parts : List Part = parts_in_block window credits in
     let accounts : List (List ℕ) = accounts_of credits in

@@ -18,7 +18,8 @@ use Rattle.payout_laws.proofs.Sums.{all-append, all-weaker, sum_by-accounts, sum
 use Rattle.payout_laws.proofs.Members.{AreAmong, IsAmong, accounts_of-among, among-accounts_of, distinct-accounts_of}
 use Rattle.payout_laws.proofs.Shares.{all-payments}
 use Rattle.payout_laws.proofs.Ranges.{HasRoom, HasWork, PaysFrom, booked-has_work, pays_from, rules-in_range, rules-none}
-use Rattle.payout_laws.proofs.Conserved.{conserved, payouts_quotients, some_weight}
+use Rattle.payout_laws.proofs.Conserved.{conserved, some_weight}
+use Rattle.payout_laws.proofs.WeightsPlaced.{payouts-placed}
 
 -- how many blocks there are among credits
 abbrev pub blocks_in : List Booked → ℕ
@@ -77,7 +78,7 @@ balances_sums window basis_points credits account =
     ap (λ settled. sum_by (paid_to account) settled) (settlements_are window basis_points credits)
     ∙ sum_by-map (paid_to account) (settled_block window basis_points) (blocks_of credits)
     ∙ sum_by-same (λ block. paid_to account (settled_block window basis_points block)) (due_of window basis_points account) (blocks_of credits)
-    (λ block. payouts_quotients window basis_points block.reward block.credits account)
+    (λ block. payouts-placed window basis_points block.reward block.credits account)
 
 -- sums of terms that are the same at each element
 sum_by-all : {X : Type 0} (f g : X → ℕ) (xs : List X) → AllByRecursion (λ x. f x ≡ g x) xs → sum_by f xs ≡ sum_by g xs

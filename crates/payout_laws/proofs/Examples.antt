@@ -1,9 +1,10 @@
 -- What the laws aren't: statements that a worked example refutes.
-use Rattle.std.proofs.Common.{◌≡◌, ℕ, ◌+◌, ◌-◌, ◌<◌, ◌≤◌, sum_by, Option, None, Some, List, [], ◌∷◌, refl, arith}
+use Rattle.std.proofs.Common.{◌≡◌, ℕ, ◌+◌, ◌-◌, ◌<◌, ◌≤◌, map, sum_by, Option, None, Some, List, [], ◌∷◌, refl, arith}
 use Rattle.pool_history.specs.Crediting.{Booked}
 use Rattle.pool_history.specs.Settling.{Settled, settlement}
 use Rattle.payout_laws.specs.Blocks.{blocks_of}
 use Rattle.payout_laws.specs.Payouts.{due}
+use Rattle.payout_laws.specs.Weights.{weight_by_places, weights_by_places}
 
 -- credits of two accounts: a of work 1 and then 2, and b of work 4, which is a block of 1,000 satoshis
 abbrev pub credits : List Booked
@@ -46,3 +47,29 @@ nothing_due = refl
 -- there is one block, with all three credits
 pub one_block : blocks_of credits ≡ record { reward = 1000; credits = credits } ∷ []
 one_block = refl
+
+-- weights by places: credits of a 4, b 2, a 1 and b 2, which is a block; by a window of 6 the oldest credit is cut to one
+-- unit, by one of 1 the block's own credit is cut too, by one of 100 nothing is
+abbrev pub four_credits : List Booked
+four_credits =
+    record { account = 0x62 ∷ []; work = 2; reward = Some 1000 } ∷ record { account = 0x61 ∷ []; work = 1; reward = None }
+    ∷ record { account = 0x62 ∷ []; work = 2; reward = None } ∷ record { account = 0x61 ∷ []; work = 4; reward = None } ∷ []
+
+abbrev pub both_accounts : List (List ℕ)
+both_accounts = (0x61 ∷ []) ∷ (0x62 ∷ []) ∷ []
+
+pub weights_of_six : map (weight_by_places (Some 6) four_credits) both_accounts ≡ 2 ∷ 4 ∷ []
+weights_of_six = refl
+
+pub weights_of_one : map (weight_by_places (Some 1) four_credits) both_accounts ≡ 0 ∷ 1 ∷ []
+weights_of_one = refl
+
+pub weights_of_hundred : map (weight_by_places (Some 100) four_credits) both_accounts ≡ 5 ∷ 4 ∷ []
+weights_of_hundred = refl
+
+-- by the proportional rule the same weigh all their work, and nothing before a block counts for the next
+pub weights_of_round : map (weight_by_places None four_credits) both_accounts ≡ 5 ∷ 4 ∷ []
+weights_of_round = refl
+
+pub weights_of_next_round : weights_by_places None (record { account = 0x61 ∷ []; work = 3; reward = Some 500 } ∷ four_credits) ≡ 3
+weights_of_next_round = refl

@@ -1,15 +1,14 @@
 -- What a legal history says of its rules and of the work of its credits.
-use Rattle.std.proofs.Common.{◌≡◌, ℕ, ◌≤◌, ◌^◌, Bool, true, false, cond, ◌&&◌, nat_le, nat_lt, Option, None, Some, Result, Ok, Err, List, [], ◌∷◌, length, refl, sym, ap, ◌∙◌, pow_pos}
+use Rattle.std.proofs.Common.{◌≡◌, ℕ, ◌≤◌, ◌^◌, Bool, true, false, cond, ◌&&◌, nat_le, nat_lt, Option, None, Some, List, [], ◌∷◌, length, refl, sym, ap, ◌∙◌, pow_pos}
 use Rattle.std.specs.List.{AllByRecursion, list_all}
 use Rattle.std.proofs.lemmas.Bool.{and_parts, leb-true}
 use Rattle.pool_history.specs.declared.causes.Cause.TheVariants as cause
 use Rattle.pool_history.specs.declared.causes.Cause.{Cause}
 use Rattle.pool_history.specs.declared.events.Event.{Event}
 use Rattle.pool_history.specs.declared.events.Event.TheVariants as event
-use Rattle.pool_history.specs.declared.refusals.Failed.{Failed}
 use Rattle.pool_history.specs.declared.settings.Rules.{Rules}
 use Rattle.pool_history.specs.Accounts.{are_distinct, are_in_range, is_user, is_window}
-use Rattle.pool_history.specs.Crediting.{Booked, bookings_of, booked_with, booking, admitted_class, credit_share, listed}
+use Rattle.pool_history.specs.Crediting.{Booked, bookings_of, booked_with, booking, admitted_class, credit_share, found_list}
 use Rattle.pool_history.specs.Judging.{Admitted}
 use Rattle.pool_history.specs.Legal.{LegalPast}
 use Rattle.pool_history.specs.Sessions.{rules_of, script_of}
@@ -91,7 +90,7 @@ pays_from rules is =
 abbrev pub HasWork : Booked → Type 0
 HasWork credit = 1 ≤ credit.work
 
-listed_has_work : (f : Admitted → Booked) (found : Option Admitted) → ((with : Admitted) → HasWork (f with)) → AllByRecursion HasWork (listed f found)
+listed_has_work : (f : Admitted → Booked) (found : Option Admitted) → ((with : Admitted) → HasWork (f with)) → AllByRecursion HasWork (found_list f found)
 listed_has_work f (Some with) each = (each with, tt)
 listed_has_work f None each = tt
 
@@ -99,7 +98,7 @@ pub booked-has_work : (past : List Event) → AllByRecursion HasWork (bookings_o
 booked-has_work [] = tt
 booked-has_work (event.Credit session channel job nonce ntime version extranonce ∷ older) =
     all-append HasWork
-    (listed (λ with. booking (script_of older) (credit_share with channel job nonce ntime version extranonce) with) (booked_with older channel job))
+    (found_list (λ with. booking (script_of older) (credit_share with channel job nonce ntime version extranonce) with) (booked_with older channel job))
     (bookings_of older)
     (listed_has_work (λ with. booking (script_of older) (credit_share with channel job nonce ntime version extranonce) with)
     (booked_with older channel job) (λ with. pow_pos (admitted_class with)))

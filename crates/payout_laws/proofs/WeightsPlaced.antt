@@ -5,9 +5,10 @@ use Rattle.std.specs.List.{list_any}
 use Rattle.std.proofs.lemmas.List.Folds.{list_any-append}
 use Rattle.std.proofs.lemmas.List.Sums.{sum_by-append, sum_by-cons}
 use Rattle.pool_history.specs.Crediting.{Booked}
-use Rattle.pool_history.specs.Settling.{Part, all_weights, fee_of, last_work, parts_in_block, proportional, settlement, since_block, weight, whole_part}
-use Rattle.payout_laws.specs.Weights.{HasWeights, PayoutsByPlaces, WeightsByPlaces, is_in_round, part_at, parts_from, weight_by_places, weights_by_places}
-use Rattle.payout_laws.proofs.Conserved.{payouts_quotients}
+use Rattle.pool_history.specs.Settling.{Part, all_weights, fee_of, last_work, parts_in_block, since_block, whole_part}
+use Rattle.payout_laws.specs.Payouts.{PayoutsAreQuotients}
+use Rattle.payout_laws.specs.Weights.{HasWeights, WeightsByPlaces, part_at, parts_from}
+use Rattle.payout_laws.proofs.Conserved.{payouts-weighed}
 
 -- the weights of the parts whose account a test takes
 abbrev taken : (List ℕ → Bool) → List Part → ℕ
@@ -104,8 +105,8 @@ weights-placed window credits account = record {
   all = sym (taken-all (parts_in_block window credits)) ∙ parts-placed (λ other. true) window credits;
 }
 
-pub payouts-placed : PayoutsByPlaces
+pub payouts-placed : PayoutsAreQuotients
 payouts-placed window basis_points reward credits account =
     let w : HasWeights window credits account = weights-placed window credits account in
-    payouts_quotients window basis_points reward credits account
+    payouts-weighed window basis_points reward credits account
     ∙ ap₂ (λ own all. (reward - fee_of reward basis_points) * own / all) w.own w.all

@@ -1,15 +1,16 @@
--- What an account is due, as quotients (Rosenfeld, "Analysis of Bitcoin Pooled Mining Reward
--- Systems"; the rounding down is this project's own).
+-- What an account is due, as quotients of weights by places (Rosenfeld, "Analysis of Bitcoin Pooled
+-- Mining Reward Systems"; the rounding down is this project's own).
 use Rattle.std.specs.Prelude.{◌≡◌, ℕ, ◌-◌, ◌*◌, ◌/◌, Option, List, sum_by}
 use Rattle.pool_history.specs.Crediting.{Booked}
-use Rattle.pool_history.specs.Settling.{all_weights, balance, fee_of, paid_to, parts_in_block, settlement, settlements, weight}
+use Rattle.pool_history.specs.Settling.{balance, fee_of, paid_to, settlement, settlements}
 use Rattle.payout_laws.specs.Blocks.{Block, blocks_of}
+use Rattle.payout_laws.specs.Weights.{weight_by_places, weights_by_places}
 
 -- the quotient of an account's weight by all weights, of the reward after the fee
 abbrev pub due : Option ℕ → ℕ → ℕ → List Booked → List ℕ → ℕ
 due window basis_points reward credits account =
-    (reward - fee_of reward basis_points) * weight account
-    (parts_in_block window credits) / all_weights (parts_in_block window credits)
+    (reward - fee_of reward basis_points) * weight_by_places window credits account
+    / weights_by_places window credits
 
 -- the same of a block
 abbrev pub due_of : Option ℕ → ℕ → List ℕ → Block → ℕ

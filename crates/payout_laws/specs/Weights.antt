@@ -3,11 +3,11 @@
 -- work, the window and the cut are this project's own). The credits up to and with a block's own
 -- stand last first, as the block's is the last. What they are equal
 -- to, the running weights, is computed in `Settlements` of `pool_history`.
-use Rattle.std.specs.Prelude.{◌≡◌, ℕ, ◌+◌, ◌-◌, ◌*◌, ◌/◌, ◌&&◌, Bool, true, not, if◌then◌else◌, min, Option, None, Some, is_some, List, [], ◌∷◌, ◌++◌, sum_by}
+use Rattle.std.specs.Prelude.{◌≡◌, ℕ, ◌+◌, ◌-◌, ◌&&◌, Bool, true, not, if◌then◌else◌, min, Option, None, Some, is_some, List, [], ◌∷◌, ◌++◌, sum_by}
 use Rattle.std.specs.List.{list_any}
 use Rattle.std.specs.Str.{bytes_eq}
 use Rattle.pool_history.specs.Crediting.{Booked}
-use Rattle.pool_history.specs.Settling.{all_weights, fee_of, paid_to, parts_in_block, settlement, weight}
+use Rattle.pool_history.specs.Settling.{all_weights, parts_in_block, weight}
 
 -- no block stands at a credit or behind it, but for the last: `newer` are those behind it, the
 -- block's own first
@@ -58,11 +58,3 @@ abbrev pub WeightsByPlaces : Type 0
 WeightsByPlaces =
     (window : Option ℕ) (credits : List Booked) (account : List ℕ)
     → HasWeights window credits account
-
--- so an account is paid the quotient of its weight by all weights, of the reward after the fee
-abbrev pub PayoutsByPlaces : Type 0
-PayoutsByPlaces =
-    (window : Option ℕ) (basis_points reward : ℕ) (credits : List Booked) (account : List ℕ)
-    → paid_to account (settlement window basis_points reward credits)
-    ≡ (reward - fee_of reward basis_points) * weight_by_places window credits account
-    / weights_by_places window credits

@@ -5,18 +5,13 @@ ghost use Rattle.payout_laws.specs.Conservation.{RewardsAreConserved};
 ghost use Rattle.payout_laws.specs.Payouts.{BalancesAreSums, PayoutsAreQuotients};
 ghost use Rattle.payout_laws.specs.Placed.{BlocksByPlaces};
 ghost use Rattle.payout_laws.specs.Summaries.{SummariesAreOfBlocks};
-ghost use Rattle.payout_laws.specs.Weights.{PayoutsByPlaces, WeightsByPlaces};
+ghost use Rattle.payout_laws.specs.Weights.{WeightsByPlaces};
 
 /// Each block of a legal history: its reward is its payouts plus the pool's part. The part beyond
 /// the fee is less than one satoshi for each account with a weight, and each payout is its exact
 /// share, rounded down.
 pub fn rewards_are_conserved()
     ensures { RewardsAreConserved }
-{}
-
-/// An account is paid the quotient of its weight by all weights, and nothing without a weight.
-pub fn payouts_are_quotients()
-    ensures { PayoutsAreQuotients }
 {}
 
 /// An account's weight in a block is the sum of its credits' parts, each by its place: by the
@@ -26,10 +21,10 @@ pub fn weights_by_places()
     ensures { WeightsByPlaces }
 {}
 
-/// An account is paid the quotient of its weight by places by all weights by places, of the reward
-/// after the fee.
-pub fn payouts_by_places()
-    ensures { PayoutsByPlaces }
+/// An account is paid the quotient of its weight by all weights, both by the places of credits, of
+/// the reward after the fee, and nothing without a weight.
+pub fn payouts_are_quotients()
+    ensures { PayoutsAreQuotients }
 {}
 
 /// The blocks are the credits with a reward, each with the credits up to it, and no others.

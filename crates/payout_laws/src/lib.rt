@@ -9,7 +9,7 @@ mod laws;
 pub use fees::fee_of;
 pub use laws::{
     balances_are_rewards, balances_are_sums, blocks_are_credits, blocks_by_places,
-    payouts_are_quotients, payouts_by_places, rewards_are_conserved, settlements_are_of_blocks,
+    payouts_are_quotients, rewards_are_conserved, settlements_are_of_blocks,
     summaries_are_of_blocks, weights_by_places,
 };
 

@@ -68,7 +68,7 @@ standard_channel =
     record { id = 1; session = 0; kind = kind.Standard; account = 0x61 ∷ []; lead = replicate 4 0; opening_class = 0; sets = [] }
 
 abbrev pub first_job : Job
-first_job = record { number = 1; session = 0; since = 4; source = FromTemplate (template_of 5 true) }
+first_job = record { number = 1; session = 0; at = 4; live_at = None; source = FromTemplate (template_of 5 true) }
 
 pub news-single : news 4 (comes ∷ with_standard 1) 0
     ≡ note.Standard 1 1 None 0x20000000 (root_for (0x51 ∷ []) standard_channel first_job) ∷ told_job 2 1 None ∷ []

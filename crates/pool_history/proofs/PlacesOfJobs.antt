@@ -1,19 +1,19 @@
 -- The jobs by places are those of the recursion over the past.
 use Rattle.std.proofs.Common.{◌≡◌, ℕ, ◌+◌, ◌-◌, ◌<◌, ◌≤◌, Bool, true, false, cond, not, Option, None, Some, List, [], ◌∷◌, ◌++◌, length, take, drop, reverse, refl, ap, subst, sym, ◌∙◌, arith, length-append, length-drop, append_assoc}
-use Rattle.std.proofs.lemmas.List.{append-nil, drop-append-le, length-reverse, reverse-append, reverse-reverse, take-append-le}
+use Rattle.std.proofs.lemmas.List.{append-nil, drop-append-le, length-reverse, map-append, reverse-append, reverse-reverse, take-append-le}
 use Rattle.std.proofs.Math.Seq.{drop-drop, take-append_seam}
 use Rattle.std.proofs.lemmas.List.Elements.{filter-append}
 use Rattle.std.proofs.lemmas.Bool.{eqb-false, eqb-true, le-ltb, lt-ltb, ltb-false, ltb-true, ne_eqb}
 use Rattle.std.proofs.Math.Dec.{eqb}
-use Rattle.std.specs.Prelude.{filter, nat_lt}
+use Rattle.std.specs.Prelude.{filter, map, nat_lt}
 use Rattle.std.specs.Option.{option_map}
 use Rattle.pool_history.specs.declared.events.Event.{Event}
 use Rattle.pool_history.specs.declared.events.Event.TheVariants as event
 use Rattle.pool_history.specs.declared.templates.CustomData.{CustomData}
 use Rattle.pool_history.specs.declared.templates.TemplateData.{TemplateData}
 use Rattle.pool_history.specs.declared.templates.TipData.{TipData}
-use Rattle.pool_history.specs.ByPlaces.{AreJobsOf, JobsByPlaces, TipAt, future_jobs, is_future, is_late, is_ready, jobs_from, jobs_in, last_tip, late, live_jobs, own_jobs, tip_in, tip_job}
-use Rattle.pool_history.specs.Jobs.{Job, Source, FromTemplate, FromMiner, Standing, at_most_sixteen, future_in, is_own, jobs_of, last, made_live, with_custom, with_template, with_tip, without_first}
+use Rattle.pool_history.specs.ByPlaces.{AreJobsOf, JobsByPlaces, TipAt, future_jobs, is_future, is_late, is_ready, jobs_from, jobs_in, last_tip, late_jobs, live_jobs, own_jobs, tip_in, tip_job}
+use Rattle.pool_history.specs.Jobs.{Job, Source, FromTemplate, FromMiner, Standing, at_most_sixteen, custom_job, future_in, is_own, jobs_of, last, live_at_once, made_live, template_job, with_custom, with_template, with_tip, without_first}
 use Rattle.pool_history.specs.Sessions.{past_of}
 
 -- one event more adds its own job, if it has one
@@ -24,10 +24,10 @@ jobs_from-snoc at number [] e place next p q =
     let q' : next ≡ number = omega (arith, q) in
     rw (p', q') refl
 jobs_from-snoc at number (event.Template session template ∷ more) e place next p q =
-    ap (λ xs. record { number = number; session = session; since = at; source = FromTemplate template } ∷ xs)
+    ap (λ xs. template_job number at session template ∷ xs)
     (jobs_from-snoc (at + 1) (number + 1) more e place next (omega (arith, p)) (omega (arith, q)))
 jobs_from-snoc at number (event.Custom session custom ∷ more) e place next p q =
-    ap (λ xs. record { number = number; session = 0; since = at; source = FromMiner custom } ∷ xs)
+    ap (λ xs. custom_job number at custom ∷ xs)
     (jobs_from-snoc (at + 1) (number + 1) more e place next (omega (arith, p)) (omega (arith, q)))
 jobs_from-snoc at number (event ∷ more) e place next p q =
     jobs_from-snoc (at + 1) number more e place next (omega (arith, p)) q
@@ -70,9 +70,9 @@ none_late at number (event.Custom session custom ∷ more) t p =
 none_late at number (event ∷ more) t p = none_late (at + 1) number more t (omega (arith, p))
 
 -- a job at the end is late
-pub is_late-end : (t : Option TipAt) (job : Job) → LiesBefore t job.since → is_late t job ≡ true
+pub is_late-end : (t : Option TipAt) (job : Job) → LiesBefore t job.at → is_late t job ≡ true
 is_late-end None job l = refl
-is_late-end (Some tipped) job l = lt-ltb tipped.at job.since l
+is_late-end (Some tipped) job l = lt-ltb tipped.at job.at l
 
 -- the last so many of the last so many and one more
 pub last-snoc : {X : Type 0} (n : ℕ) (xs : List X) (x : X) → last n (last n xs ++ x ∷ []) ≡ last n (xs ++ x ∷ [])
@@ -107,45 +107,67 @@ tip_job-later h e (Some tipped) l =
 pub record Joins (h : List Event) (e : Event) (job : Job) : Type 0 where
   pub tip : tip_in (h ++ e ∷ []) ≡ tip_in h
   pub jobs : jobs_in (h ++ e ∷ []) ≡ jobs_in h ++ job ∷ []
-  pub at_end : job.since ≡ length h
+  pub at_end : job.at ≡ length h
 
 -- its job is late
-pub late-joined : (h : List Event) (e : Event) (job : Job) → Joins h e job → late (h ++ e ∷ []) ≡ late h ++ job ∷ []
-late-joined h e job j =
-    let lies : LiesBefore (tip_in h) job.since = rw j.at_end (tip_in-lies h) in
+pub late_jobs-joined : (h : List Event) (e : Event) (job : Job) → Joins h e job → late_jobs (h ++ e ∷ []) ≡ late_jobs h ++ job ∷ []
+late_jobs-joined h e job j =
+    let lies : LiesBefore (tip_in h) job.at = rw j.at_end (tip_in-lies h) in
     ap (λ t. filter (is_late t) (jobs_in (h ++ e ∷ []))) j.tip ∙ ap (λ js. filter (is_late (tip_in h)) js) j.jobs
     ∙ filter-kept (is_late (tip_in h)) (jobs_in h) job (is_late-end (tip_in h) job lies)
+
+-- one more at the end
+pub map-end : {X Y : Type 0} (f : X → Y) (xs : List X) (x : X) → map f (xs ++ x ∷ []) ≡ map f xs ++ f x ∷ []
+map-end f xs x = map-append f xs (x ∷ [])
 
 -- the live jobs beside a job that isn't ready, and with one that is
 pub live-beside : (h : List Event) (e : Event) (job : Job) → Joins h e job → is_ready job.source ≡ false → live_jobs (h ++ e ∷ []) ≡ live_jobs h
 live-beside h e job j r =
-    ap (λ t. last 64 (tip_job (h ++ e ∷ []) t ++ filter (λ job. is_ready job.source) (late (h ++ e ∷ [])))) j.tip
-    ∙ ap (λ ts. last 64 (ts ++ filter (λ job. is_ready job.source) (late (h ++ e ∷ [])))) (tip_job-later h e (tip_in h) (tip_in-lies h))
-    ∙ ap (λ l. last 64 (tip_job h (tip_in h) ++ filter (λ job. is_ready job.source) l)) (late-joined h e job j)
-    ∙ ap (λ l. last 64 (tip_job h (tip_in h) ++ l)) (filter-dropped (λ job. is_ready job.source) (late h) job r)
+    ap (λ t. last 64 (tip_job (h ++ e ∷ []) t ++ map live_at_once (filter (λ job. is_ready job.source) (late_jobs (h ++ e ∷ []))))) j.tip
+    ∙ ap (λ ts. last 64 (ts ++ map live_at_once (filter (λ job. is_ready job.source) (late_jobs (h ++ e ∷ []))))) (tip_job-later h e (tip_in h) (tip_in-lies h))
+    ∙ ap (λ l. last 64 (tip_job h (tip_in h) ++ map live_at_once (filter (λ job. is_ready job.source) l))) (late_jobs-joined h e job j)
+    ∙ ap (λ l. last 64 (tip_job h (tip_in h) ++ map live_at_once l)) (filter-dropped (λ job. is_ready job.source) (late_jobs h) job r)
 
 pub live-with : (h : List Event) (e : Event) (job : Job) → Joins h e job → is_ready job.source ≡ true
-    → live_jobs (h ++ e ∷ []) ≡ last 64 (live_jobs h ++ job ∷ [])
+    → live_jobs (h ++ e ∷ []) ≡ last 64 (live_jobs h ++ live_at_once job ∷ [])
 live-with h e job j r =
-    ap (λ t. last 64 (tip_job (h ++ e ∷ []) t ++ filter (λ job. is_ready job.source) (late (h ++ e ∷ [])))) j.tip
-    ∙ ap (λ ts. last 64 (ts ++ filter (λ job. is_ready job.source) (late (h ++ e ∷ [])))) (tip_job-later h e (tip_in h) (tip_in-lies h))
-    ∙ ap (λ l. last 64 (tip_job h (tip_in h) ++ filter (λ job. is_ready job.source) l)) (late-joined h e job j)
-    ∙ ap (λ l. last 64 (tip_job h (tip_in h) ++ l)) (filter-kept (λ job. is_ready job.source) (late h) job r)
-    ∙ ap (λ l. last 64 l) (sym (append_assoc (tip_job h (tip_in h)) (filter (λ job. is_ready job.source) (late h)) (job ∷ [])))
-    ∙ sym (last-snoc 64 (tip_job h (tip_in h) ++ filter (λ job. is_ready job.source) (late h)) job)
+    let ready : List Job = filter (λ job. is_ready job.source) (late_jobs h) in
+    ap (λ t. last 64 (tip_job (h ++ e ∷ []) t ++ map live_at_once (filter (λ job. is_ready job.source) (late_jobs (h ++ e ∷ []))))) j.tip
+    ∙ ap (λ ts. last 64 (ts ++ map live_at_once (filter (λ job. is_ready job.source) (late_jobs (h ++ e ∷ []))))) (tip_job-later h e (tip_in h) (tip_in-lies h))
+    ∙ ap (λ l. last 64 (tip_job h (tip_in h) ++ map live_at_once (filter (λ job. is_ready job.source) l))) (late_jobs-joined h e job j)
+    ∙ ap (λ l. last 64 (tip_job h (tip_in h) ++ map live_at_once l)) (filter-kept (λ job. is_ready job.source) (late_jobs h) job r)
+    ∙ ap (λ l. last 64 (tip_job h (tip_in h) ++ l)) (map-end live_at_once ready job)
+    ∙ ap (λ l. last 64 l) (sym (append_assoc (tip_job h (tip_in h)) (map live_at_once ready) (live_at_once job ∷ [])))
+    ∙ sym (last-snoc 64 (tip_job h (tip_in h) ++ map live_at_once ready) (live_at_once job))
 
 -- the last so many late jobs that pass a test, beside a job that doesn't pass it, and with one that does
-pub late-beside : (n : ℕ) (p : Job → Bool) (h : List Event) (e : Event) (job : Job) → Joins h e job → p job ≡ false
-    → last n (filter p (late (h ++ e ∷ []))) ≡ last n (filter p (late h))
-late-beside n p h e job j f = ap (λ l. last n (filter p l)) (late-joined h e job j) ∙ ap (λ l. last n l) (filter-dropped p (late h) job f)
+pub late_jobs-beside : (n : ℕ) (p : Job → Bool) (h : List Event) (e : Event) (job : Job) → Joins h e job → p job ≡ false
+    → last n (filter p (late_jobs (h ++ e ∷ []))) ≡ last n (filter p (late_jobs h))
+late_jobs-beside n p h e job j f = ap (λ l. last n (filter p l)) (late_jobs-joined h e job j) ∙ ap (λ l. last n l) (filter-dropped p (late_jobs h) job f)
 
-pub late-with : (n : ℕ) (p : Job → Bool) (h : List Event) (e : Event) (job : Job) → Joins h e job → p job ≡ true
-    → last n (filter p (late (h ++ e ∷ []))) ≡ last n (last n (filter p (late h)) ++ job ∷ [])
-late-with n p h e job j f =
-    ap (λ l. last n (filter p l)) (late-joined h e job j) ∙ ap (λ l. last n l) (filter-kept p (late h) job f) ∙ sym (last-snoc n (filter p (late h)) job)
+pub late_jobs-with : (n : ℕ) (p : Job → Bool) (h : List Event) (e : Event) (job : Job) → Joins h e job → p job ≡ true
+    → last n (filter p (late_jobs (h ++ e ∷ []))) ≡ last n (last n (filter p (late_jobs h)) ++ job ∷ [])
+late_jobs-with n p h e job j f =
+    ap (λ l. last n (filter p l)) (late_jobs-joined h e job j) ∙ ap (λ l. last n l) (filter-kept p (late_jobs h) job f) ∙ sym (last-snoc n (filter p (late_jobs h)) job)
+
+-- a channel's own live jobs, beside a job that isn't its own, and with one that is
+pub own-beside : (channel : ℕ) (h : List Event) (e : Event) (job : Job) → Joins h e job → is_own channel job.source ≡ false
+    → own_jobs (h ++ e ∷ []) channel ≡ own_jobs h channel
+own-beside channel h e job j f =
+    ap (λ l. last 16 (map live_at_once (filter (λ job. is_own channel job.source) l))) (late_jobs-joined h e job j)
+    ∙ ap (λ l. last 16 (map live_at_once l)) (filter-dropped (λ job. is_own channel job.source) (late_jobs h) job f)
+
+pub own-with : (channel : ℕ) (h : List Event) (e : Event) (job : Job) → Joins h e job → is_own channel job.source ≡ true
+    → own_jobs (h ++ e ∷ []) channel ≡ last 16 (own_jobs h channel ++ live_at_once job ∷ [])
+own-with channel h e job j f =
+    let own : List Job = filter (λ job. is_own channel job.source) (late_jobs h) in
+    ap (λ l. last 16 (map live_at_once (filter (λ job. is_own channel job.source) l))) (late_jobs-joined h e job j)
+    ∙ ap (λ l. last 16 (map live_at_once l)) (filter-kept (λ job. is_own channel job.source) (late_jobs h) job f)
+    ∙ ap (λ l. last 16 l) (map-end live_at_once own job)
+    ∙ sym (last-snoc 16 (map live_at_once own) (live_at_once job))
 
 -- a template's job
-pub joins-template : (h : List Event) (session : ℕ) (template : TemplateData) → Joins h (event.Template session template) (record { number = length (jobs_in h) + 1; session = session; since = length h; source = FromTemplate template })
+pub joins-template : (h : List Event) (session : ℕ) (template : TemplateData) → Joins h (event.Template session template) (template_job (length (jobs_in h) + 1) (length h) session template)
 joins-template h session template = record {
   tip = last_tip-snoc 0 None h (event.Template session template) (length h) (omega arith);
   jobs = jobs_from-snoc 0 1 h (event.Template session template) (length h) (length (jobs_in h) + 1) (omega arith) (omega arith);
@@ -153,7 +175,7 @@ joins-template h session template = record {
 }
 
 -- a miner's own job
-pub joins-custom : (h : List Event) (session : ℕ) (custom : CustomData) → Joins h (event.Custom session custom) (record { number = length (jobs_in h) + 1; session = 0; since = length h; source = FromMiner custom })
+pub joins-custom : (h : List Event) (session : ℕ) (custom : CustomData) → Joins h (event.Custom session custom) (custom_job (length (jobs_in h) + 1) (length h) custom)
 joins-custom h session custom = record {
   tip = last_tip-snoc 0 None h (event.Custom session custom) (length h) (omega arith);
   jobs = jobs_from-snoc 0 1 h (event.Custom session custom) (length h) (length (jobs_in h) + 1) (omega arith) (omega arith);
@@ -169,9 +191,9 @@ came h s session template job a j from true f =
     let ready : is_ready job.source ≡ false = ap is_ready from ∙ ap not f in
     record {
       all = ap (λ js. js ++ job ∷ []) a.all ∙ sym j.jobs;
-      future = ap (λ js. last 16 (js ++ job ∷ [])) a.future ∙ sym (late-with 16 (λ job. is_future job.source) h e job j future);
+      future = ap (λ js. last 16 (js ++ job ∷ [])) a.future ∙ sym (late_jobs-with 16 (λ job. is_future job.source) h e job j future);
       live = a.live ∙ sym (live-beside h e job j ready);
-      custom = λ channel. a.custom channel ∙ sym (late-beside 16 (λ job. is_own channel job.source) h e job j (ap (is_own channel) from));
+      custom = λ channel. a.custom channel ∙ sym (own-beside channel h e job j (ap (is_own channel) from));
       tip = a.tip ∙ ap (option_map (λ (t : TipAt). t.tip)) (sym j.tip);
     }
 came h s session template job a j from false f =
@@ -180,9 +202,9 @@ came h s session template job a j from false f =
     let ready : is_ready job.source ≡ true = ap is_ready from ∙ ap not f in
     record {
       all = ap (λ js. js ++ job ∷ []) a.all ∙ sym j.jobs;
-      future = a.future ∙ sym (late-beside 16 (λ job. is_future job.source) h e job j future);
-      live = ap (λ js. last 64 (js ++ job ∷ [])) a.live ∙ sym (live-with h e job j ready);
-      custom = λ channel. a.custom channel ∙ sym (late-beside 16 (λ job. is_own channel job.source) h e job j (ap (is_own channel) from));
+      future = a.future ∙ sym (late_jobs-beside 16 (λ job. is_future job.source) h e job j future);
+      live = ap (λ js. last 64 (js ++ live_at_once job ∷ [])) a.live ∙ sym (live-with h e job j ready);
+      custom = λ channel. a.custom channel ∙ sym (own-beside channel h e job j (ap (is_own channel) from));
       tip = a.tip ∙ ap (option_map (λ (t : TipAt). t.tip)) (sym j.tip);
     }
 
@@ -199,7 +221,7 @@ tipped h s session tip a =
     let new_tip : tip_in (h ++ e ∷ []) ≡ Some t = last_tip-snoc 0 None h e (length h) (omega arith) in
     let same_jobs : jobs_in (h ++ e ∷ []) ≡ jobs_in h =
     jobs_from-snoc 0 1 h e (length h) (length (jobs_in h) + 1) (omega arith) (omega arith) ∙ append-nil (jobs_in h) in
-    let none : late (h ++ e ∷ []) ≡ [] =
+    let none : late_jobs (h ++ e ∷ []) ≡ [] =
     ap (λ t. filter (is_late t) (jobs_in (h ++ e ∷ []))) new_tip ∙ ap (λ js. filter (is_late (Some t)) js) same_jobs
     ∙ none_late 0 1 h t (omega arith) in
     let before : take (length h) (h ++ e ∷ []) ≡ h = take-append_seam h (e ∷ []) in
@@ -210,12 +232,12 @@ tipped h s session tip a =
       all = a.all ∙ sym same_jobs;
       future = sym (ap (λ l. last 16 (filter (λ job. is_future job.source) l)) none);
       live = sym (
-          ap (λ t. last 64 (tip_job (h ++ e ∷ []) t ++ filter (λ job. is_ready job.source) (late (h ++ e ∷ [])))) new_tip
-          ∙ ap (λ l. last 64 (tip_job (h ++ e ∷ []) (Some t) ++ filter (λ job. is_ready job.source) l)) none
+          ap (λ t. last 64 (tip_job (h ++ e ∷ []) t ++ map live_at_once (filter (λ job. is_ready job.source) (late_jobs (h ++ e ∷ []))))) new_tip
+          ∙ ap (λ l. last 64 (tip_job (h ++ e ∷ []) (Some t) ++ map live_at_once (filter (λ job. is_ready job.source) l))) none
           ∙ ap (λ ts. last 64 (ts ++ [])) job
           ∙ last-made_live (length h) (future_in s.future tip.template_id)
           );
-      custom = λ channel. sym (ap (λ l. last 16 (filter (λ job. is_own channel job.source) l)) none);
+      custom = λ channel. sym (ap (λ l. last 16 (map live_at_once (filter (λ job. is_own channel job.source) l))) none);
       tip = sym (ap (option_map (λ (t : TipAt). t.tip)) new_tip);
     }
 
@@ -287,27 +309,28 @@ length-last n xs = rw (length-drop (length xs - n) xs) (omega arith)
 -- a miner's own job among the live ones of each channel
 pub brought-own : (h : List Event) (s : Standing) (session : ℕ) (custom : CustomData) (job : Job) → AreJobsOf h s
     → Joins h (event.Custom session custom) job → job.source ≡ FromMiner custom → (channel : ℕ) (same : Bool) → eqb custom.channel_id channel ≡ same
-    → filter (λ job. is_own channel job.source) (at_most_sixteen custom.channel_id (s.custom ++ job ∷ [])) ≡ own_jobs (h ++ event.Custom session custom ∷ []) channel
+    → filter (λ job. is_own channel job.source) (at_most_sixteen custom.channel_id (s.custom ++ live_at_once job ∷ [])) ≡ own_jobs (h ++ event.Custom session custom ∷ []) channel
 brought-own h s session custom job a j from channel true e =
     let c : ℕ = custom.channel_id in
+    let lively : Job = live_at_once job in
     let to : c ≡ channel = eqb-true c channel e in
     let mine : is_own channel job.source ≡ true = ap (is_own channel) from ∙ e in
     let mine' : is_own c job.source ≡ true = ap (λ i. is_own i job.source) to ∙ mine in
-    let kept : filter (λ job. is_own c job.source) (s.custom ++ job ∷ []) ≡ last 16 (filter (λ job. is_own c job.source) (late h)) ++ job ∷ [] =
-    filter-kept (λ job. is_own c job.source) s.custom job mine' ∙ ap (λ js. js ++ job ∷ []) (a.custom c) in
-    let whole : length (filter (λ job. is_own c job.source) (s.custom ++ job ∷ [])) ≡ length (last 16 (filter (λ job. is_own c job.source) (late h))) + 1 =
-    ap length kept ∙ length-append (last 16 (filter (λ job. is_own c job.source) (late h))) (job ∷ []) in
-    let few : length (filter (λ job. is_own c job.source) (s.custom ++ job ∷ [])) ≤ 17 =
-    omega (arith, whole, length-last 16 (filter (λ job. is_own c job.source) (late h))) in
-    ap (λ i. filter (λ job. is_own i job.source) (at_most_sixteen c (s.custom ++ job ∷ []))) (sym to)
-    ∙ sixteen-own c (s.custom ++ job ∷ []) few ∙ ap (λ js. last 16 js) kept
-    ∙ sym (late-with 16 (λ job. is_own c job.source) h (event.Custom session custom) job j mine')
+    let kept : filter (λ job. is_own c job.source) (s.custom ++ lively ∷ []) ≡ own_jobs h c ++ lively ∷ [] =
+    filter-kept (λ job. is_own c job.source) s.custom lively mine' ∙ ap (λ js. js ++ lively ∷ []) (a.custom c) in
+    let whole : length (filter (λ job. is_own c job.source) (s.custom ++ lively ∷ [])) ≡ length (own_jobs h c) + 1 =
+    ap length kept ∙ length-append (own_jobs h c) (lively ∷ []) in
+    let few : length (filter (λ job. is_own c job.source) (s.custom ++ lively ∷ [])) ≤ 17 =
+    omega (arith, whole, length-last 16 (map live_at_once (filter (λ job. is_own c job.source) (late_jobs h)))) in
+    ap (λ i. filter (λ job. is_own i job.source) (at_most_sixteen c (s.custom ++ lively ∷ []))) (sym to)
+    ∙ sixteen-own c (s.custom ++ lively ∷ []) few ∙ ap (λ js. last 16 js) kept
+    ∙ sym (own-with c h (event.Custom session custom) job j mine')
     ∙ ap (λ i. own_jobs (h ++ event.Custom session custom ∷ []) i) to
 brought-own h s session custom job a j from channel false e =
     let foreign : is_own channel job.source ≡ false = ap (is_own channel) from ∙ e in
-    sixteen-others custom.channel_id channel (s.custom ++ job ∷ []) (eqb-false custom.channel_id channel e)
-    ∙ filter-dropped (λ job. is_own channel job.source) s.custom job foreign ∙ a.custom channel
-    ∙ sym (late-beside 16 (λ job. is_own channel job.source) h (event.Custom session custom) job j foreign)
+    sixteen-others custom.channel_id channel (s.custom ++ live_at_once job ∷ []) (eqb-false custom.channel_id channel e)
+    ∙ filter-dropped (λ job. is_own channel job.source) s.custom (live_at_once job) foreign ∙ a.custom channel
+    ∙ sym (own-beside channel h (event.Custom session custom) job j foreign)
 
 -- one more of a miner's own jobs
 pub brought : (h : List Event) (s : Standing) (session : ℕ) (custom : CustomData) (job : Job) → AreJobsOf h s
@@ -317,7 +340,7 @@ brought h s session custom job a j from =
     let e : Event = event.Custom session custom in
     record {
       all = ap (λ js. js ++ job ∷ []) a.all ∙ sym j.jobs;
-      future = a.future ∙ sym (late-beside 16 (λ job. is_future job.source) h e job j (ap is_future from));
+      future = a.future ∙ sym (late_jobs-beside 16 (λ job. is_future job.source) h e job j (ap is_future from));
       live = a.live ∙ sym (live-beside h e job j (ap is_ready from));
       custom = λ channel. brought-own h s session custom job a j from channel (eqb custom.channel_id channel) refl;
       tip = a.tip ∙ ap (option_map (λ (t : TipAt). t.tip)) (sym j.tip);
@@ -330,17 +353,17 @@ pub record Passes (h : List Event) (e : Event) : Type 0 where
 
 pub passed : (h : List Event) (s : Standing) (e : Event) → AreJobsOf h s → Passes h e → AreJobsOf (h ++ e ∷ []) s
 passed h s e a p =
-    let same : late (h ++ e ∷ []) ≡ late h =
+    let same : late_jobs (h ++ e ∷ []) ≡ late_jobs h =
     ap (λ t. filter (is_late t) (jobs_in (h ++ e ∷ []))) p.tip ∙ ap (λ js. filter (is_late (tip_in h)) js) p.jobs in
     record {
       all = a.all ∙ sym p.jobs;
       future = a.future ∙ sym (ap (λ l. last 16 (filter (λ job. is_future job.source) l)) same);
       live = a.live ∙ sym (
-          ap (λ t. last 64 (tip_job (h ++ e ∷ []) t ++ filter (λ job. is_ready job.source) (late (h ++ e ∷ [])))) p.tip
-          ∙ ap (λ ts. last 64 (ts ++ filter (λ job. is_ready job.source) (late (h ++ e ∷ [])))) (tip_job-later h e (tip_in h) (tip_in-lies h))
-          ∙ ap (λ l. last 64 (tip_job h (tip_in h) ++ filter (λ job. is_ready job.source) l)) same
+          ap (λ t. last 64 (tip_job (h ++ e ∷ []) t ++ map live_at_once (filter (λ job. is_ready job.source) (late_jobs (h ++ e ∷ []))))) p.tip
+          ∙ ap (λ ts. last 64 (ts ++ map live_at_once (filter (λ job. is_ready job.source) (late_jobs (h ++ e ∷ []))))) (tip_job-later h e (tip_in h) (tip_in-lies h))
+          ∙ ap (λ l. last 64 (tip_job h (tip_in h) ++ map live_at_once (filter (λ job. is_ready job.source) l))) same
           );
-      custom = λ channel. a.custom channel ∙ sym (ap (λ l. last 16 (filter (λ job. is_own channel job.source) l)) same);
+      custom = λ channel. a.custom channel ∙ sym (ap (λ l. last 16 (map live_at_once (filter (λ job. is_own channel job.source) l))) same);
       tip = a.tip ∙ ap (option_map (λ (t : TipAt). t.tip)) (sym p.tip);
     }
 
@@ -355,7 +378,7 @@ places_of_past (event.Template session template ∷ past) =
     let h : List Event = reverse past in
     let e : Event = event.Template session template in
     let a : AreJobsOf h (jobs_of past) = places_of_past past in
-    let job : ℕ → ℕ → Job = λ n at. record { number = n + 1; session = session; since = at; source = FromTemplate template } in
+    let job : ℕ → ℕ → Job = λ n at. template_job (n + 1) at session template in
     let same : job (length (jobs_in h)) (length h) ≡ job (length (jobs_of past).all) (length past) =
     ap (λ js. job (length js) (length h)) (sym a.all) ∙ ap (λ n. job (length (jobs_of past).all) n) (length-reverse past) in
     let joined : Joins h e (job (length (jobs_of past).all) (length past)) = subst (λ j. Joins h e j) same (joins-template h session template) in
@@ -371,7 +394,7 @@ places_of_past (event.Custom session custom ∷ past) =
     let h : List Event = reverse past in
     let e : Event = event.Custom session custom in
     let a : AreJobsOf h (jobs_of past) = places_of_past past in
-    let job : ℕ → ℕ → Job = λ n at. record { number = n + 1; session = 0; since = at; source = FromMiner custom } in
+    let job : ℕ → ℕ → Job = λ n at. custom_job (n + 1) at custom in
     let same : job (length (jobs_in h)) (length h) ≡ job (length (jobs_of past).all) (length past) =
     ap (λ js. job (length js) (length h)) (sym a.all) ∙ ap (λ n. job (length (jobs_of past).all) n) (length-reverse past) in
     let joined : Joins h e (job (length (jobs_of past).all) (length past)) = subst (λ j. Joins h e j) same (joins-custom h session custom) in

@@ -7,7 +7,7 @@ use Rattle.pool_history.specs.declared.events.Event.{Event}
 use Rattle.pool_history.specs.declared.events.Event.TheVariants as event
 use Rattle.pool_history.specs.declared.events.JobState.TheVariants as state
 use Rattle.pool_history.specs.ByPlaces.{AreJobsOf, IsLive, IsOwnLive, IsState, StatesByPlaces, future_jobs, jobs_from, jobs_in, live_jobs}
-use Rattle.pool_history.specs.Jobs.{Came, Tipped, Brought, Job, JobMove, FromTemplate, FromMiner, Standing, at_most_sixteen, has_number, is_own, jobs_of, job_moves, jobs_told, with_template, without_first}
+use Rattle.pool_history.specs.Jobs.{Came, Tipped, Brought, Job, JobMove, Standing, at_most_sixteen, custom_job, has_number, is_own, jobs_of, job_moves, jobs_told, live_at_once, template_job, with_template, without_first}
 use Rattle.pool_history.specs.Sessions.{past_of}
 use Rattle.pool_history.proofs.PlacesOfJobs.{jobs_are_by_places}
 
@@ -38,11 +38,11 @@ owned-sixteen c js a =
 
 pub customs_owned : (ms : List JobMove) → AllOwned (jobs_told ms).custom
 customs_owned [] = tt
-customs_owned (Came at session template ∷ ms) = elim template.future_template as (λ b. AllOwned (with_template (record { number = length (jobs_told ms).all + 1; session = session; since = at; source = FromTemplate template }) b (jobs_told ms)).custom) [ true ↦ customs_owned ms | false ↦ customs_owned ms ]
+customs_owned (Came at session template ∷ ms) = elim template.future_template as (λ b. AllOwned (with_template (template_job (length (jobs_told ms).all + 1) at session template) b (jobs_told ms)).custom) [ true ↦ customs_owned ms | false ↦ customs_owned ms ]
 customs_owned (Tipped at tip ∷ ms) = tt
 customs_owned (Brought at custom ∷ ms) =
-    owned-sixteen custom.channel_id ((jobs_told ms).custom ++ record { number = length (jobs_told ms).all + 1; session = 0; since = at; source = FromMiner custom } ∷ [])
-    (owned-end (jobs_told ms).custom (record { number = length (jobs_told ms).all + 1; session = 0; since = at; source = FromMiner custom }) (customs_owned ms)
+    owned-sixteen custom.channel_id ((jobs_told ms).custom ++ live_at_once (custom_job (length (jobs_told ms).all + 1) at custom) ∷ [])
+    (owned-end (jobs_told ms).custom (live_at_once (custom_job (length (jobs_told ms).all + 1) at custom)) (customs_owned ms)
     (custom.channel_id, eq-eqb custom.channel_id custom.channel_id refl))
 
 -- one job more

@@ -17,7 +17,7 @@ use Rattle.coinbase.specs.declared.error.AssemblyError.TheVariants as assembly
 use Rattle.pool_history.specs.Channels.{OpenChannel, channel_in, channels_of, class_at, present_class}
 use Rattle.pool_history.specs.Crediting.{bookings_of, first_failed}
 use Rattle.pool_history.specs.Jobs.{Job, jobs_of, live_job, state_of}
-use Rattle.pool_history.specs.Judging.{Admitted, admitted}
+use Rattle.pool_history.specs.Judging.{Admitted, admission}
 use Rattle.pool_history.specs.Refusing.{class_of_target, lead_for, openable, template_refusal}
 use Rattle.pool_history.specs.Spaces.{first_free, lowest}
 use Rattle.pool_history.proofs.Given.{extended_rolls, credits, tips, rules, template_of, tip_of, opened, templated, tipped, share}
@@ -97,7 +97,7 @@ next_job = event.Template 0 (template_of 6 false) ∷ set_later
 
 -- the class of channel 1 at a job
 abbrev pub class_with : Option OpenChannel → Option Job → Option ℕ
-class_with (Some channel) (Some job) = Some (class_at channel job.since)
+class_with (Some channel) (Some job) = option_map (class_at channel) job.live_at
 class_with channel job = None
 
 abbrev pub class_for : List Event → ℕ → Option ℕ
@@ -237,14 +237,14 @@ abbrev pub is_admitted : {E : Type 0} → Result Admitted E → Bool
 is_admitted (Ok with) = true
 is_admitted (Err failed) = false
 
-pub admitted-session : is_admitted (admitted rules tipped 0 share) ≡ true
-admitted-session = refl
+pub admission-session : is_admitted (admission rules tipped 0 share) ≡ true
+admission-session = refl
 
-pub admitted-rolled : is_admitted (admitted rules tipped 0 (record share { version = 0x20002000 })) ≡ true
-admitted-rolled = refl
+pub admission-rolled_length : is_admitted (admission rules tipped 0 (record share { version = 0x20002000 })) ≡ true
+admission-rolled_length = refl
 
-pub admitted-at_the_end_of_the_window : is_admitted (admitted rules tipped 0 (record share { ntime = 1000600 })) ≡ true
-admitted-at_the_end_of_the_window = refl
+pub admission-at_the_end_of_the_window : is_admitted (admission rules tipped 0 (record share { ntime = 1000600 })) ≡ true
+admission-at_the_end_of_the_window = refl
 
 -- times that would wrap are compared as they are: the window of a tip at the end of 32 bits goes past it
 abbrev pub late_tip : List Event
@@ -253,5 +253,5 @@ late_tip = event.Tip 0 (record (tip_of 5 0x11) { header_timestamp = 0xffffffff }
 pub failed-no_wrapping : first_failed rules late_tip 0 (record share { ntime = 100 }) ≡ Some failed.Ntime
 failed-no_wrapping = refl
 
-pub admitted-past_32_bits : is_admitted (admitted rules late_tip 0 (record share { ntime = 0xffffffff })) ≡ true
-admitted-past_32_bits = refl
+pub admission-past_32_bits : is_admitted (admission rules late_tip 0 (record share { ntime = 0xffffffff })) ≡ true
+admission-past_32_bits = refl

@@ -19,7 +19,7 @@ use Rattle.pool_history.specs.Accounts.{account_of, is_empty}
 use Rattle.pool_history.specs.Channels.{OpenChannel, present_class}
 use Rattle.pool_history.specs.Crediting.{last_failed, admitted_work}
 use Rattle.pool_history.specs.Jobs.{jobs_of}
-use Rattle.pool_history.specs.Judging.{Admitted, Share, admitted, briefing_of, share_of}
+use Rattle.pool_history.specs.Judging.{Admitted, Share, admission, briefing_of, share_of}
 use Rattle.pool_history.specs.Legal.{allowed_flags, may_feed, may_mine, may_select_work}
 use Rattle.pool_history.specs.News.{news}
 use Rattle.pool_history.specs.Refusing.{class_for, custom_refusal, grant_refusal, most_enters, nameable, openable, own_channel, template_refusal, tippable, updatable}
@@ -158,10 +158,10 @@ step_in rules past session (request.Update channel target) =
 step_in rules past session (request.Close channel) =
     closing session channel (own_channel past session channel)
 step_in rules past session (request.Brief sub) =
-    briefing rules (admitted rules past session (share_of sub))
+    briefing rules (admission rules past session (share_of sub))
 step_in rules past session (request.Commit checked) =
     committing rules past session (share_of checked.sub)
-    (admitted rules past session (share_of checked.sub))
+    (admission rules past session (share_of checked.sub))
 step_in rules past session (request.Poll from) =
     without_event (reply.News (length past) (news (min from (length past)) past session))
 step_in rules past session (request.Grant identity path) =

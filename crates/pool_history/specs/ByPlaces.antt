@@ -2,7 +2,7 @@
 -- The laws `jobs_by_places`, `states_by_places` and `classes_by_places` say that these words and
 -- the recursions over the past are the same.
 -- Held to the recursions by the laws, and these are computed (`Rows`).
-use Rattle.std.specs.Prelude.{◌≡◌, ◌≤◌, ◌⊎◌, IsTrue, length, ℕ, ◌+◌, ◌==◌, ◌&&◌, Bool, true, false, not, if◌then◌else◌, Option, None, Some, List, [], ◌∷◌, ◌++◌, filter, take, nat_le, nat_lt}
+use Rattle.std.specs.Prelude.{◌≡◌, ◌≤◌, ◌⊎◌, IsTrue, length, ℕ, ◌+◌, ◌==◌, ◌&&◌, Bool, true, false, not, if◌then◌else◌, Option, None, Some, List, [], ◌∷◌, ◌++◌, filter, map, take, nat_le, nat_lt}
 use Rattle.std.specs.List.{AllByRecursion}
 use Rattle.std.specs.Option.{option_map}
 use Rattle.pool_history.specs.declared.events.Event.{Event}
@@ -11,17 +11,17 @@ use Rattle.pool_history.specs.declared.events.JobState.{JobState}
 use Rattle.pool_history.specs.declared.events.JobState.TheVariants as state
 use Rattle.pool_history.specs.declared.templates.TipData.{TipData}
 use Rattle.pool_history.specs.Channels.{ClassSet, OpenChannel, channels_of, class_at}
-use Rattle.pool_history.specs.Jobs.{Job, Source, FromTemplate, FromMiner, Standing, future_in, has_number, is_own, jobs_of, last, made_live, state_of}
+use Rattle.pool_history.specs.Jobs.{Job, Source, FromTemplate, FromMiner, Standing, custom_job, future_in, has_number, is_own, jobs_of, last, live_at_once, made_live, state_of, template_job}
 use Rattle.pool_history.specs.Sessions.{past_of}
 
 -- the jobs from a place and a number on: the Template and Custom events in their order
 abbrev pub jobs_from : ℕ → ℕ → List Event → List Job
 jobs_from at number [] = []
 jobs_from at number (event.Template session template ∷ more) =
-    record { number = number; session = session; since = at; source = FromTemplate template }
+    template_job number at session template
     ∷ jobs_from (at + 1) (number + 1) more
 jobs_from at number (event.Custom session custom ∷ more) =
-    record { number = number; session = 0; since = at; source = FromMiner custom }
+    custom_job number at custom
     ∷ jobs_from (at + 1) (number + 1) more
 jobs_from at number (event ∷ more) = jobs_from (at + 1) number more
 
@@ -48,11 +48,11 @@ tip_in history = last_tip 0 None history
 -- a job is late where it comes after the tip; all are where there is none
 abbrev pub is_late : Option TipAt → Job → Bool
 is_late None job = true
-is_late (Some tipped) job = nat_lt tipped.at job.since
+is_late (Some tipped) job = nat_lt tipped.at job.at
 
 -- the late jobs
-abbrev pub late : List Event → List Job
-late history = filter (is_late (tip_in history)) (jobs_in history)
+abbrev pub late_jobs : List Event → List Job
+late_jobs history = filter (is_late (tip_in history)) (jobs_in history)
 
 -- a template's job that is future, and one that isn't
 abbrev pub is_future : Source → Bool
@@ -65,7 +65,7 @@ is_ready (FromMiner custom) = false
 
 -- the future jobs: the last 16 of the late templates that are future
 abbrev pub future_jobs : List Event → List Job
-future_jobs history = last 16 (filter (λ job. is_future job.source) (late history))
+future_jobs history = last 16 (filter (λ job. is_future job.source) (late_jobs history))
 
 -- the job that a tip made live: the future job of the history before it that has its template
 abbrev pub tip_job : List Event → Option TipAt → List Job
@@ -77,11 +77,14 @@ tip_job history (Some tipped) =
 -- future
 abbrev pub live_jobs : List Event → List Job
 live_jobs history =
-    last 64 (tip_job history (tip_in history) ++ filter (λ job. is_ready job.source) (late history))
+    last 64
+    (tip_job history (tip_in history)
+    ++ map live_at_once (filter (λ job. is_ready job.source) (late_jobs history)))
 
 -- a channel's own live jobs: the last 16 late ones
 abbrev pub own_jobs : List Event → ℕ → List Job
-own_jobs history channel = last 16 (filter (λ job. is_own channel job.source) (late history))
+own_jobs history channel =
+    last 16 (map live_at_once (filter (λ job. is_own channel job.source) (late_jobs history)))
 
 -- these are the jobs of the history
 pub record AreJobsOf (history : List Event) (standing : Standing) : Type 0 where

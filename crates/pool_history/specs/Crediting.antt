@@ -15,15 +15,15 @@ use Rattle.pool_history.specs.declared.events.Event.TheVariants as event
 use Rattle.pool_history.specs.declared.refusals.Failed.{Failed}
 use Rattle.pool_history.specs.declared.refusals.Failed.TheVariants as failed
 use Rattle.pool_history.specs.declared.settings.Rules.{Rules}
-use Rattle.pool_history.specs.Channels.{channel_in, channels_of, class_at}
+use Rattle.pool_history.specs.Channels.{OpenChannel, channel_in, channels_of, class_at}
 use Rattle.pool_history.specs.Conditions.{first_false}
-use Rattle.pool_history.specs.Jobs.{Source, FromTemplate, FromMiner, jobs_of, live_job}
-use Rattle.pool_history.specs.Judging.{Share, Admitted, admitted, is_standard, outputs_in, rebuilt}
+use Rattle.pool_history.specs.Jobs.{Source, FromTemplate, FromMiner, Standing, jobs_of, live_job}
+use Rattle.pool_history.specs.Judging.{Share, Admitted, admission, is_standard, outputs_in, rebuilt_header}
 use Rattle.pool_history.specs.Sessions.{credits, script_of}
 
 -- the class at the job of a share: a later class doesn't change it
 abbrev pub admitted_class : Admitted → ℕ
-admitted_class share = class_at share.channel share.job.since
+admitted_class share = class_at share.channel share.live_at
 
 -- the work of a share
 abbrev pub admitted_work : Admitted → ℕ
@@ -41,27 +41,43 @@ credit_share where_booked channel job nonce ntime version extranonce = record {
   extranonce = extranonce;
 }
 
--- the channel, the live job and the tip of a credit, by the events before it
-abbrev pub booked_with : List Event → ℕ → ℕ → Option Admitted
-booked_with past channel job = option_and_then
+-- the channel, the live job, since when that is live, and the tip of a credit, among these jobs and
+-- channels
+abbrev pub booked_in : Standing → List OpenChannel → ℕ → ℕ → Option Admitted
+booked_in standing channels channel job = option_and_then
     (λ there. option_and_then
-    (λ live. option_map (λ tip. record { channel = there; job = live; tip = tip })
-    (jobs_of past).tip)
-    (live_job (jobs_of past) job)) (channel_in (channels_of past) channel)
+    (λ live. option_and_then
+    (λ place. option_map
+    (λ tip. record { channel = there; job = live; live_at = place; tip = tip })
+    standing.tip) live.live_at) (live_job standing job)) (channel_in channels channel)
+
+-- the same by the events before it
+abbrev pub booked_with : List Event → ℕ → ℕ → Option Admitted
+booked_with past channel job = booked_in (jobs_of past) (channels_of past) channel job
 
 -- a list of what was found
-abbrev pub listed : {X Y : Type 0} → (X → Y) → Option X → List Y
-listed f (Some x) = f x ∷ []
-listed f None = []
+abbrev pub found_list : {X Y : Type 0} → (X → Y) → Option X → List Y
+found_list f (Some x) = f x ∷ []
+found_list f None = []
 
 -- the headers of all credits, each rebuilt by the events before it; a later tip drops none
 abbrev pub headers : List Event → List (List ℕ)
 headers [] = []
 headers (event.Credit session channel job nonce ntime version extranonce ∷ older) =
-    listed (λ with. rebuilt (script_of older) with
+    found_list (λ with. rebuilt_header (script_of older) with
     (credit_share with channel job nonce ntime version extranonce)) (booked_with older channel job)
     ++ headers older
-headers (event ∷ older) = headers older
+headers (event.Start rules ∷ older) = headers older
+headers (event.Enter worker role flags ∷ older) = headers older
+headers (event.Template session template ∷ older) = headers older
+headers (event.Tip session tip ∷ older) = headers older
+headers (event.Open session kind account class lead ∷ older) = headers older
+headers (event.Name session channel account ∷ older) = headers older
+headers (event.Class session channel class ∷ older) = headers older
+headers (event.Close session channel ∷ older) = headers older
+headers (event.Leave session ∷ older) = headers older
+headers (event.Grant session account fixed path ∷ older) = headers older
+headers (event.Custom session custom ∷ older) = headers older
 
 -- the last three conditions of a share and their codes, in order: its header's hash meets the class
 -- at its job, no earlier credit has the header, and there are fewer credits than the limit
@@ -76,12 +92,12 @@ last_conditions rules past with header =
 abbrev pub last_failed : Rules → List Event → Share → Result Admitted Failed → Option Failed
 last_failed rules past share (Err code) = Some code
 last_failed rules past share (Ok with) =
-    first_false (last_conditions rules past with (rebuilt rules.pool_script with share)) None
+    first_false (last_conditions rules past with (rebuilt_header rules.pool_script with share)) None
 
 -- the first of the nine conditions that is false, or none
 abbrev pub first_failed : Rules → List Event → ℕ → Share → Option Failed
 first_failed rules past session share =
-    last_failed rules past share (admitted rules past session share)
+    last_failed rules past share (admission rules past session share)
 
 -- the reward of a job: what its template has left, or what its outputs pay
 abbrev pub reward_of : Source → ℕ
@@ -90,7 +106,7 @@ reward_of (FromMiner custom) = total (outputs_in (outputs_of custom.coinbase_tx_
 
 -- a credit is a block where its hash is at most the target of the last tip
 abbrev pub is_block : List ℕ → Admitted → Share → Bool
-is_block script with share = is_at_most (dsha (rebuilt script with share)) with.tip.target
+is_block script with share = is_at_most (dsha (rebuilt_header script with share)) with.tip.target
 
 -- a credit: the account, the work, and the reward where it is a block
 pub record Booked : Type 0 where
@@ -110,7 +126,17 @@ booking script share with = record {
 abbrev pub bookings_of : List Event → List Booked
 bookings_of [] = []
 bookings_of (event.Credit session channel job nonce ntime version extranonce ∷ older) =
-    listed (λ with. booking (script_of older)
+    found_list (λ with. booking (script_of older)
     (credit_share with channel job nonce ntime version extranonce) with)
     (booked_with older channel job) ++ bookings_of older
-bookings_of (event ∷ older) = bookings_of older
+bookings_of (event.Start rules ∷ older) = bookings_of older
+bookings_of (event.Enter worker role flags ∷ older) = bookings_of older
+bookings_of (event.Template session template ∷ older) = bookings_of older
+bookings_of (event.Tip session tip ∷ older) = bookings_of older
+bookings_of (event.Open session kind account class lead ∷ older) = bookings_of older
+bookings_of (event.Name session channel account ∷ older) = bookings_of older
+bookings_of (event.Class session channel class ∷ older) = bookings_of older
+bookings_of (event.Close session channel ∷ older) = bookings_of older
+bookings_of (event.Leave session ∷ older) = bookings_of older
+bookings_of (event.Grant session account fixed path ∷ older) = bookings_of older
+bookings_of (event.Custom session custom ∷ older) = bookings_of older

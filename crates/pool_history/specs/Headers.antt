@@ -29,10 +29,10 @@ extranonce_prefix Extended lead = lead
 extranonce_prefix V1 lead = lead
 
 -- how many bytes of twelve a miner rolls (this project's own)
-abbrev pub rolled : Kind → List ℕ → ℕ
-rolled Standard lead = 0
-rolled Extended lead = 12 - length lead
-rolled V1 lead = 12 - length lead
+abbrev pub rolled_length : Kind → List ℕ → ℕ
+rolled_length Standard lead = 0
+rolled_length Extended lead = 12 - length lead
+rolled_length V1 lead = 12 - length lead
 
 -- the coinbase: the job's prefix, the channel's prefix and the share's extranonce, the job's suffix
 abbrev pub coinbase_by : Briefing → List ℕ → List ℕ

@@ -23,13 +23,14 @@ pub data Source : Type 0 where
   FromTemplate : TemplateData → Source
   FromMiner : CustomData → Source
 
--- a job: its number, the session that sent its template (0 for a miner's own), the place since when
--- it stands where it does, and what it is made from; that place is its own event's, and among the
--- live jobs the tip's that made it live
+-- a job: its number, the session that sent its template (0 for a miner's own), the place of its
+-- event, the place since which it is live, and what it is made from; live jobs alone say since when:
+-- from the tip on that made them live, or from their own event on
 pub record Job : Type 0 where
   pub number : ℕ
   pub session : ℕ
-  pub since : ℕ
+  pub at : ℕ
+  pub live_at : Option ℕ
   pub source : Source
 
 -- all jobs as they came, those of templates that are future or live, the miners' own that are live,
@@ -64,10 +65,18 @@ is_open_to channel (FromMiner custom) = custom.channel_id == channel
 abbrev pub future_in : List Job → ℕ → Option Job
 future_in future id = find (λ job. has_template id job.source) future
 
+-- a job that is live since a place
+abbrev pub live_from : ℕ → Job → Job
+live_from place job = record job { live_at = Some place }
+
+-- a job that is live since its own event
+abbrev pub live_at_once : Job → Job
+live_at_once job = live_from job.at job
+
 -- the job that a tip made live, if there was one
 abbrev pub made_live : ℕ → Option Job → List Job
 made_live at None = []
-made_live at (Some job) = record job { since = at } ∷ []
+made_live at (Some job) = live_from at job ∷ []
 
 -- without the first of a channel's own
 abbrev pub without_first : ℕ → List Job → List Job
@@ -90,7 +99,10 @@ with_template job true standing =
       future = last 16 (standing.future ++ job ∷ []);
     }
 with_template job false standing =
-    record standing { all = standing.all ++ job ∷ []; live = last 64 (standing.live ++ job ∷ []) }
+    record standing {
+      all = standing.all ++ job ∷ [];
+      live = last 64 (standing.live ++ live_at_once job ∷ []);
+    }
 
 -- a tip makes the future job with its template live, and every other one stale
 abbrev pub with_tip : ℕ → TipData → Standing → Standing
@@ -110,28 +122,36 @@ with_custom job channel standing =
     record standing {
       all = standing.all
           ++ job ∷ [];
-      custom = at_most_sixteen channel (standing.custom ++ job ∷ []);
+      custom = at_most_sixteen channel (standing.custom ++ live_at_once job ∷ []);
     }
+
+-- the job of an event: none says yet since when it is live
+abbrev pub template_job : ℕ → ℕ → ℕ → TemplateData → Job
+template_job number at session template = record {
+  number = number;
+  session = session;
+  at = at;
+  live_at = None;
+  source = FromTemplate template;
+}
+
+abbrev pub custom_job : ℕ → ℕ → CustomData → Job
+custom_job number at custom = record {
+  number = number;
+  session = 0;
+  at = at;
+  live_at = None;
+  source = FromMiner custom;
+}
 
 -- one more move
 abbrev pub after_move : JobMove → Standing → Standing
 after_move (Came at session template) standing =
-    with_template
-    (record {
-      number = length standing.all + 1;
-      session = session;
-      since = at;
-      source = FromTemplate template;
-    }) template.future_template standing
+    with_template (template_job (length standing.all + 1) at session template)
+    template.future_template standing
 after_move (Tipped at tip) standing = with_tip at tip standing
 after_move (Brought at custom) standing =
-    with_custom
-    (record {
-      number = length standing.all + 1;
-      session = 0;
-      since = at;
-      source = FromMiner custom;
-    }) custom.channel_id standing
+    with_custom (custom_job (length standing.all + 1) at custom) custom.channel_id standing
 
 -- the jobs after these moves, the last of which stands first
 abbrev pub jobs_told : List JobMove → Standing

@@ -23,7 +23,7 @@ use Rattle.pool_history.specs.declared.templates.TemplateData.{TemplateData}
 use Rattle.pool_history.specs.declared.templates.TipData.{TipData}
 use Rattle.pool_history.specs.Channels.{OpenChannel, channel_in, channels_of}
 use Rattle.pool_history.specs.Conditions.{found, provided}
-use Rattle.pool_history.specs.Headers.{Briefing, header_by, rolled}
+use Rattle.pool_history.specs.Headers.{Briefing, header_by, rolled_length}
 use Rattle.pool_history.specs.Jobs.{Source, FromTemplate, FromMiner, Job, Standing, is_open_to, jobs_of, live_job, job_numbered, state_of}
 
 -- what is judged: the fields of a submission or of a credit
@@ -114,17 +114,19 @@ briefing_of script channel source tip = record {
   kind = channel.kind;
 }
 
--- what a share is judged with: its channel, its live job and the last tip
+-- what a share is judged with: its channel, its live job, the place since which that is live, and
+-- the last tip
 pub record Admitted : Type 0 where
   pub channel : OpenChannel
   pub job : Job
+  pub live_at : ℕ
   pub tip : TipData
 
 -- the header that a share stands for
-abbrev pub rebuilt : List ℕ → Admitted → Share → List ℕ
-rebuilt script admitted share =
+abbrev pub rebuilt_header : List ℕ → Admitted → Share → List ℕ
+rebuilt_header script admission share =
     header_by
-    (briefing_of script admitted.channel admitted.job.source admitted.tip)
+    (briefing_of script admission.channel admission.job.source admission.tip)
     share.version share.ntime share.nonce share.extranonce
 
 -- two truths are the same
@@ -181,15 +183,16 @@ is_in_time rules source tip ntime =
     && nat_le ntime (min_ntime_of source tip + rules.ntime_window)
 
 -- the first six conditions; a job is live over a tip
-abbrev pub admitted : Rules → List Event → ℕ → Share → Result Admitted Failed
-admitted rules past session share = do
+abbrev pub admission : Rules → List Event → ℕ → Share → Result Admitted Failed
+admission rules past session share = do
   there ← found failed.Channel (channel_in (channels_of past) share.channel)
   channel ← provided (serves session share there) failed.Channel there
   _ ← provided
-      (length share.extranonce == rolled channel.kind channel.lead) failed.ExtranonceSize channel
+      (length share.extranonce == rolled_length channel.kind channel.lead) failed.ExtranonceSize channel
   _ ← provided (is_known_job (jobs_of past) share) failed.Job channel
   job ← found failed.Stale (live_job (jobs_of past) share.job)
+  live_at ← found failed.Stale job.live_at
   tip ← found failed.Stale (jobs_of past).tip
   _ ← provided (is_version rules job.source share.version) failed.Version channel
   _ ← provided (is_in_time rules job.source tip share.ntime) failed.Ntime channel
-  Ok (record { channel = channel; job = job; tip = tip })
+  Ok (record { channel = channel; job = job; live_at = live_at; tip = tip })

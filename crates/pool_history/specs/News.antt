@@ -15,7 +15,7 @@ use Rattle.pool_history.specs.declared.telling.Note.{Note}
 use Rattle.pool_history.specs.declared.telling.Note.TheVariants as note
 use Rattle.pool_history.specs.declared.templates.TipData.{TipData}
 use Rattle.pool_history.specs.Channels.{OpenChannel, channel_in, channels_in, channels_of, group_id}
-use Rattle.pool_history.specs.Crediting.{booked_with, credit_share, is_block, listed}
+use Rattle.pool_history.specs.Crediting.{booked_with, credit_share, is_block, found_list}
 use Rattle.pool_history.specs.Headers.{extranonce_prefix}
 use Rattle.pool_history.specs.Jobs.{Source, FromTemplate, FromMiner, Job, Standing, jobs_of, last_of, newest}
 use Rattle.pool_history.specs.Judging.{Admitted, Share, is_standard, job_parts, path_of, version_of}
@@ -127,40 +127,40 @@ abbrev pub solution_notes : List ℕ → ℕ → Share → Admitted → List Not
 solution_notes script session share with = solution_by script session share with with.job.source
 
 -- what a session is owed for an event, by the events before it and the event
-abbrev pub owed_by : Rules → Event → List Event → ℕ → List Note
-owed_by rules (event.Open opening kind account class lead) older session =
+abbrev pub owed_notes_by : Rules → Event → List Event → ℕ → List Note
+owed_notes_by rules (event.Open opening kind account class lead) older session =
     if opening == session
     then opening_notes rules (jobs_of older)
     (channel_in (channels_of (event.Open opening kind account class lead ∷ older))
     (opens older + 1))
     else []
-owed_by rules (event.Template feed template) older session =
+owed_notes_by rules (event.Template feed template) older session =
     told_of rules (live_ntime template.future_template (jobs_of older).tip) (audience older session)
     (last_of (jobs_of (event.Template feed template ∷ older)).all)
-owed_by rules (event.Tip feed tip) older session =
+owed_notes_by rules (event.Tip feed tip) older session =
     tip_notes tip (audience older session) (newest (jobs_of (event.Tip feed tip ∷ older)))
-owed_by rules (event.Credit crediting channel job nonce ntime version extranonce) older session =
+owed_notes_by rules (event.Credit crediting channel job nonce ntime version extranonce) older session =
     flat_map (λ notes. notes)
-    (listed (λ with. solution_notes rules.pool_script session
+    (found_list (λ with. solution_notes rules.pool_script session
     (credit_share with channel job nonce ntime version extranonce) with)
     (booked_with older channel job))
-owed_by rules (event.Start other) older session = []
-owed_by rules (event.Enter worker role flags) older session = []
-owed_by rules (event.Name naming channel account) older session = []
-owed_by rules (event.Class setting channel class) older session = []
-owed_by rules (event.Close closing channel) older session = []
-owed_by rules (event.Leave leaving) older session = []
-owed_by rules (event.Grant asking account fixed path) older session = []
-owed_by rules (event.Custom bringing custom) older session = []
+owed_notes_by rules (event.Start other) older session = []
+owed_notes_by rules (event.Enter worker role flags) older session = []
+owed_notes_by rules (event.Name naming channel account) older session = []
+owed_notes_by rules (event.Class setting channel class) older session = []
+owed_notes_by rules (event.Close closing channel) older session = []
+owed_notes_by rules (event.Leave leaving) older session = []
+owed_notes_by rules (event.Grant asking account fixed path) older session = []
+owed_notes_by rules (event.Custom bringing custom) older session = []
 
 -- the same by the rules of the history
-abbrev pub owed : Option Rules → Event → List Event → ℕ → List Note
-owed None event older session = []
-owed (Some rules) event older session = owed_by rules event older session
+abbrev pub owed_notes : Option Rules → Event → List Event → ℕ → List Note
+owed_notes None event older session = []
+owed_notes (Some rules) event older session = owed_notes_by rules event older session
 
 -- the news of a session since a place, event by event
 abbrev pub news : ℕ → List Event → ℕ → List Note
 news from [] session = []
 news from (event ∷ older) session =
     if nat_le from (length older)
-    then news from older session ++ owed (rules_of (event ∷ older)) event older session else []
+    then news from older session ++ owed_notes (rules_of (event ∷ older)) event older session else []

@@ -2,7 +2,7 @@
 -- own). What a request is answered with and what makes an event illegal are both by these.
 -- Computed on each refusal but the counts that are too great to compute (`Rows`, `OwnJobs`,
 -- `IllegalEvents`, `AnswerRows`).
-use Rattle.std.specs.Prelude.{ℕ, ◌+◌, ◌-◌, ◌^◌, ◌==◌, ◌&&◌, ◌||◌, Bool, true, false, not, if◌then◌else◌, min, max, Option, None, Some, is_none, Result, Ok, Err, List, [], ◌∷◌, ◌++◌, length, map, nat_lt, nat_le}
+use Rattle.std.specs.Prelude.{ℕ, ◌+◌, ◌-◌, ◌^◌, ◌==◌, ◌&&◌, ◌||◌, Bool, true, false, not, if◌then◌else◌, min, max, Option, None, Some, is_some, Result, Ok, Err, List, [], ◌∷◌, ◌++◌, length, map, nat_lt, nat_le}
 use Rattle.std.specs.Int.{w64, to_le_bytes}
 use Rattle.std.specs.List.{list_any}
 use Rattle.std.specs.Str.{bytes_eq}
@@ -36,7 +36,7 @@ use Rattle.pool_history.specs.declared.templates.TipData.{TipData}
 use Rattle.pool_history.specs.Accounts.{account_of, is_empty, is_known}
 use Rattle.pool_history.specs.Channels.{OpenChannel, channel_in, channels_in, channels_of}
 use Rattle.pool_history.specs.Conditions.{first_false, found, provided, unless_refusal}
-use Rattle.pool_history.specs.Jobs.{Job, Standing, future_of, has_template, jobs_of}
+use Rattle.pool_history.specs.Jobs.{Job, future_of, has_template, jobs_of}
 use Rattle.pool_history.specs.Judging.{custom_terms, template_terms}
 use Rattle.pool_history.specs.Sessions.{grants, opens, templates}
 use Rattle.pool_history.specs.Spaces.{lowest}
@@ -66,19 +66,29 @@ abbrev pub coinbase_refusal : Result Parts AssemblyError → Option JobError
 coinbase_refusal (Ok parts) = None
 coinbase_refusal (Err error) = Some (job.Coinbase error)
 
--- a future or live job of a template
-abbrev pub is_template_known : Standing → ℕ → Bool
-is_template_known standing id =
-    list_any (λ job. has_template id job.source) (standing.future ++ standing.live)
+-- a template's job is among these
+abbrev pub is_template_known : List Job → ℕ → Bool
+is_template_known jobs id = list_any (λ job. has_template id job.source) jobs
 
--- why a template is refused: the limit, a job with its id, no tip, its coinbase
+-- why a template is refused after so many others, with these jobs future or live and this tip: the
+-- limit, a job with its id, no tip, its coinbase
+abbrev pub refusal_among :
+    List ℕ → ℕ → List Job → Option TipData → TemplateData → Option JobError
+refusal_among script count jobs tip template =
+    first_false
+    ((nat_lt count most_templates, job.TooMany count)
+    ∷ (
+      not (is_template_known jobs template.template_id),
+      job.TemplateKnown template.template_id,
+    )
+    ∷ (template.future_template || is_some tip, job.NoTip)
+    ∷ []) (coinbase_refusal (template_assembly (template_terms template) script))
+
+-- the same after a history
 abbrev pub template_refusal : List ℕ → List Event → TemplateData → Option JobError
 template_refusal script past template =
-    if nat_le most_templates (templates past) then Some (job.TooMany (templates past))
-    else if is_template_known (jobs_of past) template.template_id
-    then Some (job.TemplateKnown template.template_id)
-    else if not template.future_template && is_none (jobs_of past).tip then Some job.NoTip
-    else coinbase_refusal (template_assembly (template_terms template) script)
+    refusal_among script (templates past) ((jobs_of past).future ++ (jobs_of past).live)
+    (jobs_of past).tip template
 
 -- the job that a tip makes live, or why the tip is refused: no future job has its template
 abbrev pub tippable : List Event → TipData → Result Job JobError
@@ -109,22 +119,24 @@ lead_length kind.V1 size = min 4 (12 - size)
 abbrev pub held_leads : List Event → List (List ℕ)
 held_leads past = map (λ channel. channel.lead) (channels_of past)
 
--- how many channels of a session are open
-abbrev pub open_count : List Event → ℕ → ℕ
-open_count past session = length (channels_in (channels_of past) session)
+-- how many channels of a session are among these
+abbrev pub count_among : List OpenChannel → ℕ → ℕ
+count_among channels session = length (channels_in channels session)
 
--- a session may not open one more
-abbrev pub has_too_many : List Event → ℕ → Bool
-has_too_many past session =
-    nat_le most_channels (open_count past session) || nat_le most_opens (opens past)
+-- a session that has these open channels among all may not open one more, after so many openings
+abbrev pub has_too_many_among : List OpenChannel → ℕ → ℕ → Bool
+has_too_many_among channels openings session =
+    nat_le most_channels (count_among channels session) || nat_le most_opens openings
 
--- the lead that an opening gets
-abbrev pub lead_for : List Event → OpenAsk → Option (List ℕ)
-lead_for past ask = lowest (lead_length ask.kind ask.min_size) (held_leads past)
+-- the lead that an opening gets beside these channels
+abbrev pub lead_among : List OpenChannel → OpenAsk → Option (List ℕ)
+lead_among channels ask =
+    lowest (lead_length ask.kind ask.min_size) (map (λ channel. channel.lead) channels)
 
 -- what an opening needs, and why it is refused where it hasn't it
-abbrev pub open_conditions : Rules → List Event → ℕ → OpenAsk → List (Bool × OpenError)
-open_conditions rules past session ask =
+abbrev pub conditions_among :
+    Rules → List OpenChannel → ℕ → ℕ → OpenAsk → List (Bool × OpenError)
+conditions_among rules channels openings session ask =
     (may_open rules ask.kind (account_of ask.identity), open_error.UnknownUser)
     ∷ (
       nat_le (class_of_target ask.max_target) 60,
@@ -133,9 +145,8 @@ open_conditions rules past session ask =
     )
     ∷ (nat_le ask.min_size 11, open_error.SizeTooLarge ask.min_size)
     ∷ (
-      not (has_too_many past session),
-      open_error.TooManyChannels (open_count past session)
-          (opens past),
+      not (has_too_many_among channels openings session),
+      open_error.TooManyChannels (count_among channels session) openings,
     )
     ∷ []
 
@@ -144,10 +155,31 @@ abbrev pub lead_unless : Option OpenError → Option (List ℕ) → Result (List
 lead_unless (Some refusal) lead = Err refusal
 lead_unless None lead = found open_error.NoSpace lead
 
--- the lead that an opening gets, or why it is refused; the last reason is that no lead is free
+-- the lead that an opening gets beside these channels and after so many openings, or why it is
+-- refused; the last reason is that no lead is free
+abbrev pub openable_among :
+    Rules → List OpenChannel → ℕ → ℕ → OpenAsk → Result (List ℕ) OpenError
+openable_among rules channels openings session ask =
+    lead_unless (first_false (conditions_among rules channels openings session ask) None)
+    (lead_among channels ask)
+
+-- the same after a history
+abbrev pub open_count : List Event → ℕ → ℕ
+open_count past session = count_among (channels_of past) session
+
+abbrev pub has_too_many : List Event → ℕ → Bool
+has_too_many past session = has_too_many_among (channels_of past) (opens past) session
+
+abbrev pub lead_for : List Event → OpenAsk → Option (List ℕ)
+lead_for past ask = lead_among (channels_of past) ask
+
+abbrev pub open_conditions : Rules → List Event → ℕ → OpenAsk → List (Bool × OpenError)
+open_conditions rules past session ask =
+    conditions_among rules (channels_of past) (opens past) session ask
+
 abbrev pub openable : Rules → List Event → ℕ → OpenAsk → Result (List ℕ) OpenError
 openable rules past session ask =
-    lead_unless (first_false (open_conditions rules past session ask) None) (lead_for past ask)
+    openable_among rules (channels_of past) (opens past) session ask
 
 -- the open channel of a session
 abbrev pub own_channel : List Event → ℕ → ℕ → Option OpenChannel
@@ -177,10 +209,11 @@ updatable target (Some channel) =
 -- why a token isn't granted for a path, none being no path
 abbrev pub grant_refusal : Rules → List Event → List ℕ → List (List ℕ) → Option GrantError
 grant_refusal rules past account path =
-    if not (is_known rules account) then Some grant.UnknownUser
-    else if nat_le most_grants (grants past) then Some (grant.TooManyGrants (grants past))
-    else if nat_lt most_entries (length path) then Some (grant.PathTooLong (length path))
-    else None
+    first_false
+    ((is_known rules account, grant.UnknownUser)
+    ∷ (nat_lt (grants past) most_grants, grant.TooManyGrants (grants past))
+    ∷ (nat_le (length path) most_entries, grant.PathTooLong (length path))
+    ∷ []) None
 
 -- the token of a Grant: its number in eight bytes
 abbrev pub token_of : ℕ → List ℕ
@@ -198,14 +231,36 @@ grant_of [] token = None
 grant_of (event.Grant session account fixed path ∷ older) token =
     if bytes_eq token (token_of (grants older + 1))
     then Some (record { account = account; fixed = fixed; path = path }) else grant_of older token
-grant_of (event ∷ older) token = grant_of older token
+grant_of (event.Start rules ∷ older) token = grant_of older token
+grant_of (event.Enter worker role flags ∷ older) token = grant_of older token
+grant_of (event.Template session template ∷ older) token = grant_of older token
+grant_of (event.Tip session tip ∷ older) token = grant_of older token
+grant_of (event.Open session kind account class lead ∷ older) token = grant_of older token
+grant_of (event.Name session channel account ∷ older) token = grant_of older token
+grant_of (event.Class session channel class ∷ older) token = grant_of older token
+grant_of (event.Close session channel ∷ older) token = grant_of older token
+grant_of (event.Leave session ∷ older) token = grant_of older token
+grant_of (event.Credit session channel job nonce ntime version extranonce ∷ older) token =
+    grant_of older token
+grant_of (event.Custom session custom ∷ older) token = grant_of older token
 
 -- a miner's own job names the token
 abbrev pub is_spent : List Event → List ℕ → Bool
 is_spent [] token = false
 is_spent (event.Custom session custom ∷ older) token =
     bytes_eq token custom.token || is_spent older token
-is_spent (event ∷ older) token = is_spent older token
+is_spent (event.Start rules ∷ older) token = is_spent older token
+is_spent (event.Enter worker role flags ∷ older) token = is_spent older token
+is_spent (event.Template session template ∷ older) token = is_spent older token
+is_spent (event.Tip session tip ∷ older) token = is_spent older token
+is_spent (event.Open session kind account class lead ∷ older) token = is_spent older token
+is_spent (event.Name session channel account ∷ older) token = is_spent older token
+is_spent (event.Class session channel class ∷ older) token = is_spent older token
+is_spent (event.Close session channel ∷ older) token = is_spent older token
+is_spent (event.Leave session ∷ older) token = is_spent older token
+is_spent (event.Credit session channel job nonce ntime version extranonce ∷ older) token =
+    is_spent older token
+is_spent (event.Grant session account fixed path ∷ older) token = is_spent older token
 
 -- an extended kind
 abbrev pub is_extended : Kind → Bool
@@ -249,12 +304,15 @@ is_other_tip tip offer =
 abbrev pub over_tip : List ℕ → Granted → CustomData → Option TipData → Option CustomError
 over_tip script granted offer None = Some custom.StaleTip
 over_tip script granted offer (Some tip) =
-    if is_other_tip tip offer then Some custom.StaleTip
-    else if nat_lt offer.min_ntime tip.header_timestamp
-    then Some (custom.EarlyTime tip.header_timestamp)
-    else if is_bad_path granted offer.merkle_path
-    then Some (custom.BadPath (length offer.merkle_path))
-    else outputs_refusal (custom_assembly (custom_terms offer) script)
+    first_false
+    ((not (is_other_tip tip offer), custom.StaleTip)
+    ∷ (nat_le tip.header_timestamp offer.min_ntime, custom.EarlyTime tip.header_timestamp)
+    ∷ (
+      not (is_bad_path granted offer.merkle_path),
+      custom.BadPath
+          (length offer.merkle_path),
+    )
+    ∷ []) (outputs_refusal (custom_assembly (custom_terms offer) script))
 
 -- the same by its token
 abbrev pub with_token : List ℕ → List Event → CustomData → Option Granted → Option CustomError

@@ -4,7 +4,7 @@
 -- Computed on sessions that left, entered again and never entered (`IllegalEvents`, `AnswerRows`).
 use Rattle.std.specs.Prelude.{ℕ, ◌+◌, ◌==◌, Bool, true, false, if◌then◌else◌, Option, None, Some, List, [], ◌∷◌, reverse}
 use Rattle.pool_history.specs.declared.events.Event.{Event}
-use Rattle.pool_history.specs.declared.events.Event.TheVariants.{Start, Enter, Template, Open, Leave, Credit, Grant}
+use Rattle.pool_history.specs.declared.events.Event.TheVariants.{Start, Enter, Template, Tip, Open, Name, Class, Close, Leave, Credit, Grant, Custom}
 use Rattle.pool_history.specs.declared.events.Role.{Role}
 use Rattle.pool_history.specs.declared.events.Role.TheVariants as role
 use Rattle.pool_history.specs.declared.settings.Rules.{Rules}
@@ -69,7 +69,17 @@ present [] worker = None
 present (Enter entering role flags ∷ older) worker =
     if entering == worker then Some (enters older) else present older worker
 present (Leave session ∷ older) worker = unless_left session (present older worker)
-present (event ∷ older) worker = present older worker
+present (Start rules ∷ older) worker = present older worker
+present (Template session template ∷ older) worker = present older worker
+present (Tip session tip ∷ older) worker = present older worker
+present (Open session kind account class lead ∷ older) worker = present older worker
+present (Name session channel account ∷ older) worker = present older worker
+present (Class session channel class ∷ older) worker = present older worker
+present (Close session channel ∷ older) worker = present older worker
+present (Credit session channel job nonce ntime version extranonce ∷ older) worker =
+    present older worker
+present (Grant session account fixed path ∷ older) worker = present older worker
+present (Custom session custom ∷ older) worker = present older worker
 
 -- what a session's Enter says
 pub record Entrance : Type 0 where
@@ -83,7 +93,18 @@ entrance [] session = None
 entrance (Enter worker role flags ∷ older) session =
     if enters older == session then Some (record { worker = worker; role = role; flags = flags })
     else entrance older session
-entrance (event ∷ older) session = entrance older session
+entrance (Start rules ∷ older) session = entrance older session
+entrance (Template naming template ∷ older) session = entrance older session
+entrance (Tip naming tip ∷ older) session = entrance older session
+entrance (Open naming kind account class lead ∷ older) session = entrance older session
+entrance (Name naming channel account ∷ older) session = entrance older session
+entrance (Class naming channel class ∷ older) session = entrance older session
+entrance (Close naming channel ∷ older) session = entrance older session
+entrance (Leave naming ∷ older) session = entrance older session
+entrance (Credit naming channel job nonce ntime version extranonce ∷ older) session =
+    entrance older session
+entrance (Grant naming account fixed path ∷ older) session = entrance older session
+entrance (Custom naming custom ∷ older) session = entrance older session
 
 -- the session of an Enter is its worker's present one
 abbrev pub is_number : ℕ → Option ℕ → Bool

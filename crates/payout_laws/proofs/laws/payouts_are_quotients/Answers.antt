@@ -1,5 +1,5 @@
-use Rattle.payout_laws.proofs.Conserved.{payouts_quotients}
+use Rattle.payout_laws.proofs.WeightsPlaced.{payouts-placed}
 use Rattle.payout_laws.proofs.laws.payouts_are_quotients.Goals as goal
 
 pub returns : goal.returns
-returns c = payouts_quotients
+returns c = payouts-placed

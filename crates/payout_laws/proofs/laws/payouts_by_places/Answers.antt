@@ -1,5 +1,0 @@
-use Rattle.payout_laws.proofs.WeightsPlaced.{payouts-placed}
-use Rattle.payout_laws.proofs.laws.payouts_by_places.Goals as goal
-
-pub returns : goal.returns
-returns c = payouts-placed
