@@ -1,14 +1,19 @@
 -- What is kept of jobs and what is owed by places, on worked examples.
-use Rattle.std.proofs.Common.{◌≡◌, true, false, Some, List, [], ◌∷◌, refl}
+use Rattle.std.proofs.Common.{Ok, ◌≡◌, true, false, Some, List, [], ◌∷◌, refl}
 use Rattle.std.specs.Prelude.{map, replicate}
+use Rattle.coinbase.specs.Compact.{compact}
+use Rattle.coinbase.specs.Outputs.{outputs_of, outputs_within}
+use Rattle.coinbase.specs.Reading.{compact_at, number_at, output_at, sized_at}
 use Rattle.pool_history.specs.declared.events.Event.{Event}
 use Rattle.pool_history.specs.declared.events.Event.TheVariants as event
 use Rattle.pool_history.specs.declared.events.JobState.TheVariants as state
 use Rattle.pool_history.specs.declared.telling.Note.TheVariants as note
 use Rattle.pool_history.specs.Jobs.{jobs_of}
+use Rattle.pool_history.specs.Legal.{LegalPast}
 use Rattle.pool_history.specs.Sessions.{past_of}
+use Rattle.pool_history.specs.Spaces.{first_free}
 use Rattle.pool_history.proofs.Given.{template_of, tip_of, tipped}
-use Rattle.pool_history.proofs.OwnJobs.{brings, granted}
+use Rattle.pool_history.proofs.OwnJobs.{brings, granted, offer}
 use Rattle.history_laws.specs.KeptJobs.{KeptJobs, is_mineable_by, kept_of, state_by}
 use Rattle.history_laws.specs.News.{owed_from}
 
@@ -54,3 +59,12 @@ owed-tip = refl
 
 pub owed-nothing : owed_from 5 [] (past_of tipped) 0 ≡ []
 owed-nothing = refl
+
+-- a legal history that brings a miner's own job, so that what is said of those isn't empty: its outputs are one of 2,000
+pub legal-with_own : LegalPast (brings ∷ granted)
+unfolding first_free outputs_within output_at sized_at compact_at number_at compact
+legal-with_own = (((((((tt, refl), refl), refl), refl), refl), refl), refl)
+
+pub own-read : outputs_of offer.coinbase_tx_outputs ≡ Ok (record { value = 2000; script = 0x51 ∷ [] } ∷ [])
+unfolding outputs_within output_at sized_at compact_at number_at compact
+own-read = refl
