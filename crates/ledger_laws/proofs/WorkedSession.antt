@@ -133,15 +133,21 @@ pub booked_without_block : bookings_of (credits ∷ event.Tip 0 (record (tip_of 
 unfolding sha256 digest_bytes hash_after compress rounds schedule first_words compact
 booked_without_block = refl
 
--- the same share on the miner's own job is a block too, with the reward that the job's outputs pay; its news owe no
--- solution
-abbrev pub credits_own : Event
-credits_own = event.Credit 0 1 2 0 1000000 0x20000000 (replicate 8 0)
+-- the same share on the miner's own job is a block too, with the reward that the job's outputs pay
+abbrev pub with_own_credit : List Event
+with_own_credit = event.Credit 0 1 2 0 1000000 0x20000000 (replicate 8 0) ∷ brings ∷ granted
 
-pub booked_of-own_job : bookings_of (credits_own ∷ brings ∷ granted) ≡ record { account = 0x61 ∷ []; work = 1; reward = Some 2000 } ∷ []
+pub booked_of-own_job : bookings_of with_own_credit ≡ record { account = 0x61 ∷ []; work = 1; reward = Some 2000 } ∷ []
 unfolding outputs_within output_at sized_at compact_at number_at sha256 digest_bytes hash_after compress rounds schedule first_words compact
 booked_of-own_job = refl
 
-pub news-own_block : news 7 (credits_own ∷ brings ∷ granted) 0 ≡ []
+pub summary_of-own_job : summary_of with_own_credit ≡ record {
+  sessions = 1;
+  events = 8;
+  credits = 1;
+  blocks = 1;
+  pool = 20;
+  accounts = record { account = 0x61 ∷ []; work = 1; balance = 1980 } ∷ [];
+}
 unfolding outputs_within output_at sized_at compact_at number_at sha256 digest_bytes hash_after compress rounds schedule first_words compact
-news-own_block = refl
+summary_of-own_job = refl
