@@ -1,8 +1,9 @@
--- What contracts see of the sources and sinks in memory.
+-- What contracts see of the sources, sinks and keepers in memory.
 use Rattle.std.specs.Prelude.{ℕ, List}
 use Rattle.pool_io.specs.declared.turn.Turn.{Turn}
 use Rattle.pool_io.specs.declared.memory.source.MemSource.{MemSource}
 use Rattle.pool_io.specs.declared.memory.sink.MemSink.{MemSink}
+use Rattle.pool_io.specs.declared.memory.keeper.MemKeeper.{MemKeeper}
 
 -- the turns still to come
 abbrev pub source_turns : MemSource → List Turn
@@ -19,3 +20,11 @@ sink_bytes s = s.sink
 -- how often the sink has failed
 abbrev pub sink_faults : MemSink → ℕ
 sink_faults s = s.faults
+
+-- the records that the keeper keeps
+abbrev pub keeper_records : MemKeeper → List (List ℕ)
+keeper_records k = k.keeper
+
+-- how often the keeper has failed
+abbrev pub keeper_faults : MemKeeper → ℕ
+keeper_faults k = k.faults

@@ -1,5 +1,5 @@
--- What one call does to what a source or a sink tells, and to a count of failures (this project's
--- own).
+-- What one call does to what a source, a sink or a keeper tells, and to a count of failures (this
+-- project's own).
 use Rattle.std.specs.Prelude.{ℕ, ◌+◌, ◌-◌, ◌^◌, min, max, ◌≡◌, ◌<◌, ◌≤◌, Bool, true, false, List, [], ◌∷◌, ◌++◌, length, take, drop, Option, Some, IfSome, Result, Ok, Err}
 use Rattle.pool_io.specs.declared.turn.Turn.{Turn}
 use Rattle.pool_io.specs.declared.turn.Turn.TheVariants as turn
@@ -7,6 +7,8 @@ use Rattle.pool_io.specs.declared.source.Took.{Took}
 use Rattle.pool_io.specs.declared.source.Took.TheVariants.{Bytes, End, Idle, Failed}
 use Rattle.pool_io.specs.declared.sink.SinkFailed.{SinkFailed}
 use Rattle.pool_io.specs.declared.sink.SinkFailed.TheVariants as sink
+use Rattle.pool_io.specs.declared.keeper.KeeperFailed.{KeeperFailed}
+use Rattle.pool_io.specs.declared.keeper.KeeperFailed.TheVariants as keeper
 use Rattle.pool_io.specs.declared.host.HostError.{HostError}
 use Rattle.pool_io.specs.declared.host.HostError.TheVariants as host
 
@@ -53,6 +55,10 @@ TakesTurn old new took buffer = IfSome old (λ turns. (left : List Turn) × (new
 abbrev pub AddsBytes : Option (List ℕ) → Option (List ℕ) → List ℕ → Type 0
 AddsBytes old new bytes = IfSome old (λ held. new ≡ Some (held ++ bytes))
 
+-- a keeper that tells its records keeps this one more, behind the others
+abbrev pub AddsRecord : Option (List (List ℕ)) → Option (List (List ℕ)) → List ℕ → Type 0
+AddsRecord old new record_bytes = IfSome old (λ records. new ≡ Some (records ++ record_bytes ∷ []))
+
 -- the count after one more failure: it stands still at its type's end
 abbrev pub next_count : ℕ → ℕ
 next_count before = max before (min (before + 1) (2 ^ 64 - 1))
@@ -75,6 +81,12 @@ abbrev pub is_failed_put : {A : Type 0} → Result A SinkFailed → Bool
 is_failed_put (Ok a) = false
 is_failed_put (Err sink.Failed) = true
 is_failed_put (Err sink.Memory) = false
+
+-- the keeper failed; want of memory is no failure
+abbrev pub is_failed_append : {A : Type 0} → Result A KeeperFailed → Bool
+is_failed_append (Ok a) = false
+is_failed_append (Err keeper.Failed) = true
+is_failed_append (Err keeper.Memory) = false
 
 -- the host failed; want of memory is no failure
 abbrev pub is_failed_gift : {A : Type 0} → Result A HostError → Bool

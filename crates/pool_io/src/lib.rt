@@ -1,8 +1,9 @@
-//! The outside as traits (sources, sinks, hosts), and forms of them in memory. Nothing here touches
+//! The outside as traits (sources, sinks, keepers, hosts), and forms of them in memory. Nothing here touches
 //! a real file, stream or socket.
 #![tactic(auto)]
 
 mod host;
+mod keeper;
 mod memory;
 mod shelf;
 mod sink;
@@ -10,10 +11,15 @@ mod source;
 mod turn;
 
 pub use host::{Host, HostError};
+pub use keeper::{Keeper, KeeperFailed};
 pub use memory::host::{MemHost, Script};
+pub use memory::keeper::{KeptRecord, MemKeeper, SureKeeper};
 pub use memory::sink::{MemSink, SureSink};
 pub use memory::source::{MemSource, SureSource};
 pub use shelf::Shelf;
 pub use sink::{Sink, SinkFailed};
 pub use source::{Source, Took};
 pub use turn::{Piece, Turn};
+
+#[cfg(test)]
+mod tests;

@@ -1,5 +1,6 @@
 //! The outside in memory. Calls are numbered from 0, and those whose numbers are listed fail.
 
 pub mod host;
+pub mod keeper;
 pub mod sink;
 pub mod source;

@@ -1,0 +1,137 @@
+//! Keepers in memory.
+
+ghost use Rattle.std.specs.Prelude.{◌≡◌};
+
+use crate::{Keeper, KeeperFailed};
+use std::alloc::Global;
+use std::marker::Model;
+
+/// A record that is kept. Contracts see its bytes.
+#[derive(Debug, Drop)]
+pub struct KeptRecord {
+    bytes: Vec<u8>,
+}
+
+impl Model for KeptRecord {
+    ghost use Rattle.std.specs.Prelude.{ℕ, List};
+
+    ghost Value = { List ℕ };
+
+    ghost view = { λ r. r.bytes.items };
+}
+
+impl KeptRecord {
+    pub fn bytes(&self) -> &[u8]
+        ensures { result.now ≡ self.now }
+    {
+        &self.bytes
+    }
+}
+
+/// Keeps what is appended. It never fails but for want of memory.
+#[derive(Drop)]
+pub struct SureKeeper {
+    alloc: Global,
+    records: Vec<KeptRecord>,
+}
+
+impl Model for SureKeeper {
+    ghost use Rattle.std.specs.Prelude.{ℕ, List};
+
+    ghost Value = { List (List ℕ) };
+
+    ghost view = { λ k. k.records.items };
+}
+
+impl SureKeeper {
+    ghost use Rattle.std.specs.Prelude.{[]};
+
+    /// A keeper that keeps no record yet.
+    pub fn new(alloc: Global) -> SureKeeper
+        ensures { result ≡ [] }
+    {
+        SureKeeper {
+            alloc,
+            records: Vec::new(alloc),
+        }
+    }
+
+    /// The records, from the first on.
+    pub fn records(&self) -> &[KeptRecord]
+        ensures { result.now ≡ self.now }
+    {
+        &self.records
+    }
+}
+
+impl Keeper for SureKeeper {
+    ghost use Rattle.std.specs.Prelude.{Some};
+
+    ghost faults = { λ _. 0 };
+
+    ghost records = { λ k. Some k };
+
+    fn append(&mut self, bytes: &[u8]) -> Result<(), KeeperFailed> {
+        let Ok(bytes) = Vec::from_slice(self.alloc, bytes) else {
+            return Err(KeeperFailed::Memory);
+        };
+        match self.records.push(KeptRecord { bytes }) {
+            Ok(()) => Ok(()),
+            Err(_) => Err(KeeperFailed::Memory),
+        }
+    }
+}
+
+/// Keeps what is appended, and fails at the calls whose numbers are listed, the first call being
+/// number 0.
+#[derive(Drop)]
+pub struct MemKeeper {
+    keeper: SureKeeper,
+    calls: u64,
+    failing: Vec<u64>,
+    faults: u64,
+}
+
+impl MemKeeper {
+    ghost use Rattle.std.specs.Prelude.{[]};
+    ghost use Rattle.pool_io.specs.Memory.{keeper_records, keeper_faults};
+
+    /// A keeper that keeps no record yet.
+    pub fn new(alloc: Global, failing: Vec<u64>) -> MemKeeper
+        ensures empty { keeper_records result ≡ [] }
+        ensures fresh { keeper_faults result ≡ 0 }
+    {
+        MemKeeper {
+            keeper: SureKeeper::new(alloc),
+            calls: 0,
+            failing,
+            faults: 0,
+        }
+    }
+
+    /// The records, from the first on.
+    pub fn records(&self) -> &[KeptRecord]
+        ensures { result.now ≡ keeper_records self.now }
+    {
+        self.keeper.records()
+    }
+}
+
+impl Keeper for MemKeeper {
+    ghost use Rattle.std.specs.Prelude.{Some};
+    ghost use Rattle.pool_io.specs.Memory.{keeper_records, keeper_faults};
+
+    ghost faults = { keeper_faults };
+
+    ghost records = { λ k. Some (keeper_records k) };
+
+    fn append(&mut self, bytes: &[u8]) -> Result<(), KeeperFailed> {
+        let call = self.calls;
+        self.calls = call.saturating_add(1);
+        if self.failing.contains(&call) {
+            self.faults = self.faults.saturating_add(1);
+            return Err(KeeperFailed::Failed);
+        }
+        self.keeper.append(bytes)
+    }
+}
