@@ -1,0 +1,5 @@
+mod Joined
+mod Listed
+mod Mapped
+mod Parts
+mod Surplus

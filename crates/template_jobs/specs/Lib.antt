@@ -1,0 +1,6 @@
+pub mod HeldJobs
+pub mod Lists
+pub mod Owners
+pub mod Plans
+pub mod Refusals
+pub mod Tables

@@ -1,0 +1,14 @@
+//! The jobs of a pool, exact to the templates, tips and miners' own jobs that they were told of. What
+//! is future or live is kept whole; of the others no more is kept than whose they were.
+#![tactic(auto)]
+
+mod content;
+mod job;
+mod lists;
+mod making;
+mod origin;
+mod owner;
+mod table;
+
+pub use job::Job;
+pub use table::{JobPlan, Jobs};
