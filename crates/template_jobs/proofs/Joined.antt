@@ -88,7 +88,7 @@ module _ (script : List ℕ) (old : JobTable) (room session at : ℕ) (coinbase 
   joined-live (FromTemplate template) place is =
       let job : HeldJob = joining (old.count + 1) session at (Some at) (FromTemplate template) coinbase in
       record {
-        kept = subst (λ b. record (kept_jobs old) { count = old.count + 1; live = map as_job (last 64 (old.live ++ job ∷ [])) } ≡ keeping_template (as_job job) b (kept_jobs old))
+        kept = subst (λ b. record (kept_jobs old) { count = old.count + 1; live = map as_job (last 64 (old.live ++ job ∷ [])) } ≡ keeping_template (as_job (joining (old.count + 1) session at None (FromTemplate template) coinbase)) b (kept_jobs old))
             (sym (is-ready template.future_template place))
             (ap (λ l. record (kept_jobs old) { count = old.count + 1; live = l }) (joined-last 64 old.live job));
         coinbases = λ all. all-three (HasCoinbase script) old.future (last 64 (old.live ++ job ∷ [])) old.custom

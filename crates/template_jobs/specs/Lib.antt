@@ -1,5 +1,6 @@
 pub mod HeldJobs
 pub mod Lists
+pub mod Messages
 pub mod Owners
 pub mod Plans
 pub mod Refusals

@@ -6,9 +6,11 @@ mod content;
 mod job;
 mod lists;
 mod making;
+mod messages;
 mod origin;
 mod owner;
 mod table;
 
 pub use job::Job;
+pub use messages::{custom_of, template_of, tip_of};
 pub use table::{JobPlan, Jobs};

@@ -164,6 +164,13 @@ impl Jobs {
         is_counted(self.count, id) && !is_others(&self.owners, channel, id)
     }
 
+    /// How many jobs the miners brought.
+    pub fn own_count(&self) -> u32
+        ensures { result ≡ length self.now.own }
+    {
+        self.count - self.templates
+    }
+
     /// Takes in a template that a session sent, whose event is at a place of the history, with the
     /// pool's script; answers its job's number.
     pub fn add_template(
