@@ -11,7 +11,7 @@ source_turns s = s.source
 
 -- how often the source has failed
 abbrev pub source_faults : MemSource → ℕ
-source_faults s = s.faults
+source_faults s = s.failing.faults
 
 -- the bytes that the sink has taken
 abbrev pub sink_bytes : MemSink → List ℕ
@@ -19,7 +19,7 @@ sink_bytes s = s.sink
 
 -- how often the sink has failed
 abbrev pub sink_faults : MemSink → ℕ
-sink_faults s = s.faults
+sink_faults s = s.failing.faults
 
 -- the records that the keeper keeps
 abbrev pub keeper_records : MemKeeper → List (List ℕ)
@@ -27,4 +27,4 @@ keeper_records k = k.keeper
 
 -- how often the keeper has failed
 abbrev pub keeper_faults : MemKeeper → ℕ
-keeper_faults k = k.faults
+keeper_faults k = k.failing.faults

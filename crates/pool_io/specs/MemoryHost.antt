@@ -8,7 +8,7 @@ use Rattle.pool_io.specs.declared.memory.sink.MemSink.{MemSink}
 -- its scripts tell what its objects start with
 abbrev pub host_seen : MemHost → Seen MemSource MemSink
 host_seen h = record {
-  faults = h.faults;
+  faults = h.failing.faults;
   input = Some h.input.contents.items;
   output = Some h.output.contents.items;
   sources = h.sources;

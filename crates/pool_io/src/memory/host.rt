@@ -2,6 +2,7 @@
 
 ghost use Rattle.std.specs.Prelude.{◌≡◌};
 
+use super::failing::FailingCalls;
 use crate::{Host, HostError, MemSink, MemSource, Shelf, Turn};
 use std::alloc::Global;
 use std::mem;
@@ -22,9 +23,7 @@ pub struct MemHost {
     alloc: Global,
     input: Script<Turn>,
     output: Script<u8>,
-    calls: u64,
-    failing: Vec<u64>,
-    faults: u64,
+    failing: FailingCalls,
     sources: Shelf<MemSource>,
     sinks: Shelf<MemSink>,
 }
@@ -46,9 +45,7 @@ impl MemHost {
             alloc,
             input,
             output,
-            calls: 0,
-            failing,
-            faults: 0,
+            failing: FailingCalls::of(failing),
             sources: Shelf::new(alloc),
             sinks: Shelf::new(alloc),
         }
@@ -79,10 +76,7 @@ impl Host for MemHost {
     ghost seen = { host_seen };
 
     fn input(&mut self) -> Result<MemSource, HostError> {
-        let call = self.calls;
-        self.calls = call.saturating_add(1);
-        if self.failing.contains(&call) {
-            self.faults = self.faults.saturating_add(1);
+        if self.failing.next_fails() {
             return Err(HostError::Failed);
         }
         if self.sources.lend().is_err() {
@@ -94,10 +88,7 @@ impl Host for MemHost {
     }
 
     fn output(&mut self) -> Result<MemSink, HostError> {
-        let call = self.calls;
-        self.calls = call.saturating_add(1);
-        if self.failing.contains(&call) {
-            self.faults = self.faults.saturating_add(1);
+        if self.failing.next_fails() {
             return Err(HostError::Failed);
         }
         if self.sinks.lend().is_err() {

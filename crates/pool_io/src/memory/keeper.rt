@@ -2,6 +2,7 @@
 
 ghost use Rattle.std.specs.Prelude.{◌≡◌};
 
+use super::failing::FailingCalls;
 use crate::{Keeper, KeeperFailed};
 use std::alloc::Global;
 use std::marker::Model;
@@ -87,9 +88,7 @@ impl Keeper for SureKeeper {
 #[derive(Drop)]
 pub struct MemKeeper {
     keeper: SureKeeper,
-    calls: u64,
-    failing: Vec<u64>,
-    faults: u64,
+    failing: FailingCalls,
 }
 
 impl MemKeeper {
@@ -103,9 +102,7 @@ impl MemKeeper {
     {
         MemKeeper {
             keeper: SureKeeper::new(alloc),
-            calls: 0,
-            failing,
-            faults: 0,
+            failing: FailingCalls::of(failing),
         }
     }
 
@@ -126,10 +123,7 @@ impl Keeper for MemKeeper {
     ghost records = { λ k. Some (keeper_records k) };
 
     fn append(&mut self, bytes: &[u8]) -> Result<(), KeeperFailed> {
-        let call = self.calls;
-        self.calls = call.saturating_add(1);
-        if self.failing.contains(&call) {
-            self.faults = self.faults.saturating_add(1);
+        if self.failing.next_fails() {
             return Err(KeeperFailed::Failed);
         }
         self.keeper.append(bytes)

@@ -2,6 +2,7 @@
 
 ghost use Rattle.std.specs.Prelude.{◌≡◌};
 
+use super::failing::FailingCalls;
 use crate::{Sink, SinkFailed};
 use std::marker::Model;
 
@@ -54,9 +55,7 @@ impl Sink for SureSink {
 #[derive(Drop)]
 pub struct MemSink {
     sink: SureSink,
-    calls: u64,
-    failing: Vec<u64>,
-    faults: u64,
+    failing: FailingCalls,
 }
 
 impl MemSink {
@@ -69,9 +68,7 @@ impl MemSink {
     {
         MemSink {
             sink: SureSink::of(bytes),
-            calls: 0,
-            failing,
-            faults: 0,
+            failing: FailingCalls::of(failing),
         }
     }
 
@@ -91,10 +88,7 @@ impl Sink for MemSink {
     ghost held = { λ s. Some (sink_bytes s) };
 
     fn put(&mut self, piece: &[u8]) -> Result<usize, SinkFailed> {
-        let call = self.calls;
-        self.calls = call.saturating_add(1);
-        if self.failing.contains(&call) {
-            self.faults = self.faults.saturating_add(1);
+        if self.failing.next_fails() {
             return Err(SinkFailed::Failed);
         }
         self.sink.put(piece)

@@ -2,6 +2,7 @@
 
 ghost use Rattle.std.specs.Prelude.{◌≡◌};
 
+use super::failing::FailingCalls;
 use crate::{Source, Took, Turn};
 use std::marker::Model;
 
@@ -74,9 +75,7 @@ impl Source for SureSource {
 #[derive(Drop)]
 pub struct MemSource {
     source: SureSource,
-    calls: u64,
-    failing: Vec<u64>,
-    faults: u64,
+    failing: FailingCalls,
 }
 
 impl MemSource {
@@ -88,9 +87,7 @@ impl MemSource {
     {
         MemSource {
             source: SureSource::of(turns),
-            calls: 0,
-            failing,
-            faults: 0,
+            failing: FailingCalls::of(failing),
         }
     }
 }
@@ -104,10 +101,7 @@ impl Source for MemSource {
     ghost left = { λ s. Some (source_turns s) };
 
     fn take(&mut self, buffer: &mut [u8]) -> Took {
-        let call = self.calls;
-        self.calls = call.saturating_add(1);
-        if self.failing.contains(&call) {
-            self.faults = self.faults.saturating_add(1);
+        if self.failing.next_fails() {
             return Took::Failed;
         }
         self.source.take(buffer)
