@@ -31,7 +31,7 @@ pub fn header_of(parts: &Parts<'_>, sub: &Submission) -> ([u8; 80], [u8; 32])
     (header, dsha(&header))
 }
 
-/// How many bytes of its extranonces a channel's miner rolls, which is how many a share has to send.
+/// How many bytes of an extranonce a channel's miner rolls, and a share has to send.
 pub fn rolled_length(kind: Kind, lead: &Lead) -> u8
     ensures { result ≡ rolled_length kind lead.now }
 {
