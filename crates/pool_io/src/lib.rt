@@ -1,5 +1,5 @@
-//! The outside as traits (sources, sinks, keepers, hosts), and forms of them in memory. Nothing here touches
-//! a real file, stream or socket.
+//! The outside as traits (sources, sinks, keepers, hosts), and forms of them in memory. Nothing here
+//! touches a real file, stream or socket.
 #![tactic(auto)]
 
 mod host;
