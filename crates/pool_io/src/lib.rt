@@ -4,6 +4,7 @@
 
 mod host;
 mod keeper;
+mod limits;
 mod memory;
 mod shelf;
 mod sink;
@@ -12,6 +13,7 @@ mod turn;
 
 pub use host::{Host, HostError};
 pub use keeper::{Keeper, KeeperFailed};
+pub use limits::Limits;
 pub use memory::host::{MemHost, Script};
 pub use memory::keeper::{KeptRecord, MemKeeper, SureKeeper};
 pub use memory::sink::{MemSink, SureSink};
