@@ -2,4 +2,5 @@ mod Joined
 mod Listed
 mod Mapped
 mod Parts
+mod Rising
 mod Surplus

@@ -52,6 +52,7 @@ last-read (x ∷ (y ∷ xs)) =
     last-read (y ∷ xs) ∙ ap (λ n. slice_get (y ∷ xs) n) (less (length xs)) ∙ ap (λ n. slice_get (x ∷ (y ∷ xs)) n) (more (length xs)) where
       less : (n : ℕ) → suc n - 1 ≡ n
       less n = omega arith
+
       more : (n : ℕ) → suc n ≡ suc (suc n) - 1
       more n = omega arith
 

@@ -18,11 +18,12 @@ own-length : (channel : ℕ) (jobs : List HeldJob)
 own-length channel [] = refl
 own-length channel (job ∷ jobs) =
     by (owned channel job) (own-length channel jobs) ∙ sym (sum_by-cons (λ held. cond (owned channel held) 1 0) job jobs) where
-  rest : List Job
-  rest = filter (λ (other : Job). is_own channel other.source) (map as_job jobs)
-  by : (b : Bool) → length rest ≡ count_by (owned channel) jobs → length (cond b (as_job job ∷ rest) rest) ≡ cond b 1 0 + count_by (owned channel) jobs
-  by true e = omega (arith, e)
-  by false e = omega (arith, e)
+      rest : List Job
+      rest = filter (λ (other : Job). is_own channel other.source) (map as_job jobs)
+
+      by : (b : Bool) → length rest ≡ count_by (owned channel) jobs → length (cond b (as_job job ∷ rest) rest) ≡ cond b 1 0 + count_by (owned channel) jobs
+      by true e = omega (arith, e)
+      by false e = omega (arith, e)
 
 first-removed : (channel : ℕ) (jobs : List HeldJob)
     → without_first channel (map as_job jobs) ≡ map as_job (remove jobs (position_or_len (owned channel) jobs))
@@ -30,6 +31,7 @@ first-removed channel [] = refl
 first-removed channel (job ∷ jobs) = by (owned channel job) (first-removed channel jobs) where
   at : ℕ
   at = position_or_len (owned channel) jobs
+
   by : (b : Bool) → without_first channel (map as_job jobs) ≡ map as_job (remove jobs at)
       → cond b (map as_job jobs) (as_job job ∷ without_first channel (map as_job jobs))
       ≡ map as_job (remove (job ∷ jobs) (cond (not b) (1 + at) 0))
@@ -51,6 +53,7 @@ sixteen-map channel jobs =
     ∙ by (nat_lt 16 (count_by (owned channel) jobs)) where
       at : ℕ
       at = position_or_len (owned channel) jobs
+
       by : (b : Bool) → cond b (without_first channel (map as_job jobs)) (map as_job jobs)
           ≡ map as_job (without (cond b (position (owned channel) jobs) None) jobs)
       by true = first-removed channel jobs ∙ ap (map as_job) (removed-if at jobs (nat_lt at (length jobs)) refl)

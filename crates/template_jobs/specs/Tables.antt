@@ -10,6 +10,7 @@ use Rattle.pool_history.specs.Judging.{job_parts, template_terms}
 use Rattle.pool_history.specs.Refusing.{coinbase_refusal, refusal_among}
 use Rattle.history_laws.specs.KeptJobs.{KeptJobs, OwnJob, kept_after}
 use Rattle.template_jobs.specs.declared.owner.Owner.{Owner}
+use Rattle.template_jobs.specs.Owners.{AreRising}
 use Rattle.template_jobs.specs.HeldJobs.{HasCoinbase, HeldJob, as_job}
 use Rattle.template_jobs.specs.Plans.{PlannedJob, move_of}
 
@@ -94,3 +95,5 @@ pub record AreJobsHeld (count templates : ℕ) (owners : List Owner)
   pub own_few : length owners ≤ 2 ^ 18
   pub future_few : length future ≤ 16
   pub live_few : length live ≤ 64
+  pub rising : AreRising owners
+  pub numbered : AllByRecursion (λ owner. owner.job ≤ count) owners

@@ -45,10 +45,7 @@ pub fn tip_of(message: &SetNewPrevHash) -> TipData
 }
 
 /// A copy of a miner's own job, whose path has no more hashes than the message can.
-pub fn custom_of(
-    alloc: Global,
-    message: &SetCustomMiningJob<'_>,
-) -> Result<CustomData, AllocError>
+pub fn custom_of(alloc: Global, message: &SetCustomMiningJob<'_>) -> Result<CustomData, AllocError>
     requires { length message.now.merkle_path.items.now ≤ 255 }
     ensures { IfOk result (λ custom. custom_fields message.now.request_id custom
         ≡ set_custom_mining_job message.now) }

@@ -3,8 +3,8 @@
 use crate::content::JobContent;
 use crate::job::Job;
 use crate::lists::{
-    has_number, has_number_in, is_template_known, job_numbered, last_number, make_live, number_of_template, put_last,
-    put_own,
+    has_number, has_number_in, is_template_known, job_numbered, last_number, make_live,
+    number_of_template, put_last, put_own,
 };
 use crate::origin::Shelf;
 use crate::owner::{Owner, is_others, put_owner};
@@ -357,7 +357,13 @@ impl Jobs {
         let number = self.count + 1;
         let job = Job::of(number, 0, at, Some(at), content);
         put_own(&mut self.custom, channel, job);
-        put_owner(&mut self.owners, Owner { job: number, channel });
+        put_owner(
+            &mut self.owners,
+            Owner {
+                job: number,
+                channel,
+            },
+        );
         self.count = number;
         number
     }

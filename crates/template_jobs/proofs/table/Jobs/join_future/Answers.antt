@@ -4,10 +4,13 @@ use Rattle.template_jobs.specs.HeldJobs.{HeldJob}
 use Rattle.template_jobs.specs.Plans.{PlannedJob}
 use Rattle.template_jobs.specs.Tables.{templates_of}
 use Rattle.template_jobs.proofs.Joined.{counted-template, few-future, joining, joins-future}
+use Rattle.template_jobs.proofs.Rising.{numbered-more}
 use Rattle.template_jobs.proofs.table.Jobs.join_future.Goals as goal
 
 pub invariant_of-self : goal.invariant_of-self
 invariant_of-self c = record {
+  rising = c.self.invariant.rising;
+  numbered = numbered-more c.self.inside.count c.self.inside.owners.items c.self.invariant.numbered;
   counted = omega (arith, c.self.invariant.counted);
   templates_few = counted-template c.args.self.now c.self.inside.count c.self.inside.templates c.self.inside.owners.items
       (ap templates_of c.self.view_is) c.self.invariant.counted (few-future c.args.self.now c.args.plan.source c.requires.shelf c.requires.fits.few);

@@ -7,6 +7,7 @@ use Rattle.template_jobs.specs.Plans.{PlannedJob}
 use Rattle.template_jobs.specs.Tables.{JobTable}
 use Rattle.template_jobs.specs.declared.owner.Owner.{Owner}
 use Rattle.template_jobs.proofs.Joined.{few-own, joining, joins-own}
+use Rattle.template_jobs.proofs.Rising.{numbered-next, rising-next}
 use Rattle.template_jobs.proofs.table.Jobs.join_own.Goals as goal
 
 pub invariant_of-self : goal.invariant_of-self
@@ -17,6 +18,10 @@ invariant_of-self c =
     let few : length c.args.self.now.own < 2 ^ 18 = few-own c.args.self.now c.args.plan.source c.args.channel c.requires.shelf c.requires.fits.few in
     let seen : length (map own_job c.self.inside.owners.items) ≡ length c.args.self.now.own = ap (λ (table : JobTable). length table.own) c.self.view_is in
     record {
+      rising = rising-next c.self.inside.count c.args.channel c.self.inside.owners.items c.put_owner.new.owners.items c.put_owner.ensures
+          c.self.invariant.numbered c.self.invariant.rising;
+      numbered = numbered-next c.self.inside.count c.args.channel c.self.inside.owners.items c.put_owner.new.owners.items c.put_owner.ensures
+          c.self.invariant.numbered;
       counted = omega (arith, c.self.invariant.counted, long);
       templates_few = c.self.invariant.templates_few;
       own_few = omega (arith, long, few, seen, length-map c.self.inside.owners.items own_job);
