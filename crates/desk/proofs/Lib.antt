@@ -1,0 +1,10 @@
+pub mod Spread
+pub mod Fronts
+pub mod Kept
+pub mod Shared
+pub mod Acts
+pub mod Dealt
+pub mod Closes
+pub mod Missing
+pub mod Joined
+pub mod Crossing

@@ -1,0 +1,13 @@
+-- What one call of a machine does to its events and its count of faults (this project's own).
+use Rattle.std.specs.Prelude.{◌≡◌, ℕ, Bool, false, List, ◌++◌, Result, Ok, Err}
+use Rattle.pool_base.specs.Counts.{Rose}
+
+-- a reply adds what the machine answers with; a fault adds nothing, and the count rose unless memory
+-- was wanted
+abbrev pub MakesTurn :
+    {E Q R F : Type 0} → (List E → ℕ → Q → List E → R → Type 0) → (F → Bool) → List E → ℕ → ℕ → Q
+    → List E → ℕ → Result R F → Type 0
+MakesTurn {E} answers wants_memory before least caller request after most (Ok reply) =
+    (added : List E) × (after ≡ before ++ added) × answers before caller request added reply
+MakesTurn answers wants_memory before least caller request after most (Err fault) =
+    (after ≡ before) × (wants_memory fault ≡ false → Rose least most)
