@@ -2,7 +2,7 @@
 use Rattle.std.proofs.Common.{◌≡◌, ℕ, ◌+◌, ◌-◌, ◌<◌, ◌≤◌, suc, zero, Bool, true, false, cond, nat_le, List, [], ◌∷◌, ◌++◌, length, set, get_or, drop, replicate, refl, sym, ap, ◌∙◌, subst, arith}
 use Rattle.std.specs.List.{AllByRecursion}
 use Rattle.std.proofs.lemmas.Bool.{leb-true}
-use Rattle.std.proofs.lemmas.List.{length-replicate}
+use Rattle.std.proofs.lemmas.List.{get_or_default, length-replicate}
 use Rattle.std.proofs.lemmas.List.Sums.{sum_by-cons}
 use Rattle.payout_laws.proofs.Sums.{all-append}
 use Rattle.payouts.specs.declared.window.Kept.{Kept}
@@ -159,7 +159,13 @@ cut_first oldest newer weights weight cut is read small = record {
     ap weights_sum is.weighed,
   )
 
-pub cut_oldest : (all : List Kept) (weights : List ℕ) (oldest : Kept) (weight cut : ℕ) → 0 < length all → IsCreditWindow all weights
+known_oldest : (all : List Kept) (weights : List ℕ) (oldest : Kept) → 0 < length all → IsCreditWindow all weights → oldest ≡ get_or all 0 oldest → oldest.place < length weights
+known_oldest [] weights oldest some is first = absurd (none some) where
+  none : 0 < 0 → ⊥
+  none l = omega (arith, l)
+known_oldest (kept ∷ newer) weights oldest some is first = subst (λ k. k.place < length weights) (sym first) is.each.0.known
+
+cut_oldest : (all : List Kept) (weights : List ℕ) (oldest : Kept) (weight cut : ℕ) → 0 < length all → IsCreditWindow all weights
     → oldest ≡ get_or all 0 oldest → weight ≡ get_or weights oldest.place weight → cut ≤ oldest.part → IsCut all weights oldest weight cut
 cut_oldest [] weights oldest weight cut some is first read small = absurd (none some) where
   none : 0 < 0 → ⊥
@@ -167,6 +173,19 @@ cut_oldest [] weights oldest weight cut some is first read small = absurd (none 
 cut_oldest (kept ∷ newer) weights oldest weight cut some is first read small =
     subst (λ k. IsCreditWindow (k ∷ newer) weights → IsCut (k ∷ newer) weights oldest weight cut) first
     (λ is. cut_first oldest newer weights weight cut is read small) is
+
+-- the same of the weight that stands there
+pub record IsCutThere (all : List Kept) (weights : List ℕ) (oldest : Kept) (cut : ℕ) : Type 0 where
+  pub known : oldest.place < length weights
+  pub cut_is : IsCut all weights oldest (get_or weights oldest.place 0) cut
+
+pub cut_there : (all : List Kept) (weights : List ℕ) (oldest : Kept) (cut : ℕ) → 0 < length all → IsCreditWindow all weights
+    → oldest ≡ get_or all 0 oldest → cut ≤ oldest.part → IsCutThere all weights oldest cut
+cut_there all weights oldest cut some is first small = record {
+  known = known_oldest all weights oldest some is first;
+  cut_is = cut_oldest all weights oldest (get_or weights oldest.place 0) cut some is first
+      (get_or_default weights oldest.place 0 (get_or weights oldest.place 0) (known_oldest all weights oldest some is first)) small;
+}
 
 -- where nothing is cut, all stays; and without credits there is no weight
 pub nothing_dropped : (accounts : ℕ) (all : List Kept) → AllByRecursion (IsKeptCredit accounts) all → without_oldest 0 all ≡ all

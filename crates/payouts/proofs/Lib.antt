@@ -1,7 +1,11 @@
 pub mod Added
 pub mod Fitted
+pub mod Listing
 pub mod Names
 pub mod Paid
+pub mod Ordered
 pub mod Placed
 pub mod Tallied
 pub mod Told
+pub mod Totalled
+pub mod Weighed

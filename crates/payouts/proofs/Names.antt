@@ -1,10 +1,12 @@
 -- The accounts of texts, in the order in which they are kept.
-use Rattle.std.proofs.Common.{◌≡◌, ℕ, ◌+◌, ◌<◌, ◌||◌, suc, zero, get_or, length, subst, arith, Bool, true, false, not, cond, bytes_eq, map, List, [], ◌∷◌, ◌++◌, refl, sym, ap, ◌∙◌}
-use Rattle.std.specs.List.{AllByRecursion, list_any, position_or_len}
-use Rattle.std.proofs.lemmas.List.{map-append}
+use Rattle.std.proofs.Common.{◌≡◌, ℕ, ◌+◌, ◌<◌, ◌||◌, None, Some, nat_lt, suc, zero, get_or, length, subst, arith, Bool, true, false, not, cond, bytes_eq, map, List, [], ◌∷◌, ◌++◌, refl, sym, ap, ◌∙◌}
+use Rattle.std.specs.List.{AllByRecursion, list_any, position, position_or_len}
+use Rattle.std.proofs.lemmas.Bool.{ltb-false}
+use Rattle.std.proofs.lemmas.List.{length-map, map-append}
 use Rattle.indexmap.specs.IndexSet.{insert_key}
 use Rattle.pool_history.specs.Settling.{with_account}
-use Rattle.payouts.specs.Tallies.{account_place, with_weight}
+use Rattle.payouts.specs.Tallies.{account_place, with_newcomer}
+use Rattle.payouts.proofs.Placed.{place-most}
 
 module _ {K : Type 0} (f : K → List ℕ) (k : K) where
   pub any-names : (ks : List K) → list_any (bytes_eq (f k)) (map f ks) ≡ list_any (λ x. bytes_eq (f k) (f x)) ks
@@ -23,9 +25,9 @@ module _ {K : Type 0} (f : K → List ℕ) (k : K) where
     by_test true false e = cc
     by_test false true e = cc
 
-  pub weights-inserted : (ks : List K) (weights : List ℕ) (is_new : Bool) → is_new ≡ not (list_any (λ x. bytes_eq (f k) (f x)) ks)
-      → cond is_new (weights ++ 0 ∷ []) weights ≡ with_weight (f k) (map f ks) weights
-  weights-inserted ks weights is_new e =
+  pub numbers-inserted : (ks : List K) (weights : List ℕ) (is_new : Bool) → is_new ≡ not (list_any (λ x. bytes_eq (f k) (f x)) ks)
+      → cond is_new (weights ++ 0 ∷ []) weights ≡ with_newcomer (f k) (map f ks) weights
+  numbers-inserted ks weights is_new e =
       by_test is_new (list_any (λ x. bytes_eq (f k) (f x)) ks) e ∙ ap (λ t. cond t weights (weights ++ 0 ∷ [])) (sym (any-names ks))
     where
       by_test : (t u : Bool) → t ≡ not u → cond t (weights ++ 0 ∷ []) weights ≡ cond u weights (weights ++ 0 ∷ [])
@@ -45,7 +47,21 @@ all-read f P (y ∷ xs) (suc i) x all within read = all-read f P xs i x all.1 be
   below : i < length xs
   below = omega (arith, within)
 
--- a text among the names
-pub any-texts : {X : Type 0} (f : X → List ℕ) (text : List ℕ) (xs : List X) → list_any (bytes_eq text) (map f xs) ≡ list_any (λ x. bytes_eq text (f x)) xs
-any-texts f text [] = refl
-any-texts f text (x ∷ xs) = ap (λ t. bytes_eq text (f x) || t) (any-texts f text xs)
+-- the place of a text among the names
+place-texts : {X : Type 0} (f : X → List ℕ) (text : List ℕ) (xs : List X) → position_or_len (λ x. bytes_eq text (f x)) xs ≡ account_place (map f xs) text
+place-texts f text [] = refl
+place-texts f text (x ∷ xs) = ap (λ n. cond (not (bytes_eq text (f x))) (1 + n) 0) (place-texts f text xs)
+
+pub placed-some : {X : Type 0} (f : X → List ℕ) (text : List ℕ) (xs : List X) (place : ℕ) → Some place ≡ position (λ x. bytes_eq text (f x)) xs → place ≡ account_place (map f xs) text
+placed-some f text xs place is = by_test (nat_lt (position_or_len (λ x. bytes_eq text (f x)) xs) (length xs)) is ∙ place-texts f text xs where
+  by_test : (t : Bool) → Some place ≡ cond t (Some (position_or_len (λ x. bytes_eq text (f x)) xs)) None → place ≡ position_or_len (λ x. bytes_eq text (f x)) xs
+  by_test true e = cc
+  by_test false e = cc
+
+pub placed-none : {X : Type 0} (f : X → List ℕ) (text : List ℕ) (xs : List X) → None ≡ position (λ x. bytes_eq text (f x)) xs → length xs ≡ account_place (map f xs) text
+placed-none f text xs is = by_test (nat_lt (position_or_len (λ x. bytes_eq text (f x)) xs) (length xs)) refl is where
+  by_test : (t : Bool) → nat_lt (position_or_len (λ x. bytes_eq text (f x)) xs) (length xs) ≡ t → None ≡ cond t (Some (position_or_len (λ x. bytes_eq text (f x)) xs)) None
+      → length xs ≡ account_place (map f xs) text
+  by_test true e h = cc
+  by_test false e h =
+      omega (arith, ltb-false (position_or_len (λ x. bytes_eq text (f x)) xs) (length xs) e, place-texts f text xs, place-most text (map f xs), length-map xs f)

@@ -9,7 +9,7 @@ use Rattle.payout_laws.proofs.Sums.{sum_by-kept}
 use Rattle.pool_history.specs.Accounts.{are_distinct}
 use Rattle.pool_history.specs.Settling.{Part, weight, with_account}
 use Rattle.payouts.specs.declared.window.Kept.{Kept}
-use Rattle.payouts.specs.Tallies.{account_place, placed, with_weight}
+use Rattle.payouts.specs.Tallies.{account_place, placed, with_newcomer}
 use Rattle.payouts.specs.Window.{added, weights_of}
 use Rattle.payouts.proofs.Added.{added-none, weights_of-push}
 
@@ -97,7 +97,7 @@ placed-stays a accounts (part ∷ parts) among =
 
 -- a new account's weight
 pub map-with_account : (f : List ℕ → ℕ) (a : List ℕ) (accounts : List (List ℕ)) → (list_any (bytes_eq a) accounts ≡ false → f a ≡ 0)
-    → with_weight a accounts (map f accounts) ≡ map f (with_account a accounts)
+    → with_newcomer a accounts (map f accounts) ≡ map f (with_account a accounts)
 map-with_account f a accounts new = by_test (list_any (bytes_eq a) accounts) new where
   behind : (xs : List (List ℕ)) → map f (xs ++ a ∷ []) ≡ map f xs ++ f a ∷ []
   behind [] = refl

@@ -1,11 +1,14 @@
 -- What holds of a tally's parts, over a push.
-use Rattle.std.proofs.Common.{◌≡◌, ℕ, ◌<◌, ◌≤◌, suc, zero, Bool, true, false, cond, bytes_eq, Option, None, Some, List, [], ◌∷◌, ◌++◌, length, replicate, refl, sym, ap, ◌∙◌, subst, arith}
+use Rattle.std.proofs.Common.{◌≡◌, ℕ, ◌+◌, ◌<◌, ◌≤◌, suc, zero, Bool, true, false, cond, bytes_eq, Option, None, Some, List, [], ◌∷◌, ◌++◌, length, replicate, refl, sym, ap, ◌∙◌, subst, arith}
 use Rattle.std.specs.List.{AllByRecursion, list_any}
+use Rattle.std.proofs.lemmas.List.{length-append, length-replicate}
 use Rattle.std.proofs.lemmas.List.Sums.{sum_by-cons}
 use Rattle.payout_laws.proofs.Sums.{all-append, all-weaker}
 use Rattle.pool_history.specs.Settling.{with_account}
 use Rattle.payouts.specs.declared.window.Kept.{Kept}
-use Rattle.payouts.specs.Tallies.{KeepsCredits, account_place, with_weight}
+use Rattle.payouts.specs.Settlements.{weights_behind}
+use Rattle.payouts.specs.Sums.{blocks_by}
+use Rattle.payouts.specs.Tallies.{IsFilled, KeepsCredits, account_place, with_newcomer}
 use Rattle.payouts.specs.Window.{IsKeptCredit, IsCreditWindow, added, weights_sum, weights_of}
 use Rattle.payouts.proofs.Added.{length-weights_of}
 use Rattle.payouts.proofs.Placed.{place-most, place-within}
@@ -46,8 +49,8 @@ window-more kept weights is = record {
   wider : (k : Kept) → IsKeptCredit (length weights) k → k.place < suc (length weights)
   wider k one = omega (arith, one.known)
 
-pub total-with_weight : (account : List ℕ) (accounts : List (List ℕ)) (weights : List ℕ) → weights_sum (with_weight account accounts weights) ≡ weights_sum weights
-total-with_weight account accounts weights = by_test (list_any (bytes_eq account) accounts) where
+pub total-with_newcomer : (account : List ℕ) (accounts : List (List ℕ)) (weights : List ℕ) → weights_sum (with_newcomer account accounts weights) ≡ weights_sum weights
+total-with_newcomer account accounts weights = by_test (list_any (bytes_eq account) accounts) where
   by_test : (t : Bool) → weights_sum (cond t weights (weights ++ 0 ∷ [])) ≡ weights_sum weights
   by_test true = refl
   by_test false = total-more weights
@@ -61,9 +64,9 @@ keeps-more (Some window) kept weights keeps = record {
   within = subst (λ n. n ≤ window) (sym (total-more weights)) keeps.within;
 }
 
-pub keeps-with_weight : (window : Option ℕ) (account : List ℕ) (accounts : List (List ℕ)) (kept : List Kept) (weights : List ℕ) → KeepsCredits window kept weights
-    → KeepsCredits window kept (with_weight account accounts weights)
-keeps-with_weight window account accounts kept weights keeps = by_test (list_any (bytes_eq account) accounts) where
+pub keeps-with_newcomer : (window : Option ℕ) (account : List ℕ) (accounts : List (List ℕ)) (kept : List Kept) (weights : List ℕ) → KeepsCredits window kept weights
+    → KeepsCredits window kept (with_newcomer account accounts weights)
+keeps-with_newcomer window account accounts kept weights keeps = by_test (list_any (bytes_eq account) accounts) where
   by_test : (t : Bool) → KeepsCredits window kept (cond t weights (weights ++ 0 ∷ []))
   by_test true = keeps
   by_test false = keeps-more window kept weights keeps
@@ -78,7 +81,7 @@ short-with_account account accounts one all = by_test (list_any (bytes_eq accoun
 
 -- a window with the credit that enters it
 pub each-push : (account : List ℕ) (work : ℕ) (accounts : List (List ℕ)) (weights : List ℕ) (kept : List Kept) → 1 ≤ work → length weights ≡ length accounts → IsCreditWindow kept weights
-    → AllByRecursion (IsKeptCredit (length (with_weight account accounts weights))) (kept ++ record { place = account_place accounts account; part = work } ∷ [])
+    → AllByRecursion (IsKeptCredit (length (with_newcomer account accounts weights))) (kept ++ record { place = account_place accounts account; part = work } ∷ [])
 each-push account work accounts weights kept some long is = by_test (list_any (bytes_eq account) accounts) refl where
   by_test : (t : Bool) → list_any (bytes_eq account) accounts ≡ t
       → AllByRecursion (IsKeptCredit (length (cond t weights (weights ++ 0 ∷ [])))) (kept ++ record { place = account_place accounts account; part = work } ∷ [])
@@ -86,3 +89,30 @@ each-push account work accounts weights kept some long is = by_test (list_any (b
       (record { known = subst (λ n. account_place accounts account < n) (sym long) (place-within account accounts e); some = some }, tt)
   by_test false e = all-append (IsKeptCredit (length (weights ++ 0 ∷ []))) kept (record { place = account_place accounts account; part = work } ∷ []) (window-more kept weights is).each
       (record { known = omega (arith, place-most account accounts, length-more weights, long); some = some }, tt)
+
+-- numbers by accounts, with a newcomer's
+pub newcomer-long : (account : List ℕ) (accounts : List (List ℕ)) (ns : List ℕ) → length ns ≡ length accounts → length (with_newcomer account accounts ns) ≡ length (with_account account accounts)
+newcomer-long account accounts ns long = by_test (list_any (bytes_eq account) accounts) where
+  by_test : (t : Bool) → length (cond t ns (ns ++ 0 ∷ [])) ≡ length (cond t accounts (accounts ++ account ∷ []))
+  by_test true = long
+  by_test false = omega (arith, long, length-append ns (0 ∷ []), length-append accounts (account ∷ []))
+
+pub newcomer-within : (account : List ℕ) (accounts : List (List ℕ)) (ns : List ℕ) → length ns ≡ length accounts → account_place accounts account < length (with_newcomer account accounts ns)
+newcomer-within account accounts ns long = by_test (list_any (bytes_eq account) accounts) refl where
+  by_test : (t : Bool) → list_any (bytes_eq account) accounts ≡ t → account_place accounts account < length (cond t ns (ns ++ 0 ∷ []))
+  by_test true e = omega (arith, place-within account accounts e, long)
+  by_test false e = omega (arith, place-most account accounts, length-append ns (0 ∷ []), long)
+
+-- what a block leaves
+pub behind-long : (window : Option ℕ) (weights : List ℕ) → length (weights_behind window weights) ≡ length weights
+behind-long None weights = length-replicate (length weights) 0
+behind-long (Some window) weights = refl
+
+pub behind-keeps : (window : Option ℕ) (kept : List Kept) (weights weights' : List ℕ) → weights' ≡ weights_behind window weights → KeepsCredits window kept weights → KeepsCredits window kept weights'
+behind-keeps None kept weights weights' is keeps = keeps
+behind-keeps (Some window) kept weights weights' is keeps = subst (IsFilled window kept) (sym is) keeps
+
+-- one push more may become a block
+pub few-pushed : (blocks blocks' pushes : ℕ) (unsettled : Bool) → blocks' ≡ blocks → blocks_by blocks unsettled ≤ pushes → blocks_by blocks' true ≤ pushes + 1
+few-pushed blocks blocks' pushes true same few = omega (arith, same, few)
+few-pushed blocks blocks' pushes false same few = omega (arith, same, few)

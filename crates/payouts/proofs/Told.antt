@@ -13,18 +13,18 @@ use Rattle.payouts.specs.declared.window.Kept.{Kept}
 use Rattle.payout_laws.specs.Conservation.{IsConserved}
 use Rattle.payouts.specs.Plans.{IsSettledPush}
 use Rattle.payouts.specs.Settlements.{EndsRound, IsSettlement, SettlesBlock, as_block, payments_by, settled_by, weights_behind}
-use Rattle.payouts.specs.Tallies.{AddsCredit, DiffersInRoom, IsPushed, Remembers, RemembersPush, RemembersWeights, Weighing, account_place, placed, with_weight}
+use Rattle.payouts.specs.Tallies.{AddsCredit, DiffersInRoom, IsPushed, Remembers, RemembersPush, RemembersWeights, Weighing, account_place, placed, with_newcomer}
 use Rattle.payouts.specs.Window.{IsKeptCredit, IsCreditWindow, added, weights_sum, weights_of, without_oldest}
 use Rattle.payouts.proofs.Added.{length-weights_of, total-added, total-none}
 use Rattle.payouts.proofs.Fitted.{cut-fits, fitted, fitted-left, last_work-left, left_of, parts_sum, parts_sum-append}
 use Rattle.payouts.proofs.Placed.{added-map, map-same, map-with_account, place-with_account, none-weighs, placed-stays, weight-more, weights-placed, weights_of-reverse}
-use Rattle.payouts.proofs.Tallied.{each-push, total-with_weight}
+use Rattle.payouts.proofs.Tallied.{each-push, total-with_newcomer}
 
 -- the proportional rule: the work is added to the account's weight
 pub told_share : (account : List ℕ) (work : ℕ) (accounts : List (List ℕ)) (weights weights' : List ℕ) (parts : List Part)
     → are_distinct (with_account account accounts) ≡ true → PartsAmong accounts parts
     → weights ≡ map (λ a. weight a parts) accounts
-    → weights' ≡ added (with_weight account accounts weights) (account_place accounts account) work
+    → weights' ≡ added (with_newcomer account accounts weights) (account_place accounts account) work
     → weights' ≡ map (λ a. weight a (record { account = account; weight = work } ∷ parts)) (with_account account accounts)
 told_share account work accounts weights weights' parts distinct among was is =
     is ∙ ap₂ (λ ns i. added ns i work) opened (sym (place-with_account account accounts))
@@ -32,8 +32,8 @@ told_share account work accounts weights weights' parts distinct among was is =
     ∙ map-same (λ a. weight a parts + cond (bytes_eq account a) work 0) (λ a. weight a (record { account = account; weight = work } ∷ parts)) (with_account account accounts)
     (λ a. sym (weight-more a (record { account = account; weight = work }) parts))
   where
-    opened : with_weight account accounts weights ≡ map (λ a. weight a parts) (with_account account accounts)
-    opened = ap (with_weight account accounts) was
+    opened : with_newcomer account accounts weights ≡ map (λ a. weight a parts) (with_account account accounts)
+    opened = ap (with_newcomer account accounts) was
         ∙ map-with_account (λ a. weight a parts) account accounts (λ new. weight-none account accounts parts among new)
 
 -- the sum of the weights is that of the credits' parts
@@ -85,12 +85,12 @@ fitted-push window work accounts account credits some = by_tests (nat_lt 0 windo
 -- PPLNS: the credit enters the window
 pub told_window : (window work : ℕ) (account : List ℕ) (accounts : List (List ℕ)) (weights : List ℕ) (kept kept' : List Kept) (credits : List Booked) → 1 ≤ work
     → AreAmong accounts credits → IsCreditWindow kept weights → reverse kept ≡ placed accounts (last_work window 0 credits)
-    → AllByRecursion (IsKeptCredit (length (with_weight account accounts weights))) (kept ++ record { place = account_place accounts account; part = work } ∷ [])
-    → kept' ≡ without_oldest (weights_sum (with_weight account accounts weights) + work - window) (kept ++ record { place = account_place accounts account; part = work } ∷ [])
+    → AllByRecursion (IsKeptCredit (length (with_newcomer account accounts weights))) (kept ++ record { place = account_place accounts account; part = work } ∷ [])
+    → kept' ≡ without_oldest (weights_sum (with_newcomer account accounts weights) + work - window) (kept ++ record { place = account_place accounts account; part = work } ∷ [])
     → reverse kept' ≡ placed (with_account account accounts) (last_work window 0 (record { account = account; work = work; reward = None } ∷ credits))
 told_window window work account accounts weights kept kept' credits some among is was each pushed =
     ap reverse (pushed ∙ ap (λ n. without_oldest (n - window) (kept ++ k ∷ [])) sums)
-    ∙ cut-fits (length (with_weight account accounts weights)) window (kept ++ k ∷ []) each
+    ∙ cut-fits (length (with_newcomer account accounts weights)) window (kept ++ k ∷ []) each
     ∙ ap (fitted window) (reverse-append kept (k ∷ []) ∙ ap (λ xs. k ∷ xs) (was ∙ ap (placed accounts) lefts))
     ∙ ap (λ i. fitted window (record { place = i; part = work } ∷ placed accounts (left_of window credits))) (sym (place-with_account account accounts))
     ∙ ap (λ xs. fitted window (record { place = account_place (with_account account accounts) account; part = work } ∷ xs)) (sym (placed-stays account accounts (left_of window credits) parts_among))
@@ -100,8 +100,8 @@ told_window window work account accounts weights kept kept' credits some among i
     k : Kept
     k = record { place = account_place accounts account; part = work }
 
-    sums : weights_sum (with_weight account accounts weights) + work ≡ parts_sum (kept ++ record { place = account_place accounts account; part = work } ∷ [])
-    sums = omega (arith, total-with_weight account accounts weights, total-parts kept weights is, parts_sum-append kept (record { place = account_place accounts account; part = work } ∷ []))
+    sums : weights_sum (with_newcomer account accounts weights) + work ≡ parts_sum (kept ++ record { place = account_place accounts account; part = work } ∷ [])
+    sums = omega (arith, total-with_newcomer account accounts weights, total-parts kept weights is, parts_sum-append kept (record { place = account_place accounts account; part = work } ∷ []))
 
     none : window - 0 ≡ window
     none = omega arith
@@ -120,7 +120,7 @@ told_weights : (window : Option ℕ) (old new : Weighing) (account : List ℕ) (
     → length old.weights ≡ length old.accounts → new.accounts ≡ with_account account old.accounts
     → are_distinct old.accounts ≡ true → AreAmong old.accounts credits
     → RemembersWeights old window credits
-    → AddsCredit window old.kept (with_weight account old.accounts old.weights) (record { place = account_place old.accounts account; part = work }) new.kept new.weights
+    → AddsCredit window old.kept (with_newcomer account old.accounts old.weights) (record { place = account_place old.accounts account; part = work }) new.kept new.weights
     → RemembersWeights new window (record { account = account; work = work; reward = None } ∷ credits)
 told_weights None old new account work credits some long is distinct among was adds =
     told_share account work old.accounts old.weights new.weights (since_block credits) (distinct-with_account account old.accounts distinct) (since_block-among old.accounts credits among) was adds
@@ -131,10 +131,10 @@ told_weights (Some window) old new account work credits some long is distinct am
       ∙ ap (λ accounts. placed accounts (last_work window 0 (record { account = account; work = work; reward = None } ∷ credits))) (sym is),
 )
 
-among-told : (tally : Weighing) (credits : List Booked) → Remembers tally credits → AreAmong tally.accounts credits
+pub among-told : (tally : Weighing) (credits : List Booked) → Remembers tally credits → AreAmong tally.accounts credits
 among-told tally credits was = subst (λ accounts. AreAmong accounts credits) (sym was.accounts_are) (among-accounts_of credits)
 
-distinct-told : (tally : Weighing) (credits : List Booked) → Remembers tally credits → are_distinct tally.accounts ≡ true
+pub distinct-told : (tally : Weighing) (credits : List Booked) → Remembers tally credits → are_distinct tally.accounts ≡ true
 distinct-told tally credits was = subst (λ accounts. are_distinct accounts ≡ true) (sym was.accounts_are) (distinct-accounts_of credits)
 
 pub told_push : (old new : Weighing) (account : List ℕ) (work : ℕ) → 1 ≤ work → IsPushed old new account work → RemembersPush old new account work
@@ -150,7 +150,7 @@ told_push old new account work some is credits was = record {
   more = omega arith
 
 -- what differs in room alone was told the same
-told_room : (old new : Weighing) (credits : List Booked) → DiffersInRoom old new → Remembers old credits → Remembers new credits
+pub told_room : (old new : Weighing) (credits : List Booked) → DiffersInRoom old new → Remembers old credits → Remembers new credits
 told_room old new credits same was = subst (λ tally. Remembers tally credits) (sym same) (record {
   accounts_are = was.accounts_are;
   weights_are = by_window old.window was.weights_are;
@@ -158,7 +158,7 @@ told_room old new credits same was = subst (λ tally. Remembers tally credits) (
   unsettled_is = was.unsettled_is;
   same_length = was.same_length;
 }) where
-  by_window : (window : Option ℕ) → RemembersWeights old window credits → RemembersWeights (record { window = old.window; accounts = old.accounts; weights = old.weights; kept = old.kept; pushes = old.pushes; unsettled = old.unsettled; room = new.room }) window credits
+  by_window : (window : Option ℕ) → RemembersWeights old window credits → RemembersWeights (record { window = old.window; accounts = old.accounts; weights = old.weights; kept = old.kept; works = old.works; balances = old.balances; pool = old.pool; blocks = old.blocks; pushes = old.pushes; unsettled = old.unsettled; room = new.room }) window credits
   by_window None h = h
   by_window (Some window) h = h
 
@@ -187,7 +187,7 @@ pub told_by_parts : (tally : Weighing) (credits : List Booked) → Remembers tal
 told_by_parts tally credits was = weights_by tally.window tally credits was.same_length (distinct-told tally credits was) (among-told tally credits was) was.weights_are
 
 -- the parts in the block are those
-block_parts : (window : Option ℕ) (reward : ℕ) (credit : Booked) (older : List Booked) → credit.reward ≡ None
+pub block_parts : (window : Option ℕ) (reward : ℕ) (credit : Booked) (older : List Booked) → credit.reward ≡ None
     → parts_behind window (credit ∷ older) ≡ parts_in_block window (as_block reward credit ∷ older)
 block_parts None reward credit older none = ap (λ r. cond (is_some r) [] (record { account = credit.account; weight = credit.work } ∷ since_block older)) none
 block_parts (Some window) reward credit older none = refl
@@ -205,7 +205,7 @@ total-map parts accounts distinct among =
     sum_by-map (λ (n : ℕ). n) (λ a. weight a parts) accounts
     ∙ sum_by-accounts (λ (part : Part). part.account) (λ (part : Part). part.weight) accounts parts distinct among
 
-settled-same : (tally : Weighing) (reward basis_points : ℕ) (credit : Booked) (older : List Booked) → Remembers tally (credit ∷ older) → credit.reward ≡ None
+pub settled-same : (tally : Weighing) (reward basis_points : ℕ) (credit : Booked) (older : List Booked) → Remembers tally (credit ∷ older) → credit.reward ≡ None
     → settled_by tally reward basis_points ≡ settlement tally.window basis_points reward (as_block reward credit ∷ older)
 settled-same tally reward basis_points credit older was none =
     ap (λ payments. settled_with reward (fee_of reward basis_points) payments)
@@ -240,7 +240,7 @@ told_round (Some window) old new reward credit older long accounts weights kept 
 )
 
 -- the sum of the weights is that of the block's parts
-total-block : (tally : Weighing) (reward : ℕ) (credit : Booked) (older : List Booked) → Remembers tally (credit ∷ older) → credit.reward ≡ None
+pub total-block : (tally : Weighing) (reward : ℕ) (credit : Booked) (older : List Booked) → Remembers tally (credit ∷ older) → credit.reward ≡ None
     → weights_sum tally.weights ≡ all_weights (parts_in_block tally.window (as_block reward credit ∷ older))
 total-block tally reward credit older was none =
     ap weights_sum (told_by_parts tally (credit ∷ older) was)

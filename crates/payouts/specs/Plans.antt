@@ -4,13 +4,16 @@ use Rattle.std.specs.Option.{option_map}
 use Rattle.payout_laws.specs.Conservation.{IsConserved}
 use Rattle.pool_history.specs.Crediting.{Booked}
 use Rattle.pool_history.specs.Settling.{Settled, parts_in_block, settlement, with_account}
-use Rattle.payouts.specs.Tallies.{Remembers, RemembersPush, Weighing}
+use Rattle.payouts.specs.declared.settlement.Listed.{Listed}
+use Rattle.payouts.specs.Sheets.{listed_accounts}
+use Rattle.payouts.specs.Tallies.{Remembers, RemembersPush, Weighing, account_place, with_newcomer}
+use Rattle.payouts.specs.Window.{added}
 
 -- a block that is planned: its reward, its fee and the accounts that it may pay
 pub record BlockPlan : Type 0 where
   pub reward : ℕ
   pub fee : ℕ
-  pub listed : List (List ℕ)
+  pub listed : List Listed
 
 -- a planned push
 pub record Planning : Type 0 where
@@ -39,16 +42,20 @@ pub record IsPlanOf (account : List ℕ) (work : ℕ) (block : Option (ℕ × �
   pub work_is : plan.work ≡ work
   pub block_is : option_map (λ planned. (planned.reward, planned.fee)) plan.block ≡ block
 
--- its block lists all accounts
-abbrev pub ListsAccounts : Weighing → List ℕ → Option BlockPlan → Type 0
-ListsAccounts tally account None = Unit
-ListsAccounts tally account (Some block) = block.listed ≡ with_account account tally.accounts
+-- its block lists the accounts that have a weight once the work is added, before any goes
+abbrev pub ListsAccounts : Weighing → List ℕ → ℕ → Option BlockPlan → Type 0
+ListsAccounts tally account work None = Unit
+ListsAccounts tally account work (Some block) =
+    block.listed
+    ≡ listed_accounts (with_account account tally.accounts)
+    (added (with_newcomer account tally.accounts tally.weights)
+    (account_place tally.accounts account) work)
 
 -- a plan fits a tally that is as it was when the plan was made
 pub record Fits (tally : Weighing) (plan : Planning) : Type 0 where
   pub room : 1 ≤ tally.room
   pub few : tally.pushes + 1 < 2 ^ 24
-  pub lists : ListsAccounts tally plan.account plan.block
+  pub lists : ListsAccounts tally plan.account plan.work plan.block
 
 -- a push that is a block is settled, and remembered as one
 pub record IsSettledPush (window : Option ℕ) (new : Weighing) (reward basis_points : ℕ)

@@ -35,6 +35,7 @@ pub record EndsRound (old new : Weighing) : Type 0 where
   pub accounts_stay : new.accounts ≡ old.accounts
   pub weights_are : new.weights ≡ weights_behind old.window old.weights
   pub kept_stay : new.kept ≡ old.kept
+  pub works_stay : new.works ≡ old.works
   pub pushes_stay : new.pushes ≡ old.pushes
   pub settled : new.unsettled ≡ false
 

@@ -8,16 +8,17 @@ use Rattle.pool_history.specs.Settling.{Part, accounts_of, last_work, since_bloc
 use Rattle.payouts.specs.declared.tally.Rule.{Rule}
 use Rattle.payouts.specs.declared.tally.Rule.TheVariants as rule
 use Rattle.payouts.specs.declared.window.Kept.{Kept}
+use Rattle.payouts.specs.Weights.{AreAtMost}
 use Rattle.payouts.specs.Window.{IsCreditWindow, added, weights_sum, without_oldest}
 
 -- the place of an account among others, or behind them
 abbrev pub account_place : List (List ℕ) → List ℕ → ℕ
 account_place accounts account = position_or_len (bytes_eq account) accounts
 
--- the weights with one more, of 0, where the account is new
-abbrev pub with_weight : List ℕ → List (List ℕ) → List ℕ → List ℕ
-with_weight account accounts weights =
-    if list_any (bytes_eq account) accounts then weights else weights ++ 0 ∷ []
+-- numbers by accounts, with one more, of 0, where the account is new
+abbrev pub with_newcomer : List ℕ → List (List ℕ) → List ℕ → List ℕ
+with_newcomer account accounts numbers =
+    if list_any (bytes_eq account) accounts then numbers else numbers ++ 0 ∷ []
 
 -- what a tally knows
 pub record Weighing : Type 0 where
@@ -27,6 +28,11 @@ pub record Weighing : Type 0 where
   pub weights : List ℕ
   -- by PPLNS the credits in the window, the oldest first
   pub kept : List Kept
+  -- the work and the balance of each account, what stayed with the pool, and the blocks
+  pub works : List ℕ
+  pub balances : List ℕ
+  pub pool : ℕ
+  pub blocks : ℕ
   pub pushes : ℕ
   -- a push came since the last settlement
   pub unsettled : Bool
@@ -74,7 +80,7 @@ AddsCredit (Some window) kept weights credit kept' weights' =
 
 abbrev pub AddsWork : Weighing → Weighing → List ℕ → ℕ → Type 0
 AddsWork old new account work =
-    AddsCredit old.window old.kept (with_weight account old.accounts old.weights)
+    AddsCredit old.window old.kept (with_newcomer account old.accounts old.weights)
     (record { place = account_place old.accounts account; part = work }) new.kept new.weights
 
 -- one push more
@@ -82,6 +88,13 @@ pub record IsPushed (old new : Weighing) (account : List ℕ) (work : ℕ) : Typ
   pub window_stays : new.window ≡ old.window
   pub accounts_are : new.accounts ≡ with_account account old.accounts
   pub weighed : AddsWork old new account work
+  pub most : AreAtMost new.weights
+      (added (with_newcomer account old.accounts old.weights) (account_place old.accounts account) work)
+  pub works_are : new.works
+      ≡ added (with_newcomer account old.accounts old.works) (account_place old.accounts account) work
+  pub balances_are : new.balances ≡ with_newcomer account old.accounts old.balances
+  pub pool_stays : new.pool ≡ old.pool
+  pub blocks_stay : new.blocks ≡ old.blocks
   pub pushes_are : new.pushes ≡ old.pushes + 1
   pub unsettled_is : new.unsettled ≡ true
   pub same_length : length new.weights ≡ length new.accounts
@@ -119,6 +132,10 @@ DiffersInRoom old new = new ≡ record {
   accounts = old.accounts;
   weights = old.weights;
   kept = old.kept;
+  works = old.works;
+  balances = old.balances;
+  pool = old.pool;
+  blocks = old.blocks;
   pushes = old.pushes;
   unsettled = old.unsettled;
   room = new.room;

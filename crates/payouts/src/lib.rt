@@ -3,14 +3,17 @@
 #![tactic(auto)]
 
 mod accounts;
+mod places;
 mod quotients;
 mod settlement;
+mod sums;
 mod tally;
+mod weights;
 mod window;
 
 pub use quotients::quotient;
 pub use settlement::{Payout, Payouts, Settlement};
-pub use tally::{Rule, Tally, TallyPlan};
+pub use tally::{AccountSums, Rule, Tally, TallyPlan};
 
 #[cfg(test)]
 mod tests;

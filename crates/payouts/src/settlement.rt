@@ -1,11 +1,16 @@
 //! The settlement of a block.
 
-ghost use Rattle.std.specs.Prelude.{◌≡◌, ◌+◌, ◌*◌, ◌<◌, ◌≤◌, ◌^◌, ◌/◌, [], ◌∷◌, ◌++◌, length, sum_by, IfOk};
+ghost use Rattle.std.specs.Prelude.{◌≡◌, ◌+◌, ◌*◌, ◌<◌, ◌≤◌, ◌^◌, ◌/◌, [], ◌∷◌, ◌++◌, length, map, sum_by, IfOk};
+ghost use Rattle.std.specs.List.{AllByRecursion};
+ghost use Rattle.std.specs.String.{string_bytes};
 ghost use Rattle.std.specs.Vec.{vec_len, vec_capacity};
 ghost use Rattle.payouts.specs.Settlements.{payments_by};
+ghost use Rattle.payouts.specs.Sheets.{AreListed, balances_with, listed_at, listed_weights, payments_to};
 ghost use Rattle.payouts.specs.Window.{weights_sum};
 
+use crate::accounts::text_at;
 use crate::quotients::quotient;
+use crate::sums::add_amount;
 use std::alloc::{AllocError, Global};
 use std::marker::Model;
 use sv2_types::Str255;
@@ -91,32 +96,57 @@ impl Model for Settlement {
     } };
 }
 
+/// An account that a block may pay, and its place.
+#[derive(Debug, Drop)]
+pub(crate) struct Listed {
+    place: usize,
+    account: Str255,
+}
+
 /// The accounts that a block may pay, with room for a payout to each.
 #[derive(Debug, Drop)]
 pub(crate) struct Sheet {
-    accounts: Vec<Str255>,
+    listed: Vec<Listed>,
     payouts: Vec<Payout>,
 }
 
 impl Model for Sheet {
-    ghost use Rattle.std.specs.Prelude.{ℕ, ◌≡◌, ◌≤◌, List, []};
+    ghost use Rattle.std.specs.Prelude.{◌≡◌, ◌≤◌, List, []};
     ghost use Rattle.std.specs.Vec.{vec_len, vec_capacity};
+    ghost use Rattle.payouts.specs.declared.settlement.Listed.{Listed};
 
-    ghost Value = { List (List ℕ) };
+    ghost Value = { List Listed };
 
-    ghost view = { λ sheet. sheet.accounts.items };
+    ghost view = { λ sheet. sheet.listed.items };
 
     ghost invariant = { λ sheet. (sheet.payouts.items ≡ [])
-        × (vec_len sheet.accounts ≤ vec_capacity sheet.payouts) };
+        × (vec_len sheet.listed ≤ vec_capacity sheet.payouts) };
 }
 
 impl Sheet {
-    /// A sheet of these accounts.
-    pub(crate) fn of(alloc: Global, accounts: Vec<Str255>) -> Result<Sheet, AllocError>
-        ensures { IfOk result (λ sheet. sheet ≡ accounts.items) }
+    /// A sheet of the accounts at these places; behind all places stands a newcomer.
+    pub(crate) fn of(
+        alloc: Global,
+        names: &[String],
+        newcomer: &str,
+        places: &[usize],
+    ) -> Result<Sheet, AllocError>
+        requires short { AllByRecursion (λ account. length account ≤ 255)
+            (map string_bytes names.now) }
+        requires newcomer { length newcomer.now ≤ 255 }
+        ensures { IfOk result (λ sheet. sheet
+            ≡ map (listed_at (map string_bytes names.now) newcomer.now) places.now) }
     {
-        let payouts = Vec::with_capacity(alloc, accounts.len())?;
-        Ok(Sheet { accounts, payouts })
+        let mut listed = Vec::with_capacity(alloc, places.len())?;
+        for place in places {
+            let account = Str255::of(alloc, text_at(names, newcomer, *place))?;
+            listed.push(Listed {
+                place: *place,
+                account,
+            })?;
+        }
+        let payouts = Vec::with_capacity(alloc, places.len())?;
+        Ok(Sheet { listed, payouts })
     }
 }
 
@@ -159,26 +189,40 @@ fn pay_account(
     amount
 }
 
-/// Pays all accounts by their weights.
-pub(crate) fn pay(sheet: Sheet, weights: &[u128], all: u128, paid_out: u64) -> Paid
+/// Pays the listed accounts by their weights, which goes over no others, and adds it to their
+/// balances.
+pub(crate) fn pay(
+    sheet: Sheet,
+    weights: &[u128],
+    balances: &mut Vec<u64>,
+    all: u128,
+    paid_out: u64,
+) -> Paid
     requires amount { paid_out < 2 ^ 40 }
     requires some { 1 ≤ all }
     requires small { all < 2 ^ 84 }
-    requires summed { all ≡ weights_sum weights.now }
-    requires same { length sheet ≡ length weights.now }
-    ensures paid { result.payouts.items ≡ payments_by paid_out all sheet weights.now }
+    requires summed { listed_weights weights.now sheet ≤ all }
+    requires listed { AreListed (length weights.now) sheet }
+    requires length { length balances.old.items ≡ length weights.now }
+    requires balances_small { weights_sum balances.old.items + paid_out < 2 ^ 64 }
+    ensures paid { result.payouts.items ≡ payments_to paid_out all weights.now sheet }
     ensures sum { result.sum ≡ sum_by (λ payout. payout.amount) result.payouts.items }
     ensures within { result.sum ≤ paid_out }
+    ensures balances { balances.new.items
+        ≡ balances_with paid_out all weights.now sheet balances.old.items }
+    ensures balances_sum { weights_sum balances.new.items
+        ≡ weights_sum balances.old.items + result.sum }
+    ensures balances_length { vec_len balances.new ≡ vec_len balances.old }
 {
     let Sheet {
-        accounts,
+        listed,
         mut payouts,
     } = sheet;
     let mut sum = 0;
-    let mut place = 0;
-    for account in accounts {
-        sum += pay_account(&mut payouts, account, weights[place], all, paid_out);
-        place += 1;
+    for Listed { place, account } in listed {
+        let amount = pay_account(&mut payouts, account, weights[place], all, paid_out);
+        add_amount(balances, place, amount);
+        sum += amount;
     }
     Paid { payouts, sum }
 }

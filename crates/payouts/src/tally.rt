@@ -1,20 +1,24 @@
 //! The tally of pushes.
 
-ghost use Rattle.std.specs.Prelude.{◌≡◌, ◌+◌, ◌<◌, ◌≤◌, ◌^◌, [], ◌∷◌, ◌++◌, if◌then◌else◌, length, map, sum_by, IsTrue, IfOk, OnOk, OnErr};
+ghost use Rattle.std.specs.Prelude.{◌≡◌, ℕ, ◌+◌, ◌<◌, ◌≤◌, ◌^◌, [], ◌∷◌, ◌++◌, if◌then◌else◌, length, map, sum_by, IsTrue, IfOk, OnOk, OnErr, slice_index, slice_index_or};
 ghost use Rattle.std.specs.List.{AllByRecursion};
 ghost use Rattle.std.specs.String.{string_bytes};
-ghost use Rattle.std.specs.Vec.{vec_len, vec_capacity};
 ghost use Rattle.std.specs.VecDeque.{deque_len, deque_capacity};
 ghost use Rattle.pool_history.specs.Accounts.{is_window};
-ghost use Rattle.pool_history.specs.Settling.{with_account};
 ghost use Rattle.payouts.specs.Settlements.{EndsRound, SettlesBlock, settled_by, weights_behind};
 ghost use Rattle.payouts.specs.Plans.{Applies, Fits, IsPayable, IsPlanOf, IsRewarded};
-ghost use Rattle.payouts.specs.Tallies.{AddsCredit, DiffersInRoom, IsPushed, KeepsCredits, Remembers, RemembersPush, window_of};
-ghost use Rattle.payouts.specs.Window.{IsKeptCredit, weights_sum};
+ghost use Rattle.payouts.specs.Tallies.{AddsCredit, DiffersInRoom, account_place, IsPushed, KeepsCredits, Remembers, RemembersPush, window_of};
+ghost use Rattle.payouts.specs.Sheets.{ListsWeighed, listed_at};
+ghost use Rattle.payouts.specs.Totals.{HasSums, PaysBlock, SumsBlock, SumsPlan, SumsPush};
+ghost use Rattle.payouts.specs.Weights.{AreAtMost, IsRisingFrom, with_place};
+ghost use Rattle.payouts.specs.Window.{IsKeptCredit, added, weights_sum};
 
-use crate::accounts::place_for;
+use crate::accounts::{place_for, place_of};
+use crate::places::insert_place;
 use crate::settlement::{Payouts, Settlement, Sheet, pay};
-use crate::window::{Kept, add_work, enter};
+use crate::sums::{Sums, add_work};
+use crate::weights::Weights;
+use crate::window::{Kept, enter};
 use indexmap::IndexSet;
 use payout_laws::fee_of;
 use std::alloc::{AllocError, Global};
@@ -37,7 +41,8 @@ pub struct Tally {
     alloc: Global,
     rule: Rule,
     names: IndexSet<String>,
-    weights: Vec<u128>,
+    weights: Weights,
+    sums: Sums,
     kept: VecDeque<Kept>,
     sum: u128,
     pushes: u32,
@@ -46,15 +51,11 @@ pub struct Tally {
 }
 
 impl Model for Tally {
-    ghost use Rattle.std.specs.Prelude.{map, min, ◌-◌};
+    ghost use Rattle.std.specs.Prelude.{map, min, length, ◌-◌};
     ghost use Rattle.std.specs.String.{string_bytes};
-    ghost use Rattle.std.specs.Vec.{vec_len, vec_capacity};
-    ghost use Rattle.std.specs.Vec.{vec_len, vec_capacity};
     ghost use Rattle.std.specs.VecDeque.{deque_len, deque_capacity};
-    ghost use Rattle.pool_history.specs.Accounts.{is_window};
-    ghost use Rattle.pool_history.specs.Settling.{with_account};
-    ghost use Rattle.payouts.specs.Settlements.{EndsRound, SettlesBlock, settled_by, weights_behind};
     ghost use Rattle.indexmap.specs.IndexSet.{spare};
+    ghost use Rattle.payouts.specs.Sums.{AreSums, rows_left};
     ghost use Rattle.payouts.specs.Tallies.{IsTallied, Weighing, window_of};
 
     ghost Value = { Weighing };
@@ -62,17 +63,33 @@ impl Model for Tally {
     ghost view = { λ tally. record {
       window = window_of tally.rule;
       accounts = map string_bytes tally.names.keys;
-      weights = tally.weights.items;
+      weights = tally.weights.numbers;
       kept = tally.kept.items;
+      works = tally.sums.works.items;
+      balances = tally.sums.balances.items;
+      pool = tally.sums.pool;
+      blocks = tally.sums.blocks;
       pushes = tally.pushes;
       unsettled = tally.unsettled;
-      room = min (spare tally.names) (min (vec_capacity tally.weights - vec_len tally.weights)
-          (deque_capacity tally.kept - deque_len tally.kept));
+      room = min (min (spare tally.names) tally.weights.room)
+          (min (rows_left tally.sums) (deque_capacity tally.kept - deque_len tally.kept));
     } };
 
-    ghost invariant = { λ tally. IsTallied (window_of tally.rule)
-        (map string_bytes tally.names.keys) tally.weights.items tally.kept.items tally.sum
-        tally.pushes tally.unsettled };
+    ghost invariant = { λ tally. record {
+      weighed : IsTallied (window_of tally.rule) (map string_bytes tally.names.keys)
+          tally.weights.numbers tally.kept.items tally.sum tally.pushes tally.unsettled;
+      summed : AreSums (length tally.weights.numbers) tally.sums.works.items
+          tally.sums.balances.items tally.sums.pool tally.sums.blocks tally.pushes
+          tally.unsettled;
+    } };
+}
+
+/// What an account has worked, and its balance in satoshis.
+#[derive(Clone, Copy, Debug)]
+pub struct AccountSums<'a> {
+    pub account: &'a str,
+    pub work: u128,
+    pub balance: u64,
 }
 
 /// A push that was planned, and the settlement after it, with their memory.
@@ -119,12 +136,14 @@ impl Tally {
         requires window { IsTrue (is_window (window_of rule)) }
         ensures window { IfOk result (λ tally. tally.window ≡ window_of rule) }
         ensures told { IfOk result (λ tally. Remembers tally []) }
+        ensures summed { IfOk result (λ tally. (basis_points : ℕ) → HasSums tally basis_points []) }
     {
         Ok(Tally {
             alloc,
             rule,
             names: IndexSet::new(alloc),
-            weights: Vec::new(alloc),
+            weights: Weights::new(alloc),
+            sums: Sums::new(alloc),
             kept: VecDeque::new(alloc),
             sum: 0,
             pushes: 0,
@@ -146,6 +165,41 @@ impl Tally {
         self.unsettled
     }
 
+    /// How many blocks were settled.
+    pub fn blocks(&self) -> u32
+        ensures { result ≡ self.now.blocks }
+    {
+        self.sums.blocks
+    }
+
+    /// What stayed with the pool of all blocks, in satoshis.
+    pub fn pool(&self) -> u64
+        ensures { result ≡ self.now.pool }
+    {
+        self.sums.pool
+    }
+
+    /// How many accounts there are.
+    pub fn len(&self) -> usize
+        ensures { result ≡ length self.now.accounts }
+    {
+        self.names.len()
+    }
+
+    /// The account at a place, in the order of the first push, with its work and its balance.
+    pub fn account(&self, place: usize) -> AccountSums<'_>
+        requires { place < length self.now.accounts }
+        ensures account { result.account.now ≡ slice_index_or self.now.accounts place [] }
+        ensures work { result.work ≡ slice_index self.now.works place }
+        ensures balance { result.balance ≡ slice_index self.now.balances place }
+    {
+        AccountSums {
+            account: self.names.as_slice()[place].as_str(),
+            work: self.sums.works[place],
+            balance: self.sums.balances[place],
+        }
+    }
+
     /// Takes in a credit's account and work.
     pub fn push(&mut self, account: &str, work: u64) -> Result<(), AllocError>
         requires short { length account.now ≤ 255 }
@@ -153,6 +207,7 @@ impl Tally {
         requires small { work ≤ 2 ^ 60 }
         requires few { self.old.pushes + 1 < 2 ^ 24 }
         ensures told { OnOk result (RemembersPush self.old self.new account.now work) }
+        ensures summed { OnOk result (SumsPush self.old self.new account.now work) }
         ensures err { OnErr result (DiffersInRoom self.old self.new) }
     {
         self.make_room()?;
@@ -167,12 +222,12 @@ impl Tally {
         requires fee { fee ≤ 10000 }
         requires unsettled { IsTrue self.old.unsettled }
         ensures settled { IfOk result (SettlesBlock self.old self.new reward fee) }
+        ensures summed { OnOk result (SumsBlock self.old self.new reward fee) }
         ensures whole { IfOk result (λ settled.
             sum_by (λ paid. paid.amount) settled.payments + settled.pool ≡ reward) }
         ensures err { OnErr result (self.new ≡ self.old) }
     {
-        let accounts = texts_of(self.alloc, self.names.as_slice())?;
-        let sheet = Sheet::of(self.alloc, accounts)?;
+        let sheet = Sheet::of(self.alloc, self.names.as_slice(), "", self.weights.places())?;
         Ok(self.close(sheet, reward, fee))
     }
 
@@ -198,7 +253,7 @@ impl Tally {
         let block = match block {
             None => None,
             Some((reward, fee)) => {
-                let sheet = sheet_with(self.alloc, &self.names, account)?;
+                let sheet = sheet_with(self.alloc, &self.names, self.weights.places(), account)?;
                 Some(PlannedBlock { reward, fee, sheet })
             }
         };
@@ -213,6 +268,7 @@ impl Tally {
     pub fn apply(&mut self, plan: TallyPlan) -> Option<Settlement>
         requires fits { Fits self.old plan }
         ensures applied { Applies self.old self.new plan.account plan.work plan.block result }
+        ensures summed { SumsPlan self.old self.new plan.account plan.work plan.block }
     {
         let TallyPlan {
             account,
@@ -232,7 +288,8 @@ impl Tally {
         ensures room { OnOk result (1 ≤ self.new.room) }
     {
         self.names.reserve(1)?;
-        self.weights.reserve(1)?;
+        self.weights.reserve()?;
+        self.sums.reserve()?;
         self.kept.reserve(1)
     }
 
@@ -241,19 +298,29 @@ impl Tally {
         requires reward { reward < 2 ^ 40 }
         requires fee { basis_points ≤ 10000 }
         requires unsettled { IsTrue self.old.unsettled }
-        requires accounts { sheet ≡ self.old.accounts }
+        requires accounts { ListsWeighed self.old.accounts self.old.weights sheet }
         ensures some { 1 ≤ weights_sum self.old.weights }
         ensures settled { result ≡ settled_by self.old reward basis_points }
         ensures ends { EndsRound self.old self.new }
+        ensures pays { PaysBlock self.old self.new reward basis_points result }
         ensures whole { sum_by (λ paid. paid.amount) result.payments + result.pool ≡ reward }
     {
         let fee = fee_of(reward, basis_points);
-        let paid = pay(sheet, self.weights.as_slice(), self.sum, reward - fee);
+        let paid = pay(
+            sheet,
+            self.weights.numbers(),
+            &mut self.sums.balances,
+            self.sum,
+            reward - fee,
+        );
+        let pool = reward - paid.sum;
+        self.sums.pool += pool;
+        self.sums.blocks += 1;
         self.sum = end_round(self.rule, &mut self.weights, self.sum);
         self.unsettled = false;
         Settlement {
             fee,
-            pool: reward - paid.sum,
+            pool,
             payouts: Payouts::from_vec(paid.payouts),
         }
     }
@@ -267,7 +334,8 @@ impl Tally {
         requires room { 1 ≤ self.old.room }
         ensures pushed { IsPushed self.old self.new (string_bytes account) work }
     {
-        let place = place_for(&mut self.names, &mut self.weights, account);
+        let place = place_for(&mut self.names, &mut self.weights, &mut self.sums, account);
+        add_work(&mut self.sums.works, place, work);
         let credit = Kept { place, part: work };
         self.sum = weigh(
             self.rule,
@@ -285,26 +353,28 @@ impl Tally {
 fn weigh(
     rule: Rule,
     kept: &mut VecDeque<Kept>,
-    weights: &mut Vec<u128>,
+    weights: &mut Weights,
     sum: u128,
     credit: Kept,
 ) -> u128
-    requires keeps { KeepsCredits (window_of rule) kept.old.items weights.old.items }
-    requires known { IsKeptCredit (length weights.old.items) credit }
+    requires keeps { KeepsCredits (window_of rule) kept.old.items weights.old.numbers }
+    requires known { IsKeptCredit (length weights.old.numbers) credit }
     requires room { deque_len kept.old < deque_capacity kept.old }
-    requires summed { sum ≡ weights_sum weights.old.items }
+    requires summed { sum ≡ weights_sum weights.old.numbers }
     requires small { sum + credit.part < 2 ^ 128 }
-    ensures adds { AddsCredit (window_of rule) kept.old.items weights.old.items credit
-        kept.new.items weights.new.items }
-    ensures keeps { KeepsCredits (window_of rule) kept.new.items weights.new.items }
-    ensures summed { result ≡ weights_sum weights.new.items }
+    ensures adds { AddsCredit (window_of rule) kept.old.items weights.old.numbers credit
+        kept.new.items weights.new.numbers }
+    ensures keeps { KeepsCredits (window_of rule) kept.new.items weights.new.numbers }
+    ensures most { AreAtMost weights.new.numbers
+        (added weights.old.numbers credit.place credit.part) }
+    ensures summed { result ≡ weights_sum weights.new.numbers }
     ensures grown { result ≤ sum + credit.part }
     ensures some { 1 ≤ result }
-    ensures length { length weights.new.items ≡ length weights.old.items }
+    ensures length { length weights.new.numbers ≡ length weights.old.numbers }
 {
     match rule {
         Rule::Proportional => {
-            add_work(weights, credit.place, credit.part);
+            weights.add(credit.place, credit.part);
             sum + u128::from(credit.part)
         }
         Rule::Pplns(window) => enter(kept, weights, sum, credit, window),
@@ -312,59 +382,38 @@ fn weigh(
 }
 
 // What a block leaves of the weights; answers their sum.
-fn end_round(rule: Rule, weights: &mut Vec<u128>, sum: u128) -> u128
-    requires summed { sum ≡ weights_sum weights.old.items }
-    ensures weights { weights.new.items ≡ weights_behind (window_of rule) weights.old.items }
-    ensures summed { result ≡ weights_sum weights.new.items }
+fn end_round(rule: Rule, weights: &mut Weights, sum: u128) -> u128
+    requires summed { sum ≡ weights_sum weights.old.numbers }
+    ensures weights { weights.new.numbers ≡ weights_behind (window_of rule) weights.old.numbers }
+    ensures summed { result ≡ weights_sum weights.new.numbers }
     ensures within { result ≤ sum }
 {
     match rule {
         Rule::Proportional => {
-            weights.as_mut_slice().fill(0);
+            weights.clear();
             0
         }
         Rule::Pplns(_) => sum,
     }
 }
 
-// Copies of accounts' texts.
-fn texts_of(alloc: Global, names: &[String]) -> Result<Vec<Str255>, AllocError>
-    requires short { AllByRecursion (λ account. length account ≤ 255) (map string_bytes names.now) }
-    ensures { IfOk result (λ texts. texts.items ≡ map string_bytes names.now) }
-{
-    let mut texts = Vec::with_capacity(alloc, names.len())?;
-    for name in names {
-        texts.push(Str255::of(alloc, name.as_str())?)?;
-    }
-    Ok(texts)
-}
-
-// Puts an account that isn't known behind the others.
-fn add_newcomer(
-    alloc: Global,
-    texts: &mut Vec<Str255>,
-    is_known: bool,
-    account: &str,
-) -> Result<(), AllocError>
-    requires { length account.now ≤ 255 }
-    ensures { OnOk result (texts.new.items
-        ≡ (if is_known then texts.old.items else texts.old.items ++ account.now ∷ [])) }
-{
-    if !is_known {
-        texts.push(Str255::of(alloc, account)?)?;
-    }
-    Ok(())
-}
-
 // The sheet of a block at a push of an account, which may be new.
-fn sheet_with(alloc: Global, names: &IndexSet<String>, account: &str) -> Result<Sheet, AllocError>
+fn sheet_with(
+    alloc: Global,
+    names: &IndexSet<String>,
+    places: &[usize],
+    account: &str,
+) -> Result<Sheet, AllocError>
+    requires rising { IsRisingFrom 0 places.now }
     requires short { AllByRecursion (λ account. length account ≤ 255)
         (map string_bytes names.now.keys) }
     requires fits { length account.now ≤ 255 }
     ensures { IfOk result (λ sheet. sheet
-        ≡ with_account account.now (map string_bytes names.now.keys)) }
+        ≡ map (listed_at (map string_bytes names.now.keys) account.now)
+        (with_place (account_place (map string_bytes names.now.keys) account.now) places.now)) }
 {
-    let mut texts = texts_of(alloc, names.as_slice())?;
-    add_newcomer(alloc, &mut texts, names.contains(account), account)?;
-    Sheet::of(alloc, texts)
+    let mut all = Vec::from_slice(alloc, places)?;
+    all.reserve(1)?;
+    insert_place(&mut all, place_of(names, account));
+    Sheet::of(alloc, names.as_slice(), account, all.as_slice())
 }

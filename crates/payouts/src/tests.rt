@@ -68,7 +68,21 @@ fn proportional_blocks(rt: HostRuntime) -> Result<(), Fail> {
     push(&rt, &mut tally, "b", 1 << 60)?;
     let third = settle(&rt, &mut tally, 0, 10_000)?;
     assert_settled(&rt, &third, 0, 0, &[("b", 1 << 60, 0)]);
+    assert_sums(&rt, &tally, 0, ("a", 4, 924));
+    assert_sums(&rt, &tally, 1, ("b", (1 << 60) + 5, 1065));
+    assert_eq!(rt; tally.len(), 2);
+    assert_eq!(rt; tally.pool(), 12);
+    assert_eq!(rt; tally.blocks(), 3);
     Ok(())
+}
+
+// The sums of an account.
+fn assert_sums(rt: &impl Abort, tally: &Tally, place: usize, expected: (&str, u128, u64)) {
+    assert!(rt; place < tally.len());
+    let sums = tally.account(place);
+    assert!(rt; sums.account == expected.0);
+    assert_eq!(rt; sums.work, expected.1);
+    assert_eq!(rt; sums.balance, expected.2);
 }
 
 fn windowed(rt: &impl Abort, alloc: Global, window: u64) -> Result<Tally, Fail> {
@@ -123,6 +137,20 @@ fn great_windows_and_works(rt: HostRuntime) -> Result<(), Fail> {
         quotient(1_099_511_627_775, (1 << 84) - 1, (1 << 84) - 1),
         1_099_511_627_775
     );
+    Ok(())
+}
+
+// As many pushes as a tally takes, each of the greatest work.
+#[test]
+fn most_pushes_of_the_greatest_work(rt: HostRuntime) -> Result<(), Fail> {
+    let mut tally = Tally::new(rt.alloc(), Rule::Proportional)?;
+    for _ in 0..16_777_214 {
+        push(&rt, &mut tally, "a", 1 << 60)?;
+    }
+    let settled = settle(&rt, &mut tally, 1_099_511_627_775, 0)?;
+    let all = 16_777_214u128 << 60;
+    assert_settled(&rt, &settled, 0, 0, &[("a", all, 1_099_511_627_775)]);
+    assert_sums(&rt, &tally, 0, ("a", all, 1_099_511_627_775));
     Ok(())
 }
 

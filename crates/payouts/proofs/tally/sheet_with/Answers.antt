@@ -1,15 +1,14 @@
-use Rattle.std.proofs.Common.{◌≡◌, ℕ, cond, map, List, [], ◌∷◌, ◌++◌, sym, ap, ap₂, ◌∙◌, subst}
+use Rattle.std.proofs.Common.{◌≡◌, ◌∙◌, map, ap, ap₂, subst}
 use Rattle.std.specs.Result.{IfOk}
 use Rattle.std.specs.String.{string_bytes}
-use Rattle.pool_history.specs.Settling.{with_account}
-use Rattle.payouts.proofs.Names.{any-texts}
+use Rattle.payouts.specs.Sheets.{listed_at}
+use Rattle.payouts.specs.Tallies.{account_place}
+use Rattle.payouts.specs.Weights.{with_place}
 use Rattle.payouts.proofs.tally.sheet_with.Goals as goal
 
-texts : (c : goal.After-of) → c.add_newcomer.new.texts.items ≡ with_account c.args.account.now (map string_bytes c.args.names.now.keys)
-texts c =
-    c.in_ok-add_newcomer.ensures
-    ∙ ap₂ (λ t xs. cond t xs (xs ++ c.args.account.now ∷ [])) (c.contains.ensures ∙ sym (any-texts string_bytes c.args.account.now c.args.names.now.keys))
-    (c.in_ok-texts.ensures ∙ ap (map string_bytes) c.as_slice.ensures.keys)
-
 pub returns : goal.returns
-returns c = subst (λ (accounts : List (List ℕ)). IfOk c.of.result (λ sheet. sheet ≡ accounts)) (texts c) c.of.ensures
+returns c =
+    let places : c.as_slice-2.result.now ≡ with_place (account_place (map string_bytes c.args.names.now.keys) c.args.account.now) c.args.places.now =
+    c.as_slice-2.ensures.value ∙ c.insert_place.ensures.places ∙ ap₂ with_place c.place_of.ensures (c.in_ok-reserve.ensures.items ∙ c.in_ok-all.ensures.items) in
+    subst (λ listed. IfOk c.of.result (λ sheet. sheet ≡ listed))
+    (ap₂ (λ names places. map (listed_at (map string_bytes names) c.args.account.now) places) c.as_slice.ensures.keys places) c.of.ensures

@@ -1,10 +1,67 @@
-use Rattle.std.proofs.Common.{map, sym, subst}
+use Rattle.std.proofs.Common.{◌≡◌, ◌<◌, ◌≤◌, ◌∙◌, List, ℕ, length, map, ap, sym, subst, arith}
+use Rattle.std.specs.List.{AllByRecursion}
 use Rattle.std.specs.String.{string_bytes}
-use Rattle.payouts.specs.Tallies.{KeepsCredits, window_of}
-use Rattle.payouts.proofs.Tallied.{keeps-with_weight}
+use Rattle.std.proofs.lemmas.List.{length-map}
+use Rattle.payouts.specs.Tallies.{KeepsCredits, window_of, with_newcomer}
+use Rattle.payouts.specs.Window.{weights_sum}
+use Rattle.payouts.proofs.Added.{length-added, total-added}
+use Rattle.payouts.proofs.Tallied.{keeps-with_newcomer, few-pushed, newcomer-long, short-with_account, total-with_newcomer}
 use Rattle.payouts.proofs.tally.Tally.take_in.Goals as goal
 
 pub weigh-self-inside-requires-clause-keeps : goal.weigh-self-inside-requires-clause-keeps
 weigh-self-inside-requires-clause-keeps c =
     subst (λ ns. KeepsCredits (window_of c.self.inside.rule) c.self.inside.kept.items ns) (sym c.place_for-place.ensures.weights)
-    (keeps-with_weight (window_of c.self.inside.rule) (string_bytes c.args.account) (map string_bytes c.self.inside.names.keys) c.self.inside.kept.items c.self.inside.weights.items c.self.invariant.keeps)
+    (keeps-with_newcomer (window_of c.self.inside.rule) (string_bytes c.args.account) (map string_bytes c.self.inside.names.keys) c.self.inside.kept.items c.self.inside.weights.numbers c.self.invariant.weighed.keeps)
+
+pub invariant_of-self : goal.invariant_of-self
+invariant_of-self c =
+    let account : List ℕ = string_bytes c.args.account in
+    let accounts : List (List ℕ) = map string_bytes c.self.inside.names.keys in
+    let weights = newcomer-long (string_bytes c.args.account) (map string_bytes c.self.inside.names.keys) c.self.inside.weights.numbers c.self.invariant.weighed.same_length in
+    let works = newcomer-long (string_bytes c.args.account) (map string_bytes c.self.inside.names.keys) c.self.inside.sums.works.items (c.self.invariant.summed.works_length ∙ c.self.invariant.weighed.same_length) in
+    let balances = newcomer-long (string_bytes c.args.account) (map string_bytes c.self.inside.names.keys) c.self.inside.sums.balances.items (c.self.invariant.summed.balances_length ∙ c.self.invariant.weighed.same_length) in
+    let long : length c.weigh-self-inside.new.weights.numbers ≡ length (with_newcomer (string_bytes c.args.account) (map string_bytes c.self.inside.names.keys) c.self.inside.weights.numbers) =
+    c.weigh-self-inside.ensures.length ∙ ap (λ (ns : List ℕ). length ns) c.place_for-place.ensures.weights in
+    let within : c.place_for-place.result < length c.place_for-place.new.sums.works.items =
+    omega (arith, c.place_for-place.ensures.within, ap (λ (ns : List ℕ). length ns) c.place_for-place.ensures.weights, ap (λ (ns : List ℕ). length ns) c.place_for-place.ensures.works, weights, works) in
+    record {
+      weighed = record {
+        same_length = omega (arith, c.weigh-self-inside.ensures.length, c.place_for-place.ensures.same, length-map c.place_for-place.new.names.keys string_bytes);
+        summed = c.weigh-self-inside.ensures.summed;
+        small = omega (arith, c.weigh-self-inside.ensures.grown, c.self.invariant.weighed.small, c.requires.small);
+        few = omega (arith, c.requires.few, ap (λ tally. tally.pushes) c.self.view_is);
+        some = λ unsettled. c.weigh-self-inside.ensures.some;
+        short = subst (AllByRecursion (λ (a : List ℕ). length a ≤ 255)) (sym c.place_for-place.ensures.names) (short-with_account account accounts c.requires.short c.self.invariant.weighed.short);
+        keeps = c.weigh-self-inside.ensures.keeps;
+      };
+      summed = record {
+        works_length = omega (
+          arith,
+          ap (λ (ns : List ℕ). length ns) c.add_work.ensures.added,
+          length-added c.place_for-place.new.sums.works.items c.place_for-place.result c.args.work,
+          ap (λ (ns : List ℕ). length ns) c.place_for-place.ensures.works,
+          works,
+          weights,
+          long,
+        );
+        works_small = omega (
+          arith,
+          ap weights_sum c.add_work.ensures.added,
+          total-added c.place_for-place.new.sums.works.items c.place_for-place.result c.args.work within,
+          ap weights_sum c.place_for-place.ensures.works,
+          total-with_newcomer account accounts c.self.inside.sums.works.items,
+          c.self.invariant.summed.works_small,
+          c.requires.small,
+        );
+        balances_length = omega (arith, ap (λ (ns : List ℕ). length ns) c.place_for-place.ensures.balances, balances, weights, long);
+        paid_small = omega (
+          arith,
+          ap weights_sum c.place_for-place.ensures.balances,
+          total-with_newcomer account accounts c.self.inside.sums.balances.items,
+          c.self.invariant.summed.paid_small,
+          c.place_for-place.ensures.pool,
+          c.place_for-place.ensures.blocks,
+        );
+        few = few-pushed c.self.inside.sums.blocks c.place_for-place.new.sums.blocks c.self.inside.pushes c.self.inside.unsettled c.place_for-place.ensures.blocks c.self.invariant.summed.few;
+      };
+    }
