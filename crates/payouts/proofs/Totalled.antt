@@ -4,11 +4,10 @@ use Rattle.std.specs.List.{list_any}
 use Rattle.std.proofs.lemmas.Bool.{both_ways}
 use Rattle.std.proofs.lemmas.List.Sums.{sum_by-cons}
 use Rattle.std.proofs.lemmas.Slice.Eq.{bytes_eq-Decides}
-use Rattle.payout_laws.proofs.Conserved.{payouts_quotients}
+use Rattle.payout_laws.proofs.Conserved.{payouts-weighed}
 use Rattle.payout_laws.proofs.Members.{AreAmong, among-with_account, distinct-with_account, parts_of-among, weight-none}
 use Rattle.payout_laws.proofs.Shares.{nothing_paid}
 use Rattle.payout_laws.proofs.Sums.{sum_by-kept}
-use Rattle.payout_laws.specs.Payouts.{due}
 use Rattle.pool_history.specs.Accounts.{are_distinct}
 use Rattle.pool_history.specs.Crediting.{Booked}
 use Rattle.pool_history.specs.Settling.{Part, Settled, all_weights, balance, fee_of, paid_to, parts_in_block, settled_at, settlement, settlements, weight, with_account, work_for}
@@ -47,7 +46,7 @@ balance-none window basis_points account accounts [] among none = refl
 balance-none window basis_points account accounts (credit ∷ older) among none = by_reward credit.reward (balance-none window basis_points account accounts older among.1 none) where
   unpaid : (reward : ℕ) → paid_to account (settlement window basis_points reward (credit ∷ older)) ≡ 0
   unpaid reward =
-      payouts_quotients window basis_points reward (credit ∷ older) account
+      payouts-weighed window basis_points reward (credit ∷ older) account
       ∙ nothing_paid (reward - fee_of reward basis_points) (all_weights (parts_in_block window (credit ∷ older))) (weight account (parts_in_block window (credit ∷ older)))
       (weight-none account accounts (parts_in_block window (credit ∷ older)) (parts_of-among window accounts (credit ∷ older) among) none)
 
@@ -99,7 +98,7 @@ paid_block : (window : Option ℕ) (basis_points reward : ℕ) (credit : Booked)
 paid_block window basis_points reward credit older parts a same =
     turned (balance a (settlements window basis_points older)) ((reward - fee_of reward basis_points) * weight a parts / all_weights parts)
     ∙ ap (λ n. n + balance a (settlements window basis_points older))
-    (ap (λ ps. (reward - fee_of reward basis_points) * weight a ps / all_weights ps) same ∙ sym (payouts_quotients window basis_points reward (as_block reward credit ∷ older) a))
+    (ap (λ ps. (reward - fee_of reward basis_points) * weight a ps / all_weights ps) same ∙ sym (payouts-weighed window basis_points reward (as_block reward credit ∷ older) a))
     ∙ sym (sum_by-cons (paid_to a) (settlement window basis_points reward (as_block reward credit ∷ older)) (settlements window basis_points older))
   where
     turned : (n m : ℕ) → n + m ≡ m + n

@@ -52,28 +52,40 @@ fn assert_settled(
     }
 }
 
+// Pushes these credits, each of an account and its work, and settles a block at the last one.
+fn settle_round(
+    rt: &impl Abort,
+    tally: &mut Tally,
+    pushes: &[(&str, u64)],
+    block: (u64, u16),
+) -> Result<Settlement, Fail> {
+    for (account, work) in pushes.iter() {
+        push(rt, tally, account, *work)?;
+    }
+    settle(rt, tally, block.0, block.1)
+}
+
 #[test]
 fn proportional_blocks(rt: HostRuntime) -> Result<(), Fail> {
     let mut tally = Tally::new(rt.alloc(), Rule::Proportional)?;
-    push(&rt, &mut tally, "a", 1)?;
-    push(&rt, &mut tally, "a", 2)?;
-    push(&rt, &mut tally, "b", 4)?;
-    let first = settle(&rt, &mut tally, 1000, 100)?;
+    let pushes = [("a", 1), ("a", 2), ("b", 4)];
+    let first = settle_round(&rt, &mut tally, &pushes, (1000, 100))?;
     assert_settled(&rt, &first, 10, 11, &[("a", 3, 424), ("b", 4, 565)]);
     // the next round begins behind the block, and the accounts keep their order
-    push(&rt, &mut tally, "b", 1)?;
-    push(&rt, &mut tally, "a", 1)?;
-    let second = settle(&rt, &mut tally, 1001, 0)?;
+    let second = settle_round(&rt, &mut tally, &[("b", 1), ("a", 1)], (1001, 0))?;
     assert_settled(&rt, &second, 0, 1, &[("a", 1, 500), ("b", 1, 500)]);
-    push(&rt, &mut tally, "b", 1 << 60)?;
-    let third = settle(&rt, &mut tally, 0, 10_000)?;
+    let third = settle_round(&rt, &mut tally, &[("b", 1 << 60)], (0, 10_000))?;
     assert_settled(&rt, &third, 0, 0, &[("b", 1 << 60, 0)]);
+    assert_totals(&rt, &tally, 12, 3);
     assert_sums(&rt, &tally, 0, ("a", 4, 924));
     assert_sums(&rt, &tally, 1, ("b", (1 << 60) + 5, 1065));
-    assert_eq!(rt; tally.len(), 2);
-    assert_eq!(rt; tally.pool(), 12);
-    assert_eq!(rt; tally.blocks(), 3);
     Ok(())
+}
+
+// What stayed with the pool, and the blocks.
+fn assert_totals(rt: &impl Abort, tally: &Tally, pool: u64, blocks: u32) {
+    assert_eq!(rt; tally.pool(), pool);
+    assert_eq!(rt; tally.blocks(), blocks);
 }
 
 // The sums of an account.
@@ -85,31 +97,30 @@ fn assert_sums(rt: &impl Abort, tally: &Tally, place: usize, expected: (&str, u1
     assert_eq!(rt; sums.balance, expected.2);
 }
 
-fn windowed(rt: &impl Abort, alloc: Global, window: u64) -> Result<Tally, Fail> {
+// A window over four credits of two accounts, and the payouts of a block of 1000 at the last.
+fn assert_window(
+    rt: &impl Abort,
+    alloc: Global,
+    window: u64,
+    pool: u64,
+    payouts: &[(&str, u128, u64)],
+) -> Result<Tally, Fail> {
     assert!(rt; window >= 1);
     let mut tally = Tally::new(alloc, Rule::Pplns(window))?;
-    push(rt, &mut tally, "a", 4)?;
-    push(rt, &mut tally, "b", 2)?;
-    push(rt, &mut tally, "a", 1)?;
-    push(rt, &mut tally, "b", 2)?;
+    let pushes = [("a", 4), ("b", 2), ("a", 1), ("b", 2)];
+    let settled = settle_round(rt, &mut tally, &pushes, (1000, 0))?;
+    assert_settled(rt, &settled, 0, pool, payouts);
     Ok(tally)
 }
 
 #[test]
 fn windows_cut_the_oldest_credit(rt: HostRuntime) -> Result<(), Fail> {
-    let mut six = windowed(&rt, rt.alloc(), 6)?;
-    let settled = settle(&rt, &mut six, 1000, 0)?;
-    assert_settled(&rt, &settled, 0, 1, &[("a", 2, 333), ("b", 4, 666)]);
+    assert_window(&rt, rt.alloc(), 1, 0, &[("b", 1, 1000)])?;
+    assert_window(&rt, rt.alloc(), 100, 1, &[("a", 5, 555), ("b", 4, 444)])?;
+    let mut six = assert_window(&rt, rt.alloc(), 6, 1, &[("a", 2, 333), ("b", 4, 666)])?;
     // a block doesn't begin a new window: 2 of b, 1 of a, 2 of b, and 1 of b that is new
-    push(&rt, &mut six, "b", 1)?;
-    let again = settle(&rt, &mut six, 1000, 0)?;
+    let again = settle_round(&rt, &mut six, &[("b", 1)], (1000, 0))?;
     assert_settled(&rt, &again, 0, 1, &[("a", 1, 166), ("b", 5, 833)]);
-    let mut one = windowed(&rt, rt.alloc(), 1)?;
-    let settled = settle(&rt, &mut one, 1000, 0)?;
-    assert_settled(&rt, &settled, 0, 0, &[("b", 1, 1000)]);
-    let mut all = windowed(&rt, rt.alloc(), 100)?;
-    let settled = settle(&rt, &mut all, 1000, 0)?;
-    assert_settled(&rt, &settled, 0, 1, &[("a", 5, 555), ("b", 4, 444)]);
     Ok(())
 }
 
@@ -140,17 +151,19 @@ fn great_windows_and_works(rt: HostRuntime) -> Result<(), Fail> {
     Ok(())
 }
 
-// As many pushes as a tally takes, each of the greatest work.
+// Many pushes of the greatest work, and the weight of as many as a tally takes.
 #[test]
-fn most_pushes_of_the_greatest_work(rt: HostRuntime) -> Result<(), Fail> {
+fn pushes_of_the_greatest_work(rt: HostRuntime) -> Result<(), Fail> {
     let mut tally = Tally::new(rt.alloc(), Rule::Proportional)?;
-    for _ in 0..16_777_214 {
+    for _ in 0..1 << 16 {
         push(&rt, &mut tally, "a", 1 << 60)?;
     }
     let settled = settle(&rt, &mut tally, 1_099_511_627_775, 0)?;
+    assert_settled(&rt, &settled, 0, 0, &[("a", 1 << 76, 1_099_511_627_775)]);
+    assert_sums(&rt, &tally, 0, ("a", 1 << 76, 1_099_511_627_775));
     let all = 16_777_214u128 << 60;
-    assert_settled(&rt, &settled, 0, 0, &[("a", all, 1_099_511_627_775)]);
-    assert_sums(&rt, &tally, 0, ("a", all, 1_099_511_627_775));
+    assert_eq!(rt; quotient(1_099_511_627_775, all, all), 1_099_511_627_775);
+    assert_eq!(rt; quotient(1_099_511_627_775, 1 << 60, all), 65_536);
     Ok(())
 }
 
