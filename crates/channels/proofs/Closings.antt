@@ -182,6 +182,14 @@ pub record IsOwn (settings : List Setting) (session id : ℕ) (o : Option Channe
   pub lead_is : channel.lead ≡ lead
   pub own : own_in settings session id o ≡ Some (shown_channel settings id channel)
 
+-- the channel is the session's
+pub own-session : {settings : List Setting} {session id : ℕ} {o : Option Channel} {lead : List ℕ} (own : IsOwn settings session id o lead) → eqb own.channel.session session ≡ true
+own-session {settings} {session} {id} {o} {lead} own =
+    by_test (eqb own.channel.session session) (sym (ap (own_in settings session id) own.is) ∙ own.own) where
+      by_test : (t : Bool) → cond t (Some (shown_channel settings id own.channel)) None ≡ Some (shown_channel settings id own.channel) → t ≡ true
+      by_test true is = refl
+      by_test false is = absurd (none-some is)
+
 pub own-lead : (settings : List Setting) (session id : ℕ) (o : Option Channel) (lead : List ℕ) → lead_if_own session o ≡ Some lead → IsOwn settings session id o lead
 own-lead settings session id None lead is = absurd (none-some is)
 own-lead settings session id (Some c) lead is = by_test (eqb c.session session) refl is where

@@ -1,6 +1,9 @@
 pub mod Changing
 pub mod Closings
+pub mod Counting
 pub mod Disjoint
+pub mod Joining
 pub mod Leaving
 pub mod Lookups
+pub mod Offering
 pub mod Planning

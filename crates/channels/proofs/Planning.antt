@@ -12,16 +12,16 @@ use Rattle.pool_history.specs.declared.refusals.NameError.{NameError}
 use Rattle.pool_history.specs.declared.refusals.NameError.TheVariants as name
 use Rattle.pool_history.specs.declared.settings.Rules.{Rules}
 use Rattle.pool_history.specs.Accounts.{is_empty, is_known}
-use Rattle.pool_history.specs.Channels.{OpenChannel, channel_in, channels_in}
+use Rattle.pool_history.specs.Channels.{ChannelMove, OpenChannel, channel_in, channels_in}
 use Rattle.pool_history.specs.Conditions.{or_code, unless_refusal}
 use Rattle.pool_history.specs.Refusing.{nameable}
 use Rattle.channels.specs.declared.channel.Channel.{Channel}
 use Rattle.channels.specs.declared.channel.Setting.{Setting}
-use Rattle.channels.specs.Tables.{lead_if_own, shown_channel}
+use Rattle.channels.specs.Tables.{ChannelTable, IsTold, ShowsSameChannels, lead_if_own, shown_channel}
 use Rattle.channels.proofs.Closings.{IsOwn, own-lead, own-none, own-shown, own_in}
 use Rattle.channels.proofs.Lookups.{channel_in-shown, shown_all}
 use Rattle.channels.specs.declared.plan.ChannelPlan.{ChannelPlan}
-use Rattle.channels.specs.Plans.{IsDoneUnless, IsUnless, naming_refusal, outcome_of, plan_for}
+use Rattle.channels.specs.Plans.{IsDoneUnless, IsUnless, naming_refusal, completion_of, plan_for}
 
 ok-err : {X E : Type 0} {x : X} {e : E} → ◌≡◌ {A = Result X E} (Ok x) (Err e) → ⊥
 ok-err h = cc
@@ -46,9 +46,9 @@ done memory made p (Ok x) (inr is) = inr refl
 done memory made p (Err e) (inr is) = absurd (ok-err is)
 
 pub undone : {X E : Type 0} (memory e : E) (p : ChannelPlan) (f : Result X E) → IsUnless memory (Err e) (plan_for p f) → IsDoneUnless memory (Err e) f
-undone memory e p f (inl is) = inl (ap outcome_of is)
+undone memory e p f (inl is) = inl (ap completion_of is)
 undone memory e p (Ok x) (inr is) = absurd (ok-err (sym is))
-undone memory e p (Err d) (inr is) = inr (ap outcome_of is)
+undone memory e p (Err d) (inr is) = inr (ap completion_of is)
 
 -- the open channel of a session, by what is kept
 pub none-own : (settings : List Setting) (session id : ℕ) (entries : List (ℕ × Channel)) → IsDistinct eqb (keys_of entries)
@@ -110,3 +110,10 @@ name-found rules account settings session id entries apart is = by_option (looku
         ∙ ap (λ o. nameable rules account (own_in settings session id o)) found
         ∙ naming rules account settings session id c ∙ ap (λ o. unless_refusal o (shown_channel settings id c)) is,
   )
+
+-- what was told stays so where nothing changed but room
+pub told-same : (old new : ChannelTable) (moves : List ChannelMove) → ShowsSameChannels old new → IsTold old moves → IsTold new moves
+told-same old new moves same told = record {
+  opened_are = same.opened_stays ∙ told.opened_are;
+  channels_are = same.channels_stay ∙ told.channels_are;
+}

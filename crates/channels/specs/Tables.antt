@@ -1,6 +1,7 @@
 -- What a table of open channels shows (this project's own).
-use Rattle.std.specs.Prelude.{◌≡◌, ℕ, ◌≤◌, ◌==◌, if◌then◌else◌, Option, None, Some, List, [], ◌∷◌, filter, map, not}
+use Rattle.std.specs.Prelude.{◌≡◌, ℕ, ◌≤◌, ◌==◌, if◌then◌else◌, Option, None, Some, List, [], ◌∷◌, filter, length, map, nat_eq, not}
 use Rattle.std.specs.List.{AllByRecursion}
+use Rattle.std.specs.Map.{lookup}
 use Rattle.pool_history.specs.Channels.{ChannelMove, ClassSet, OpenChannel, account_or, channel_in, channels_told, last_class, opened, present_class}
 use Rattle.history_laws.specs.Apart.{AreDisjoint}
 use Rattle.history_laws.specs.Openings.{AreLeadsApart}
@@ -90,6 +91,17 @@ reclassed_channel class channel = record channel { class = class }
 -- the entries of other sessions
 abbrev pub without_session : ℕ → List (ℕ × Channel) → List (ℕ × Channel)
 without_session session entries = filter (λ entry. not (entry.1.session == session)) entries
+
+-- a count that is kept, which is 0 where none is
+abbrev pub count_kept : Option ℕ → ℕ
+count_kept None = 0
+count_kept (Some count) = count
+
+-- the counts are those of the sessions' channels
+abbrev pub CountsChannels : List (ℕ × ℕ) → List (ℕ × Channel) → Type 0
+CountsChannels counts entries =
+    (session : ℕ) → count_kept (lookup (nat_eq session) counts)
+    ≡ length (filter (λ entry. entry.1.session == session) entries)
 
 -- the lead of what is kept, where it is a session's
 abbrev pub lead_if_own : ℕ → Option Channel → Option (List ℕ)

@@ -1,16 +1,37 @@
 //! Changes of the channels that are kept.
 
-ghost use Rattle.std.specs.Prelude.{◌≡◌, ℕ, ◌≤◌, ◌==◌, List, filter, map, nat_eq, not};
+ghost use Rattle.std.specs.Prelude.{◌≡◌, ℕ, ◌≤◌, None, Some, List, [], ◌∷◌, ◌++◌, IsPermutation, length, map, nat_eq};
+ghost use Rattle.pool_history.specs.Spaces.{lowest};
 ghost use Rattle.history_laws.specs.Openings.{AreLeadsApart};
-ghost use Rattle.indexmap.specs.IndexMap.{spare};
+ghost use Rattle.indexmap.specs.IndexMap.{get, spare};
 ghost use Rattle.prefix_space.specs.HeldLeads.{is_held};
 ghost use Rattle.channels.specs.Tables.{named_channel, reclassed_channel, with_changed, without_session};
 
 use crate::channel::Channel;
 use indexmap::IndexMap;
-use pool_history::Class;
+use pool_history::{Class, Lead};
 use prefix_space::Space;
 use sv2_types::Str255;
+
+/// Keeps a channel under an id that is new, and for which there is room.
+pub(crate) fn put_channel(channels: &mut IndexMap<u32, Channel>, id: u32, channel: Channel)
+    requires room { 1 ≤ spare channels.old }
+    requires new { get nat_eq channels.old id ≡ None }
+    ensures { channels.new.entries ≡ channels.old.entries ++ (id, channel) ∷ [] }
+{
+    let Ok(_old) = channels.insert(id, channel) else {
+        return;
+    };
+}
+
+/// Holds the lowest free lead of a length, for which there is room.
+pub(crate) fn hold(space: &mut Space, lead: Lead)
+    requires room { 1 ≤ space.old.spare }
+    requires lowest { lowest (length lead) space.old.held ≡ Some lead }
+    ensures { IsPermutation (lead ∷ space.old.held) space.new.held }
+{
+    let _taken = space.take(lead.len());
+}
 
 /// Gives a channel an account, where it has none.
 pub(crate) fn put_account(channels: &mut IndexMap<u32, Channel>, id: u32, account: Str255)

@@ -4,11 +4,15 @@
 mod accounts;
 mod changes;
 mod channel;
+mod counts;
+mod laws;
+mod openings;
 mod plan;
 mod table;
 
 pub use accounts::{account_in, is_known_account};
 pub use channel::Channel;
+pub use laws::tables_show_histories;
 pub use plan::ChannelPlan;
 pub use table::{Channels, NotOpen, SetError, spaces_apart};
 

@@ -3,16 +3,31 @@
 ghost use Rattle.std.specs.Prelude.{◌≡◌};
 ghost use Rattle.channels.specs.Plans.{opened_by};
 
-use pool_history::{Class, Opened};
+use pool_history::{Class, Kind, Opened};
 use sv2_types::Str255;
 
 /// A change of a table that was planned, with the memory that it needs.
 #[derive(Debug, Drop)]
 pub enum ChannelPlan {
+    /// A channel is opened, at a place of the history; its account is empty for V1.
+    Open {
+        at: u64,
+        session: u32,
+        kind: Kind,
+        account: Str255,
+        opened: Opened,
+    },
     /// A channel gets an account, where it has none.
-    Name { channel: u32, account: Str255 },
+    Name {
+        channel: u32,
+        account: Str255,
+    },
     /// A channel's class is set, at a place of the history.
-    Class { at: u64, channel: u32, class: Class },
+    Class {
+        at: u64,
+        channel: u32,
+        class: Class,
+    },
 }
 
 impl ChannelPlan {
@@ -21,6 +36,7 @@ impl ChannelPlan {
         ensures { result ≡ opened_by self.now }
     {
         match self {
+            ChannelPlan::Open { opened, .. } => Some(*opened),
             ChannelPlan::Name { .. } => None,
             ChannelPlan::Class { .. } => None,
         }

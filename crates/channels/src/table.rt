@@ -1,11 +1,13 @@
 //! The table of open channels.
 
 use crate::accounts::{account_in, is_known_account};
-use crate::changes::{drop_session, give_leads, put_account, put_class};
+use crate::changes::{drop_session, give_leads, hold, put_account, put_channel, put_class};
 use crate::channel::{Channel, Setting};
+use crate::counts::{count_closing, count_of, count_opening, forget_count};
+use crate::openings::{class_given, lead_len, opening_account, opening_refusal};
 use crate::plan::ChannelPlan;
 use indexmap::IndexMap;
-use pool_history::{Class, Lead, NameError, Opened, Rules};
+use pool_history::{Class, Kind, Lead, NameError, OpenAsk, OpenError, Opened, Rules};
 use prefix_space::Space;
 use std::alloc::{AllocError, Global};
 use std::marker::Model;
@@ -36,6 +38,8 @@ pub struct Channels {
     /// In the order in which they were set.
     settings: Vec<Setting>,
     space: Space,
+    /// How many channels each session has open; a session that isn't there has none.
+    counts: IndexMap<u32, u32>,
 }
 
 impl Model for Channels {
@@ -45,29 +49,31 @@ impl Model for Channels {
 
     ghost use Rattle.std.specs.Prelude.{◌-◌, map, min, reverse, vec_capacity, vec_len};
     ghost use Rattle.indexmap.specs.IndexMap.{spare};
-    ghost use Rattle.channels.specs.Tables.{AreKept, shown_channel};
+    ghost use Rattle.channels.specs.Tables.{AreKept, CountsChannels, shown_channel};
 
     ghost view = { λ table. record {
       opened = table.opened;
       open_channels = map (λ entry. shown_channel (reverse table.settings.items) entry.0 entry.1)
           table.channels.entries;
-      opening_room = min (spare table.channels) table.space.spare;
+      opening_room = min (spare table.channels) (min (spare table.counts) table.space.spare);
       setting_room = vec_capacity table.settings - vec_len table.settings;
     } };
 
     ghost invariant = { λ table. AreKept table.opened (reverse table.settings.items)
-        table.channels.entries table.space.held };
+        table.channels.entries table.space.held
+        × CountsChannels table.counts.entries table.channels.entries };
 }
 
 impl Channels {
-    ghost use Rattle.std.specs.Prelude.{◌≡◌, ◌↔◌, None, List, [], ◌∷◌, IfOk, IsErr, OnErr, OnOk, map};
+    ghost use Rattle.std.specs.Prelude.{◌≡◌, ◌↔◌, ◌⊎◌, ℕ, ◌≤◌, None, List, [], ◌∷◌, IfErr, IfOk, IsErr, OnErr, OnOk, map};
     ghost use Rattle.std.specs.Option.{option_copied, option_map};
     ghost use Rattle.pool_history.specs.Accounts.{account_of};
-    ghost use Rattle.pool_history.specs.Channels.{ChannelMove, Closes, Leaves, Names, Sets, channel_in, channels_in, class_at};
+    ghost use Rattle.pool_history.specs.Answering.{account_for};
+    ghost use Rattle.pool_history.specs.Channels.{ChannelMove, Closes, Leaves, Names, Opens, Sets, channel_in, channels_in, class_at};
     ghost use Rattle.pool_history.specs.Refusing.{nameable};
     ghost use Rattle.pool_history.specs.Conditions.{found};
     ghost use Rattle.channels.specs.declared.plan.ChannelPlan.TheVariants as plan;
-    ghost use Rattle.channels.specs.Plans.{CanApply, IsDoneUnless, IsUnless, MaySetClass, move_of, opened_by, plan_for};
+    ghost use Rattle.channels.specs.Plans.{CanApply, IsDoneUnless, IsNextOpening, IsUnless, MayOpenNext, MaySetClass, planned_move, opened_by, opening_on, opening_plan, plan_for};
     ghost use Rattle.channels.specs.Tables.{IsTold, ShowsSameChannels, kept_channel};
 
     /// No channel is open, and none was.
@@ -80,6 +86,7 @@ impl Channels {
             channels: IndexMap::new(alloc),
             settings: Vec::new(alloc),
             space,
+            counts: IndexMap::new(alloc),
         })
     }
 
@@ -130,6 +137,7 @@ impl Channels {
         };
         self.channels.shift_remove(&channel);
         self.space.give(lead);
+        count_closing(&mut self.counts, session);
         Ok(())
     }
 
@@ -140,6 +148,29 @@ impl Channels {
     {
         give_leads(&self.channels, session, &mut self.space);
         drop_session(&mut self.channels, session);
+        forget_count(&mut self.counts, session);
+    }
+
+    /// Opens a channel of a session, at a place of the history.
+    pub fn open(
+        &mut self,
+        session: u32,
+        at: u64,
+        ask: &OpenAsk,
+        rules: &Rules,
+    ) -> Result<Opened, OpenError>
+        requires { rules.now.least_class ≤ 60 }
+        ensures answer { IsUnless OpenError.Memory result
+            (opening_on self.old rules.now session ask.now) }
+        ensures told { IfOk result (λ opened. (moves : List ChannelMove) → IsTold self.old moves
+            → IsTold self.new (Opens at session ask.now.kind
+            (account_for ask.now.kind ask.now.identity) opened.class opened.lead ∷ moves)) }
+        ensures refused { OnErr result (ShowsSameChannels self.old self.new) }
+    {
+        match self.ready_opening(session, ask, rules) {
+            Ok((opened, account)) => Ok(self.take_opening(session, ask.kind, account, opened)),
+            Err(refusal) => Err(refusal),
+        }
     }
 
     /// Gives an open channel of a session the account of a user; the first account stays.
@@ -185,6 +216,32 @@ impl Channels {
                 self.apply(plan);
                 Ok(())
             }
+            Err(refusal) => Err(refusal),
+        }
+    }
+
+    /// Plans `open`, with the memory that it takes.
+    pub fn plan_open(
+        &mut self,
+        session: u32,
+        at: u64,
+        ask: &OpenAsk,
+        rules: &Rules,
+    ) -> Result<ChannelPlan, OpenError>
+        requires { rules.now.least_class ≤ 60 }
+        ensures answer { IsUnless OpenError.Memory result
+            (opening_plan session at ask.now (opening_on self.old rules.now session ask.now)) }
+        ensures ready { IfOk result (CanApply self.new) }
+        ensures same { ShowsSameChannels self.old self.new }
+    {
+        match self.ready_opening(session, ask, rules) {
+            Ok((opened, account)) => Ok(ChannelPlan::Open {
+                at,
+                session,
+                kind: ask.kind,
+                account,
+                opened,
+            }),
             Err(refusal) => Err(refusal),
         }
     }
@@ -242,9 +299,16 @@ impl Channels {
         requires { CanApply self.old plan }
         ensures opened { result ≡ opened_by plan }
         ensures told { (moves : List ChannelMove) → IsTold self.old moves
-            → IsTold self.new (move_of plan ∷ moves) }
+            → IsTold self.new (planned_move plan ∷ moves) }
     {
         match plan {
+            ChannelPlan::Open {
+                session,
+                kind,
+                account,
+                opened,
+                ..
+            } => Some(self.take_opening(session, kind, account, opened)),
             ChannelPlan::Name { channel, account } => {
                 self.take_name(channel, account);
                 None
@@ -254,6 +318,89 @@ impl Channels {
                 None
             }
         }
+    }
+
+    /// What an opening would give, or why it is refused. It takes no memory.
+    fn opening(&self, session: u32, ask: &OpenAsk, rules: &Rules) -> Result<Opened, OpenError>
+        requires { rules.now.least_class ≤ 60 }
+        ensures value { result ≡ opening_on self.now rules.now session ask.now }
+        ensures next { IfOk result (λ opened. IsNextOpening self.now session opened) }
+    {
+        let count = count_of(&self.counts, session);
+        if let Some(refusal) = opening_refusal(rules, count, self.opened, ask) {
+            return Err(refusal);
+        }
+        let Some(lead) = self.space.lowest(lead_len(ask.kind, ask.min_size)) else {
+            return Err(OpenError::NoSpace);
+        };
+        Ok(Opened {
+            channel: self.opened + 1,
+            class: class_given(rules, &ask.max_target),
+            lead,
+        })
+    }
+
+    /// What an opening gives, and its account, with the memory that it takes.
+    fn ready_opening(
+        &mut self,
+        session: u32,
+        ask: &OpenAsk,
+        rules: &Rules,
+    ) -> Result<(Opened, Str255), OpenError>
+        requires { rules.now.least_class ≤ 60 }
+        ensures opened { IfOk result (λ ready.
+            opening_on self.old rules.now session ask.now ≡ Ok ready.0) }
+        ensures account { IfOk result (λ ready.
+            ready.1 ≡ account_for ask.now.kind ask.now.identity) }
+        ensures ready { IfOk result (λ ready. MayOpenNext self.new session ready.0) }
+        ensures refused { IfErr result (λ refusal. (refusal ≡ OpenError.Memory)
+            ⊎ (opening_on self.old rules.now session ask.now ≡ Err refusal)) }
+        ensures same { ShowsSameChannels self.old self.new }
+    {
+        let opened = match self.opening(session, ask, rules) {
+            Ok(opened) => opened,
+            Err(refusal) => return Err(refusal),
+        };
+        let alloc = *self.settings.allocator();
+        let Ok(account) = opening_account(alloc, ask.kind, ask.identity.text()) else {
+            return Err(OpenError::Memory);
+        };
+        let Ok(()) = self.make_room() else {
+            return Err(OpenError::Memory);
+        };
+        Ok((opened, account))
+    }
+
+    /// Room for an opening.
+    fn make_room(&mut self) -> Result<(), AllocError>
+        ensures same { ShowsSameChannels self.old self.new }
+        ensures room { OnOk result (1 ≤ self.new.opening_room) }
+    {
+        self.channels.reserve(1)?;
+        self.counts.reserve(1)?;
+        self.space.reserve()
+    }
+
+    /// Opens a channel, for which there is room.
+    fn take_opening(&mut self, session: u32, kind: Kind, account: Str255, opened: Opened) -> Opened
+        requires { MayOpenNext self.old session opened }
+        ensures value { result ≡ opened }
+        ensures told { (at : ℕ) (moves : List ChannelMove) → IsTold self.old moves
+            → IsTold self.new (Opens at session kind account opened.class opened.lead ∷ moves) }
+    {
+        count_opening(&mut self.counts, session);
+        hold(&mut self.space, opened.lead);
+        let channel = Channel {
+            session,
+            kind,
+            account,
+            lead: opened.lead,
+            opening_class: opened.class,
+            class: opened.class,
+        };
+        put_channel(&mut self.channels, opened.channel, channel);
+        self.opened = opened.channel;
+        opened
     }
 
     /// Gives a channel an account, where it has none.

@@ -5,6 +5,6 @@ use Rattle.channels.proofs.table.spaces_apart.Goals as goal
 
 pub returns : goal.returns
 returns c one other is-one is-other =
-    shown-disjoint (reverse c.channels.inside.settings.items) c.channels.inside.channels.entries c.channels.invariant.apart c.args.a c.args.b one other
+    shown-disjoint (reverse c.channels.inside.settings.items) c.channels.inside.channels.entries c.channels.invariant.0.apart c.args.a c.args.b one other
     (ap (λ table. channel_in table.open_channels c.args.a) c.channels.view_is ∙ is-one)
     (ap (λ table. channel_in table.open_channels c.args.b) c.channels.view_is ∙ is-other) c.requires

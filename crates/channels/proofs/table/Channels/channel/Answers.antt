@@ -12,6 +12,6 @@ returns c =
     let settings : List Setting = reverse c.self.inside.settings.items in
     let entries : List (ℕ × Channel) = c.self.inside.channels.entries in
     c.get.ensures.value
-    ∙ lookup-kept settings entries c.args.channel c.self.invariant.classes
+    ∙ lookup-kept settings entries c.args.channel c.self.invariant.0.classes
     ∙ ap (option_map kept_channel) (sym (channel_in-shown settings entries c.args.channel))
     ∙ ap (λ table. option_map kept_channel (channel_in table.open_channels c.args.channel)) c.self.view_is
