@@ -23,7 +23,10 @@ pub record IsTaken {E Q R F M : Type 0} (events_of : M → List E) (faults_of : 
     (after : Me (Option (Held M Q R F)) (View E Q R F)) : Type 0 where
   pub held : Held M Q R F
   pub is : after
-      ≡ (acting_view before.0 count (events_of held.machine) (faults_of held.machine), (0, Some held) ∷ before.1)
+      ≡ (
+        acting_view before.0 count (events_of held.machine) (faults_of held.machine),
+        (0, Some held) ∷ before.1,
+      )
   pub known : before.0.known ≤ count
   pub seen : Begins before.0.seen (events_of held.machine)
 

@@ -22,7 +22,8 @@ pub record FitsHistory {E Q R F : Type 0} (log : List (Call E Q R F)) (events : 
   pub told : Begins view.told events
   pub known : view.known ≤ length log
   pub turn : view.has_turn ≡ true
-      → (holder ≡ maybe.some seat) × (view.seen ≡ events) × (view.known ≡ length log) × (view.base ≡ most)
+      → (holder ≡ maybe.some seat) × (view.seen ≡ events) × (view.known ≡ length log)
+      × (view.base ≡ most)
   pub idle : view.workers ≡ [] → (view.calls ≡ []) × (view.has_turn ≡ false)
 
 -- the machine is in the slot

@@ -4,7 +4,8 @@ ghost use Rattle.std.specs.Prelude.{◌≡◌, ℕ, ◌<◌, All, IsTrue, MatchO
 ghost use Rattle.std.specs.List.{AllByRecursion, Contains};
 ghost use mathlib.Core.Logic.{◌↔◌};
 ghost use Rattle.desk.specs.Plays.{IsSized};
-ghost use Rattle.desk.specs.Closing.{HasClosed, HasEveryWorker, IsJoined, IsLeastMissing, IsOfSeat, IsRefused, workers_of};
+ghost use Rattle.desk.specs.Closing.{HasClosed, HasEveryWorker, IsJoined, IsLeastMissing};
+ghost use Rattle.desk.specs.Closing.{IsOfSeat, IsRefused, workers_of};
 
 use crate::desk::Desk;
 use crate::machine::Machine;
@@ -28,7 +29,11 @@ impl<M: Machine> Desk<M> {
     /// with the least number of one, and then all comes back. Takes no memory.
     pub fn close(self, passes: Vec<Pass<M>>) -> Result<M, CloseError<M>>
         requires { All (λ pass. pass.table ≡ self.table) passes.items }
-        ensures { MatchResult result (λ machine. HasClosed M.answers M.wants_memory M.events M.faults self passes.items machine) (λ refused. IsRefused self passes.items refused.desk refused.passes.items refused.place) }
+        ensures { MatchResult result
+            (λ machine. HasClosed M.answers M.wants_memory M.events M.faults self passes.items
+            machine)
+            (λ refused. IsRefused self passes.items refused.desk refused.passes.items
+            refused.place) }
     {
         if let Some(place) = first_missing(&passes, self.count) {
             return Err(CloseError {
@@ -57,7 +62,8 @@ fn has_worker<M: Machine>(passes: &[Pass<M>], worker: u32) -> bool
 
 // The least number whose pass is missing.
 fn first_missing<M: Machine>(passes: &Vec<Pass<M>>, count: u32) -> Option<u32>
-    ensures { MatchOption result (HasEveryWorker count passes.now.items) (λ place. IsLeastMissing count passes.now.items place) }
+    ensures { MatchOption result (HasEveryWorker count passes.now.items)
+        (λ place. IsLeastMissing count passes.now.items place) }
 {
     for place in 0..count {
         if !has_worker(passes, place) {
@@ -70,7 +76,8 @@ fn first_missing<M: Machine>(passes: &Vec<Pass<M>>, count: u32) -> Option<u32>
 // One seat with the workers and the calls of all passes, which has seen what each of them had seen.
 fn join_all<M: Machine>(board: &Board<M>, mut passes: Vec<Pass<M>>) -> Place<M>
     requires board { IsSized board.now.table_id }
-    requires passes { (0 < length passes.items) × AllByRecursion (λ pass. pass.table ≡ board.now.table_id) passes.items }
+    requires some { 0 < length passes.items }
+    requires tables { AllByRecursion (λ pass. pass.table ≡ board.now.table_id) passes.items }
     ensures table { result.table_id ≡ board.now.table_id }
     ensures joined { IsJoined passes.items result.me }
 {
@@ -98,8 +105,11 @@ fn give_up<M: Machine>(
     seat: Place<M>,
 ) -> M
     requires table { IsSized table.shared.table_id × (seat.table_id ≡ table.shared.table_id) }
-    requires seat { (seat.me.0.has_turn ≡ false) × ((worker : ℕ) → worker < table.shared.key.count → Contains seat.me.0.workers worker) }
-    ensures { IsOfSeat M.answers M.wants_memory M.events M.faults table.shared.key.start.value seat.me.0 result }
+    requires rests { seat.me.0.has_turn ≡ false }
+    requires every { (worker : ℕ) → worker < table.shared.key.count
+        → Contains seat.me.0.workers worker }
+    ensures { IsOfSeat M.answers M.wants_memory M.events M.faults table.shared.key.start.value
+        seat.me.0 result }
 {
     let mut closed = table.close_with(seat);
     let slot = closed.take(0);

@@ -35,7 +35,8 @@ impl Machine for Counter {
 
     ghost wants_memory = { λ broken. broken.wants_room };
 
-    ghost answers = { λ before caller request added reply. (added ≡ request ∷ []) × (reply ≡ sum before + request) };
+    ghost answers = { λ before caller request added reply.
+        (added ≡ request ∷ []) × (reply ≡ sum before + request) };
 
     fn length(&self) -> u64 {
         self.added.len() as u64

@@ -28,9 +28,14 @@ impl<M: Machine> Model for Desk<M> {
 
     ghost Value = { Opening M };
 
-    ghost view = { λ desk. record { table = desk.table.shared.table_id; start = desk.table.shared.key.start.value; count = desk.count } };
+    ghost view = { λ desk. record {
+      table = desk.table.shared.table_id;
+      start = desk.table.shared.key.start.value;
+      count = desk.count;
+    } };
 
-    ghost invariant = { λ desk. IsSized desk.table.shared.table_id × (desk.count ≡ desk.table.shared.key.count) × (0 < desk.count) };
+    ghost invariant = { λ desk. IsSized desk.table.shared.table_id
+        × (desk.count ≡ desk.table.shared.key.count) × (0 < desk.count) };
 }
 
 impl<M: Machine> Desk<M> {

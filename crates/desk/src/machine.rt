@@ -32,6 +32,7 @@ pub trait Machine {
     /// Answers the caller's request. A reply adds the events that the machine answers with, a fault
     /// none; one that isn't want of memory comes only where the count of faults rose in this call.
     fn act(&mut self, caller: u32, request: Self::Request) -> Result<Self::Reply, Self::Fault>
-        ensures turn { MakesTurn answers wants_memory (events self.old) (faults self.old) caller request (events self.new) (faults self.new) result }
+        ensures turn { MakesTurn answers wants_memory (events self.old) (faults self.old) caller request
+            (events self.new) (faults self.new) result }
         ensures later { faults self.old ≤ faults self.new };
 }

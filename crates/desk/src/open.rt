@@ -24,7 +24,9 @@ impl<M: Machine> Desk<M> {
         count: u32,
     ) -> Result<(Desk<M>, Vec<Pass<M>>), (M, AllocError)>
         requires { 0 < count }
-        ensures { MatchResult result (λ opened. HasJustOpened M.events machine count opened.0 opened.1.items) (λ refused. refused.0 ≡ machine) }
+        ensures { MatchResult result
+            (λ opened. HasJustOpened M.events machine count opened.0 opened.1.items)
+            (λ refused. refused.0 ≡ machine) }
     {
         let Ok(passes) = Vec::with_capacity(alloc, count as usize) else {
             return Err((machine, AllocError));
@@ -55,7 +57,9 @@ impl<M: Machine> Desk<M> {
 
 // The slot with the machine, that made no call yet.
 fn slots_of<M: Machine>(alloc: Global, machine: M) -> Result<Vec<Slot<M>>, M>
-    ensures { MatchResult result (λ slots. slots.items ≡ Some (record { machine = machine; note = None }) ∷ []) (λ back. back ≡ machine) }
+    ensures { MatchResult result
+        (λ slots. slots.items ≡ Some (record { machine = machine; note = None }) ∷ [])
+        (λ back. back ≡ machine) }
 {
     let mut slots = Vec::new(alloc);
     let held = Held {

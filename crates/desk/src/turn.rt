@@ -40,7 +40,8 @@ pub fn take_turn<M: Machine, R: Wait>(rt: &R, board: &Board<M>, seat: &mut Place
 pub fn take_machine<M: Machine>(board: &Board<M>, seat: &mut Place<M>) -> M
     requires board { IsSized board.now.table_id × (seat.old.table_id ≡ board.now.table_id) }
     requires carried { (held : _) × (seat.old.me.1 ≡ (0, Some held) ∷ []) }
-    ensures same { (seat.new.table_id ≡ seat.old.table_id) × (seat.new.me ≡ (seat.old.me.0, (0, None) ∷ [])) }
+    ensures same { (seat.new.table_id ≡ seat.old.table_id)
+        × (seat.new.me ≡ (seat.old.me.0, (0, None) ∷ [])) }
     ensures taken { (held : _) × (seat.old.me.1 ≡ (0, Some held) ∷ []) × (held.machine ≡ result) }
 {
     let slot = board.exchange(seat, 0, None);
@@ -55,9 +56,11 @@ pub fn answer<M: Machine>(
     worker: u32,
     request: M::Request,
 ) -> (Result<M::Reply, M::Fault>, NoteOf<M>)
-    ensures turn { MakesTurn M.answers M.wants_memory (M.events machine.old) (M.faults machine.old) worker request (M.events machine.new) (M.faults machine.new) result.0 }
+    ensures turn { MakesTurn M.answers M.wants_memory (M.events machine.old) (M.faults machine.old)
+        worker request (M.events machine.new) (M.faults machine.new) result.0 }
     ensures later { M.faults machine.old ≤ M.faults machine.new }
-    ensures note { (result.1.worker ≡ worker) × (result.1.asked.value ≡ request) × (result.1.answer.value ≡ result.0) }
+    ensures note { (result.1.worker ≡ worker) × (result.1.asked.value ≡ request)
+        × (result.1.answer.value ≡ result.0) }
 {
     let asked = Snapshot::of(&request);
     let answer = machine.act(worker, request);
@@ -80,9 +83,14 @@ pub fn put_back<M: Machine>(
     requires board { IsSized board.now.table_id × (seat.old.table_id ≡ board.now.table_id) }
     requires carried { seat.old.me.1 ≡ (0, None) ∷ [] }
     requires count { (seat.old.me.0.known ≡ count) × (count < 2 ^ 62) }
-    requires call { IsNextCall M.answers M.wants_memory seat.old.me.0 (M.events machine) (M.faults machine) note }
+    requires call { IsNextCall M.answers M.wants_memory seat.old.me.0 (M.events machine)
+        (M.faults machine) note }
     ensures same { seat.new.table_id ≡ seat.old.table_id }
-    ensures called { seat.new.me ≡ (called_view seat.old.me.0 (M.events machine) (call_of seat.old.me.0 (M.events machine) (M.faults machine) note), []) }
+    ensures called { seat.new.me ≡ (
+      called_view seat.old.me.0 (M.events machine)
+          (call_of seat.old.me.0 (M.events machine) (M.faults machine) note),
+      [],
+    ) }
 {
     let held = Held {
         machine,

@@ -9,7 +9,7 @@ use Rattle.desk.proofs.close.join_all.Goals as goal
 pub loop-pass-init : goal.loop-pass-init
 loop-pass-init g c =
     let tables = all-last (λ pass. pass.table ≡ c.args.board.now.table_id) c.pop-popped.new.self.items c.in-Some.pass
-    (subst (λ l. AllByRecursion (λ pass. pass.table ≡ c.args.board.now.table_id) l) c.in-Some.ensures.items c.requires.passes.1) in
+    (subst (λ l. AllByRecursion (λ pass. pass.table ≡ c.args.board.now.table_id) l) c.in-Some.ensures.items c.requires.tables) in
     record {
       table = ap (λ p. p.table) c.pass.view_is ∙ tables.1;
       joined = (

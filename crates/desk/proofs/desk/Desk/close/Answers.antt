@@ -6,18 +6,17 @@ use Rattle.desk.proofs.Joined.{has-closed}
 use Rattle.desk.proofs.Missing.{some-there}
 use Rattle.desk.proofs.desk.Desk.close.Goals as goal
 
-pub join_all-seat-requires-clause-passes : goal.join_all-seat-requires-clause-passes
-join_all-seat-requires-clause-passes g c = (
-  some-there (λ pass. pass.worker) c.args.passes.items 0 (c.in_default.ensures 0 c.self.invariant.2),
-  recursion_from_All (λ pass. pass.table ≡ c.self.inside.table.shared.table_id) c.args.passes.items
-      (λ k d less. c.requires k d less ∙ ap (λ desk. desk.table) (sym c.self.view_is)),
-)
+pub join_all-seat-requires-clause-some : goal.join_all-seat-requires-clause-some
+join_all-seat-requires-clause-some g c = some-there (λ pass. pass.worker) c.args.passes.items 0 (c.in_default.ensures 0 c.self.invariant.2)
 
-pub give_up-requires-clause-seat : goal.give_up-requires-clause-seat
-give_up-requires-clause-seat g c = (
-  c.join_all-seat.ensures.joined.turn,
-  λ worker less. subst (λ l. Contains l worker) (sym c.join_all-seat.ensures.joined.workers) (c.in_default.ensures worker (let e = c.self.invariant.1 in omega arith)),
-)
+pub join_all-seat-requires-clause-tables : goal.join_all-seat-requires-clause-tables
+join_all-seat-requires-clause-tables g c =
+    recursion_from_All (λ pass. pass.table ≡ c.self.inside.table.shared.table_id) c.args.passes.items
+    (λ k d less. c.requires k d less ∙ ap (λ desk. desk.table) (sym c.self.view_is))
+
+pub give_up-requires-clause-every : goal.give_up-requires-clause-every
+give_up-requires-clause-every g c =
+    λ worker less. subst (λ l. Contains l worker) (sym c.join_all-seat.ensures.joined.workers) (c.in_default.ensures worker (let e = c.self.invariant.1 in omega arith))
 
 pub returns : goal.returns
 returns g c =
