@@ -1,3 +1,4 @@
 pub mod Counting
 pub mod Headers
+pub mod Pushes
 pub mod Shares

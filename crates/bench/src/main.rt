@@ -6,6 +6,7 @@ mod bytes;
 mod frames;
 mod hash;
 mod messages;
+mod pushes;
 mod shares;
 mod stream;
 #[cfg(test)]
@@ -16,7 +17,7 @@ use std::env::{self, Args};
 
 /// What each first word wants behind it.
 const USAGE: &str =
-    "want: hash COUNT, bytes LENGTH COUNT, shares SIBLINGS COUNT, frames or messages";
+    "want: hash COUNT, bytes LENGTH COUNT, shares SIBLINGS COUNT, payouts WINDOW COUNT, frames or messages";
 
 fn main(rt: HostRuntime) -> Result<()> {
     let alloc = rt.alloc();
@@ -29,6 +30,7 @@ fn main(rt: HostRuntime) -> Result<()> {
         "hash" => hash::report(alloc, number(&mut words)?)?,
         "bytes" => bytes::report(alloc, number(&mut words)?, number(&mut words)?)?,
         "shares" => shares::report(alloc, number(&mut words)?, number(&mut words)?)?,
+        "payouts" => pushes::report(alloc, number(&mut words)?, number(&mut words)?)?,
         "frames" => frames::report(alloc, &mut rt.stdin())?,
         "messages" => messages::report(alloc, &mut rt.stdin())?,
         _ => bail!("{USAGE}"),

@@ -1,7 +1,7 @@
 //! What each benchmark prints. The hashes were worked out apart, by Python's `hashlib`, and the
 //! streams were written by hand.
 
-use crate::{bytes, frames, hash, messages, shares};
+use crate::{bytes, frames, hash, messages, pushes, shares};
 use anyhow::Result;
 
 /// A SetupConnection, a NewTemplate and a SubmitSharesExtended, a frame with the kind of a
@@ -33,6 +33,13 @@ fn hashes_of_headers_and_bytes_are_those_of_another_program(rt: HostRuntime) -> 
     assert_eq!(rt; bytes::report(alloc, 98, 3)?.as_str(), bytes);
     let share = "d62e95e17985b7f482ef71501f285ee5f3088a92456d91b5267c3f9e6eeed08c";
     assert_eq!(rt; shares::report(alloc, 0, 1)?.as_str(), share);
+    Ok(())
+}
+
+#[test]
+fn pushes_are_settled(rt: HostRuntime) -> Result<()> {
+    let line = pushes::report(rt.alloc(), 7, 2500)?;
+    assert_eq!(rt; line.as_str(), "pushes 2500, payouts 7, pool 6");
     Ok(())
 }
 
