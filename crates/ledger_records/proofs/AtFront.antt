@@ -1,5 +1,5 @@
 -- A record at the front of bytes.
-use Rattle.std.proofs.Common.{◌≡◌, ℕ, suc, ◌+◌, ◌*◌, ◌/◌, ◌%◌, ◌≤◌, ◌<◌, Result, Ok, Err, List, [], ◌∷◌, ◌++◌, length, take, drop, get_or, refl, sym, ap, ap₂, subst, ◌∙◌, arith}
+use Rattle.std.proofs.Common.{◌≡◌, ℕ, suc, ◌+◌, ◌*◌, ◌/◌, ◌%◌, ◌≤◌, ◌<◌, Ok, Err, List, [], ◌∷◌, ◌++◌, length, take, drop, get_or, sym, ap, ap₂, subst, ◌∙◌, arith}
 use Rattle.std.proofs.lemmas.List.{take-append-drop, length-take-le}
 use Rattle.std.proofs.Math.Seq.{take-append_seam}
 use Rattle.std.specs.Prelude.{IsErrOf}
@@ -11,7 +11,7 @@ use Rattle.ledger_laws.proofs.Bodies.{bodies_agree}
 use Rattle.ledger_records.specs.declared.error.RecordError.{RecordError}
 use Rattle.ledger_records.specs.declared.error.RecordError.TheVariants as errors
 use Rattle.ledger_records.specs.Bodies.{DecidesBody, IsBodyOf}
-use Rattle.ledger_records.specs.Records.{AreNoRecord, BeginsWithNoRecord, IsReadAs, said_body_len}
+use Rattle.ledger_records.specs.Records.{BeginsWithNoRecord, IsReadAs, said_body_len}
 
 -- the length that the bytes say
 abbrev pub len_of : List ℕ → ℕ

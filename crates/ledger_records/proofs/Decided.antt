@@ -1,7 +1,7 @@
 -- A body is an event's exactly where its fields are read as the event's.
-use Rattle.std.proofs.Common.{◌≡◌, ℕ, ◌≤◌, Option, Some, Result, Ok, Err, List, [], ◌++◌, length, refl, sym, ap, subst, ◌∙◌, append-nil}
+use Rattle.std.proofs.Common.{◌≡◌, ℕ, ◌≤◌, Some, Result, Ok, Err, List, length, sym, subst, ◌∙◌, append-nil}
 use Rattle.std.specs.Prelude.{IfOk}
-use Rattle.sv2_types.specs.Fields.{FieldType, FieldValue}
+use Rattle.sv2_types.specs.Fields.{FieldValue}
 use Rattle.sv2_types.proofs.Items.{IsBytes}
 use Rattle.sv2_messages.specs.declared.error.MsgError.{MsgError}
 use Rattle.sv2_messages.specs.Messages.{types_of}
@@ -9,7 +9,6 @@ use Rattle.sv2_messages.specs.Reading.{values_of}
 use Rattle.pool_history.specs.declared.events.Event.{Event}
 use Rattle.pool_history.specs.Ledger.{TextsFit, record_body, record_kind}
 use Rattle.ledger_laws.specs.WellFormed.{IsWellFormed}
-use Rattle.ledger_laws.proofs.FieldByField.{written}
 use Rattle.ledger_records.specs.declared.error.RecordError.{RecordError}
 use Rattle.ledger_records.specs.declared.error.RecordError.TheVariants as errors
 use Rattle.ledger_records.specs.Bodies.{DecidesBody, GivesEvent, IsBodyOf, IsNoEvent, SaysPath}

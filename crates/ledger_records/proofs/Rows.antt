@@ -1,8 +1,8 @@
 -- The bodies of records by the fields of their rows, kind by kind.
-use Rattle.std.proofs.Common.{◌≡◌, ℕ, ◌<◌, ◌≤◌, ◌^◌, Bool, true, false, Option, None, Some, List, [], ◌∷◌, ◌++◌, length, flat_map, refl, ap, ◌∙◌, arith}
+use Rattle.std.proofs.Common.{◌≡◌, ℕ, ◌<◌, ◌^◌, Bool, true, false, Option, None, Some, List, [], ◌∷◌, ◌++◌, flat_map, refl, ◌∙◌, arith}
 use Rattle.std.specs.List.{list_all}
-use Rattle.sv2_types.specs.Fields.{FieldType, FieldValue, U8, U16, U32, U64, UINT256, STR0_255, B0_255, B0_32, B0_64K, SEQ0_255_U256, BOOL, Number, Bytes, Parts, Truth}
-use Rattle.sv2_types.specs.Spelling.{spelled_boolean, spelled_str255, spelled_u32, spelled_u64}
+use Rattle.sv2_types.specs.Fields.{FieldType, U8, U16, U32, U64, UINT256, STR0_255, B0_255, B0_32, B0_64K, SEQ0_255_U256, BOOL, Number, Bytes, Parts, Truth}
+use Rattle.sv2_types.specs.Spelling.{spelled_boolean, spelled_str255, spelled_u32}
 use Rattle.sv2_messages.specs.Messages.{types_of}
 use Rattle.pool_history.specs.declared.events.Event.{Event}
 use Rattle.pool_history.specs.declared.events.Event.TheVariants as event

@@ -1,5 +1,5 @@
 -- Fields that are read are spelled so, and fields that are spelled so are read.
-use Rattle.std.proofs.Common.{◌≡◌, ℕ, Bool, true, false, ◌&&◌, Some, Result, Ok, List, [], ◌∷◌, ◌++◌, refl, ap₂, ◌∙◌}
+use Rattle.std.proofs.Common.{◌≡◌, ℕ, Bool, true, false, Some, Ok, List, [], ◌∷◌, ◌++◌, refl, ap₂, ◌∙◌}
 use Rattle.std.proofs.lemmas.Bool.{and_parts}
 use Rattle.std.specs.List.{list_all}
 use Rattle.sv2_types.specs.Fields.{FieldType, FieldValue, BOOL, HasForm, spelling}

@@ -1,5 +1,5 @@
 -- What is read of a record's body, field by field (this project's own).
-use Rattle.std.specs.Prelude.{◌≡◌, ℕ, Bool, true, false, Result, Ok, Err, List, [], length}
+use Rattle.std.specs.Prelude.{◌≡◌, ℕ, false, Result, Ok, Err, List, [], length}
 use Rattle.std.specs.List.{flat_map, AllByRecursion}
 use Rattle.std.specs.Str.{IsUtf8}
 use Rattle.sv2_types.specs.Fields.{FieldValue}

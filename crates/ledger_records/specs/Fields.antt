@@ -1,5 +1,5 @@
 -- The fields of each kind of record (this project's own; docs/POOL.md has the table).
-use Rattle.std.specs.Prelude.{◌≡◌, ℕ, Bool, true, false, Option, None, Some, List, [], ◌∷◌, length, codes}
+use Rattle.std.specs.Prelude.{ℕ, Bool, true, false, Option, None, Some, List, [], ◌∷◌, length, codes}
 use Rattle.sv2_types.specs.Fields.{FieldValue, U8, U16, U32, U64, UINT256, STR0_255, B0_255, B0_32, B0_64K, SEQ0_255_U256, Number, Bytes, Parts}
 use Rattle.sv2_messages.specs.Messages.{Row, field}
 use Rattle.pool_history.specs.declared.events.Event.{Event}

@@ -1,6 +1,8 @@
 //! The hashes of a ledger of format 2, and the pieces in which it is kept.
 
-ghost use Rattle.std.specs.Prelude.{◌≡◌, ◌++◌, length, OnOk, OnErr, IfOk};
+ghost use Rattle.std.specs.Prelude.{◌≡◌, [], ◌∷◌, ◌++◌, List, length, OnOk, OnErr, IfOk};
+ghost use Rattle.pool_history.specs.declared.events.Event.{Event};
+ghost use Rattle.ledger_laws.specs.Growing.{hash_after};
 ghost use Rattle.sha2.specs.Sha256.{sha256};
 ghost use Rattle.pool_base.specs.Lists.{Begins};
 ghost use Rattle.pool_history.specs.Ledger.{HasRecord, magic_2, record_of};
@@ -44,6 +46,9 @@ pub fn write_piece(
     ensures ok { OnOk result (out.new.items
         ≡ out.old.items ++ piece_behind before.now event.now) }
     ensures hash { IfOk result (λ hash. hash ≡ ledger.chain before.now (record_of event.now)) }
+    // Behind the hash over a history it is the one over the history with the event.
+    ensures over { (history : List Event) → before.now ≡ hash_after history
+        → IfOk result (λ hash. hash ≡ hash_after (history ++ event.now ∷ [])) }
     ensures err { OnErr result (out.new.items ≡ out.old.items) }
 {
     let start = out.len();
@@ -60,10 +65,10 @@ pub fn write_piece(
 /// Want of memory leaves `out` as it was.
 pub fn write_first_piece(event: &Event, out: &mut Vec<u8>) -> Result<[u8; 32], AllocError>
     requires { HasRecord event.now }
+    // It is the ledger of this event alone.
     ensures ok { OnOk result (out.new.items
-        ≡ out.old.items ++ first_piece event.now) }
-    ensures hash { IfOk result
-        (λ hash. hash ≡ ledger.chain (sha256 magic_2) (record_of event.now)) }
+        ≡ out.old.items ++ ledger.ledger_text (event.now ∷ [])) }
+    ensures hash { IfOk result (λ hash. hash ≡ hash_after (event.now ∷ [])) }
     ensures err { OnErr result (out.new.items ≡ out.old.items) }
 {
     let start = out.len();

@@ -1,5 +1,5 @@
 use Rattle.std.proofs.Common.{arith, Ok, Err}
-use Rattle.ledger_records.proofs.Decided.{decided, IsOfTypes}
+use Rattle.ledger_records.proofs.Decided.{decided}
 use Rattle.ledger_records.proofs.reading.event_of.Goals as goal
 
 pub returns-in-Ok : goal.returns-in-Ok

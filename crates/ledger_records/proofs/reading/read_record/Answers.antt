@@ -1,4 +1,4 @@
-use Rattle.std.proofs.Common.{◌≡◌, ℕ, List, Err, arith, length, length-drop, drop, take, get_or, ap, subst}
+use Rattle.std.proofs.Common.{ℕ, List, Err, arith, take, get_or, subst}
 use Rattle.ledger_records.specs.Bodies.{DecidesBody, IsBodyOf}
 use Rattle.ledger_records.proofs.AtFront.{len_of, read_as, not_refused, not_read_as, no_record}
 use Rattle.ledger_records.proofs.reading.read_record.Goals as goal

@@ -1,5 +1,5 @@
 -- the accounts so far are those in front of what is left
-use Rattle.std.proofs.Common.{◌≡◌, ◌≤◌, ◌++◌, length, drop}
+use Rattle.std.proofs.Common.{◌≡◌, ◌++◌, length, drop}
 use Rattle.std.specs.List.{flat_map, AllByRecursion}
 use Rattle.sv2_types.specs.Spelling.{spelled_str255}
 use Rattle.ledger_laws.specs.WellFormed.{IsText}
