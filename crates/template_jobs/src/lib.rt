@@ -14,3 +14,6 @@ mod table;
 pub use job::Job;
 pub use messages::{custom_of, template_of, tip_of};
 pub use table::{JobPlan, Jobs};
+
+#[cfg(test)]
+mod tests;
