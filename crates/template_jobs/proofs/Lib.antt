@@ -4,3 +4,4 @@ mod Mapped
 mod Parts
 mod Rising
 mod Surplus
+mod ToldMoves

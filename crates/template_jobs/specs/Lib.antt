@@ -5,3 +5,4 @@ pub mod Owners
 pub mod Plans
 pub mod Refusals
 pub mod Tables
+pub mod Told

@@ -4,6 +4,7 @@
 
 mod content;
 mod job;
+mod laws;
 mod lists;
 mod making;
 mod messages;
@@ -12,6 +13,7 @@ mod owner;
 mod table;
 
 pub use job::Job;
+pub use laws::{histories_are_read, moves_are_told};
 pub use messages::{custom_of, template_of, tip_of};
 pub use table::{JobPlan, Jobs};
 
