@@ -5,6 +5,7 @@
 mod bytes;
 mod frames;
 mod hash;
+mod jobs;
 mod messages;
 mod pushes;
 mod shares;
@@ -14,10 +15,11 @@ mod tests;
 
 use anyhow::{Context, Result, bail};
 use std::env::{self, Args};
+use std::fs;
 
 /// What each first word wants behind it.
 const USAGE: &str =
-    "want: hash COUNT, bytes LENGTH COUNT, shares SIBLINGS COUNT, payouts WINDOW COUNT, frames or messages";
+    "want: hash COUNT, bytes LENGTH COUNT, shares SIBLINGS COUNT, payouts WINDOW COUNT, jobs COUNT, frames or messages";
 
 fn main(rt: HostRuntime) -> Result<()> {
     let alloc = rt.alloc();
@@ -31,6 +33,11 @@ fn main(rt: HostRuntime) -> Result<()> {
         "bytes" => bytes::report(alloc, number(&mut words)?, number(&mut words)?)?,
         "shares" => shares::report(alloc, number(&mut words)?, number(&mut words)?)?,
         "payouts" => pushes::report(alloc, number(&mut words)?, number(&mut words)?)?,
+        "jobs" => {
+            let newest = jobs::report(alloc, number(&mut words)?)?;
+            let status = fs::read_to_string(&rt, "/proc/self/status")?;
+            format!(in alloc; "{newest} {}", jobs::greatest_memory(status.as_str()))?
+        }
         "frames" => frames::report(alloc, &mut rt.stdin())?,
         "messages" => messages::report(alloc, &mut rt.stdin())?,
         _ => bail!("{USAGE}"),

@@ -1,7 +1,7 @@
 //! What each benchmark prints. The hashes were worked out apart, by Python's `hashlib`, and the
 //! streams were written by hand.
 
-use crate::{bytes, frames, hash, messages, pushes, shares};
+use crate::{bytes, frames, hash, jobs, messages, pushes, shares};
 use anyhow::Result;
 
 /// A SetupConnection, a NewTemplate and a SubmitSharesExtended, a frame with the kind of a
@@ -40,6 +40,12 @@ fn hashes_of_headers_and_bytes_are_those_of_another_program(rt: HostRuntime) -> 
 fn pushes_are_settled(rt: HostRuntime) -> Result<()> {
     let line = pushes::report(rt.alloc(), 7, 2500)?;
     assert_eq!(rt; line.as_str(), "pushes 2500, payouts 7, pool 6");
+    Ok(())
+}
+
+#[test]
+fn the_newest_job_is_told(rt: HostRuntime) -> Result<()> {
+    assert_eq!(rt; jobs::report(rt.alloc(), 25)?.as_str(), "newest 25");
     Ok(())
 }
 
