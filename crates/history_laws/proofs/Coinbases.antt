@@ -9,6 +9,7 @@ use Rattle.coinbase.specs.declared.error.AssemblyError.TheVariants.{RewardTooLar
 use Rattle.coinbase.specs.Custom.{CustomTerms, custom_assembly, custom_parts, is_foreign, paying_outputs, some_outputs, total, with_total, without_foreign}
 use Rattle.coinbase.specs.Outputs.{outputs_of}
 use Rattle.coinbase.specs.declared.tx.TxOut.{TxOut}
+use Rattle.coinbase.specs.declared.error.OutputsError.{OutputsError}
 use Rattle.coinbase.specs.declared.error.OutputsError.TheVariants as custom
 use Rattle.pool_base.specs.Results.{◌>>=◌}
 
@@ -118,14 +119,20 @@ pub first-of : {X Y E : Type 0} (r : Result X E) (f : X → Result Y E) (y : Y) 
 first-of (Ok x) f y h = (x, refl, h)
 first-of (Err e) f y h = absurd (err-ok h)
 
+pub second-same : {parts : Parts} {reward : ℕ} {told : Parts × ℕ} → ◌≡◌ {A = Result (Parts × ℕ) OutputsError} (Ok (parts, reward)) (Ok told) → told.1 ≡ reward
+second-same {parts = parts} {reward = reward} {told = told} h = sym (ap (λ t. t.1) (same h)) where
+  same : ◌≡◌ {A = Result (Parts × ℕ) OutputsError} (Ok (parts, reward)) (Ok told) → ◌≡◌ {A = Parts × ℕ} (parts, reward) told
+  same h = cc
+
 -- what a miner's own coinbase that isn't refused pays to
-pub record PaysOutputs (bytes : List ℕ) : Type 0 where
+pub record PaysOutputs (bytes : List ℕ) (reward : ℕ) : Type 0 where
   pub outputs : List TxOut
   pub read : outputs_of bytes ≡ Ok outputs
   pub some : 1 ≤ length outputs
+  pub all : reward ≡ total outputs
   pub small : total outputs < 2 ^ 40
 
-pub outputs-pay : (terms : CustomTerms) (script : List ℕ) (told : Parts × ℕ) → custom_assembly terms script ≡ Ok told → PaysOutputs terms.outputs
+pub outputs-pay : (terms : CustomTerms) (script : List ℕ) (told : Parts × ℕ) → custom_assembly terms script ≡ Ok told → PaysOutputs terms.outputs told.1
 outputs-pay terms script told h =
     let a = not_refused (nat_lt 88 (length terms.prefix)) (custom.ScriptTooLong (length terms.prefix)) (paying_outputs terms script >>= λ outputs. with_total terms outputs) told h in
     let b = first-of (paying_outputs terms script) (λ outputs. with_total terms outputs) told a.1 in
@@ -139,5 +146,6 @@ outputs-pay terms script told h =
       outputs = d.0;
       read = r.0;
       some = r.1;
+      all = second-same e.1 ∙ ap total (sym same);
       small = subst (λ outputs. total outputs < 2 ^ 40) (sym same) (ltb-true (total b.0) (2 ^ 40) e.0);
     }

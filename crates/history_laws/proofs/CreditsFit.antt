@@ -119,7 +119,7 @@ pub work-most : (class : ℕ) → class ≤ 60 → 2 ^ class ≤ 2 ^ 60
 work-most class few = let some : 0 < 2 = omega arith in pow-le-pow_right some few
 
 -- a job's reward
-pub source-pays : (script : List ℕ) (source : Source) → TemplateFits script source ⊎ IsMiners source → reward_of source < 2 ^ 40
+pub source-pays : (script : List ℕ) (source : Source) → TemplateFits script source ⊎ IsMiners script source → reward_of source < 2 ^ 40
 source-pays script (FromTemplate template) (inl f) = f.1
 source-pays script (FromTemplate template) (inr m) = elim m [ ]
 source-pays script (FromMiner custom) (inl f) = elim f [ ]

@@ -26,7 +26,7 @@ use Rattle.pool_history.specs.Legal.{LegalPast, cause_of, may_feed, refused_as, 
 use Rattle.pool_history.specs.Refusing.{coinbase_refusal, is_template_known, most_templates, template_refusal, Granted, custom_refusal, is_bad_path, is_extended, is_other_tip, on_channel, outputs_refusal, over_tip, own_channel, unspent, with_token}
 use Rattle.pool_history.specs.Sessions.{past_of, rules_of, templates}
 use Rattle.history_laws.proofs.Causes.{IsUncaused, provided-both, uncaused, within-next}
-use Rattle.history_laws.specs.Limits.{HasReadOutputs, OwnJobsAreRead}
+use Rattle.history_laws.specs.Limits.{IsPaidJob, OwnJobsAreRead}
 use Rattle.history_laws.proofs.Coinbases.{PaysOutputs, PartsFit, assembled-fits, outputs-pay}
 use Rattle.history_laws.proofs.Entrances.{none-some, some-same}
 use Rattle.history_laws.proofs.Legalities.{none_caused, rules-older, some-none}
@@ -38,15 +38,15 @@ TemplateFits script (FromTemplate template) = PartsFit (template_parts (template
 TemplateFits script (FromMiner custom) = ⊥
 
 -- a miner's own outputs are read, and its reward is, too
-abbrev pub IsMiners : Source → Type 0
-IsMiners (FromTemplate template) = ⊥
-IsMiners (FromMiner custom) = HasReadOutputs custom
+abbrev pub IsMiners : List ℕ → Source → Type 0
+IsMiners script (FromTemplate template) = ⊥
+IsMiners script (FromMiner custom) = IsPaidJob script custom
 
 -- so are those of all jobs that are future or live
 pub record JobsFit (script : List ℕ) (s : Standing) : Type 0 where
   pub future : (j : Job) → In j s.future → TemplateFits script j.source
   pub live : (j : Job) → In j s.live → TemplateFits script j.source
-  pub custom : (j : Job) → In j s.custom → IsMiners j.source
+  pub custom : (j : Job) → In j s.custom → IsMiners script j.source
 
 -- what an accepted template says
 pub coinbase-ok : (r : Result Parts AssemblyError) → coinbase_refusal r ≡ None → (parts : Parts) × (r ≡ Ok parts)
@@ -83,7 +83,7 @@ assembled-ok (Ok told) n = (told, refl)
 assembled-ok (Err e) n = absurd (some-none n)
 
 pub tip-pays : (script : List ℕ) (granted : Granted) (offer : CustomData) (o : Option TipData) → over_tip script granted offer o ≡ None
-    → IsMiners (FromMiner offer)
+    → IsMiners script (FromMiner offer)
 tip-pays script granted offer None n = absurd (some-none n)
 tip-pays script granted offer (Some tip) n =
     let a = provided-both (not (is_other_tip tip offer)) custom_error.StaleTip _ n in
@@ -91,18 +91,26 @@ tip-pays script granted offer (Some tip) n =
     let c = provided-both (not (is_bad_path granted offer.merkle_path)) (custom_error.BadPath (length offer.merkle_path)) _ b.1 in
     let p : (told : Parts × ℕ) × (custom_assembly (custom_terms offer) script ≡ Ok told) =
     assembled-ok (custom_assembly (custom_terms offer) script) c.1 in
-    let o : PaysOutputs offer.coinbase_tx_outputs = outputs-pay (custom_terms offer) script p.0 p.1 in
-    record { outputs = o.outputs; read = o.read; some = o.some; reward = ap (λ r. total (outputs_in r)) o.read; small = o.small }
+    let o : PaysOutputs offer.coinbase_tx_outputs p.0.1 = outputs-pay (custom_terms offer) script p.0 p.1 in
+    record {
+      outputs = o.outputs;
+      read = o.read;
+      some = o.some;
+      parts = p.0.0;
+      assembled = p.1 ∙ ap (λ n. Ok (p.0.0, n)) o.all;
+      reward = ap (λ r. total (outputs_in r)) o.read;
+      small = o.small;
+    }
 
-pub token-pays : (script : List ℕ) (past : List Event) (offer : CustomData) (o : Option Granted) → with_token script past offer o ≡ None → IsMiners (FromMiner offer)
+pub token-pays : (script : List ℕ) (past : List Event) (offer : CustomData) (o : Option Granted) → with_token script past offer o ≡ None → IsMiners script (FromMiner offer)
 token-pays script past offer None n = absurd (some-none n)
 token-pays script past offer (Some granted) n = tip-pays script granted offer (jobs_of past).tip n
 
-pub channel-pays : (script : List ℕ) (past : List Event) (offer : CustomData) (o : Option OpenChannel) → on_channel script past offer o ≡ None → IsMiners (FromMiner offer)
+pub channel-pays : (script : List ℕ) (past : List Event) (offer : CustomData) (o : Option OpenChannel) → on_channel script past offer o ≡ None → IsMiners script (FromMiner offer)
 channel-pays script past offer None n = absurd (some-none n)
 channel-pays script past offer (Some channel) n =
     cond_both (is_extended channel.kind) (with_token script past offer (unspent past offer.token channel)) (Some custom_error.NotOpen)
-    (λ r. r ≡ None → IsMiners (FromMiner offer)) (λ t with. token-pays script past offer (unspent past offer.token channel) with)
+    (λ r. r ≡ None → IsMiners script (FromMiner offer)) (λ t with. token-pays script past offer (unspent past offer.token channel) with)
     (λ f none. absurd (some-none none)) n
 
 pub custom-none : (o : Option CustomError) → custom_cause o ≡ None → o ≡ None
@@ -115,12 +123,15 @@ custom-none (Some (custom_error.BadPath entries)) n = absurd (some-none n)
 custom-none (Some (custom_error.Coinbase error)) n = absurd (some-none n)
 
 pub legal-custom : (past : List Event) (rules : Rules) (session : ℕ) (offer : CustomData) → rules_of past ≡ Some rules
-    → cause_of past (event.Custom session offer) ≡ None → IsMiners (FromMiner offer)
+    → cause_of past (event.Custom session offer) ≡ None → IsMiners rules.pool_script (FromMiner offer)
 legal-custom past rules session offer are n =
     let u : IsUncaused past (event.Custom session offer) = uncaused past (event.Custom session offer) refl n in
-    channel-pays u.rules.pool_script past offer (own_channel past session offer.channel_id)
-    (custom-none (custom_refusal u.rules.pool_script past session offer)
-    (within-next may_select_work past session (custom_cause (custom_refusal u.rules.pool_script past session offer)) u.none))
+    let same : u.rules ≡ rules = some-same (sym u.are_rules ∙ are) in
+    let none : custom_refusal u.rules.pool_script past session offer ≡ None =
+    custom-none (custom_refusal u.rules.pool_script past session offer)
+    (within-next may_select_work past session (custom_cause (custom_refusal u.rules.pool_script past session offer)) u.none) in
+    subst (λ r. IsMiners r.pool_script (FromMiner offer)) same
+    (channel-pays u.rules.pool_script past offer (own_channel past session offer.channel_id) none)
 
 -- one more job
 pub fits-template : (script : List ℕ) (s : Standing) (job : Job) (future : Bool) → TemplateFits script job.source → JobsFit script s
@@ -151,15 +162,15 @@ fits-tip script s tip at f = record {
   custom = λ j i. elim i [ ];
 }
 
-pub fits-custom : (script : List ℕ) (s : Standing) (job : Job) (channel : ℕ) → IsMiners job.source → JobsFit script s → JobsFit script (with_custom job channel s)
+pub fits-custom : (script : List ℕ) (s : Standing) (job : Job) (channel : ℕ) → IsMiners script job.source → JobsFit script s → JobsFit script (with_custom job channel s)
 fits-custom script s job channel h f = record {
   future = f.future;
   live = f.live;
   custom = λ j i. of_end j (in-end j s.custom (live_at_once job) (in-sixteen j channel (s.custom ++ live_at_once job ∷ []) i));
 } where
-  of_end : (j : Job) → In j s.custom ⊎ (j ≡ live_at_once job) → IsMiners j.source
+  of_end : (j : Job) → In j s.custom ⊎ (j ≡ live_at_once job) → IsMiners script j.source
   of_end j (inl i) = f.custom j i
-  of_end j (inr e) = subst (λ x. IsMiners x.source) (sym e) h
+  of_end j (inr e) = subst (λ x. IsMiners script x.source) (sym e) h
 
 pub jobs-fit : (past : List Event) (rules : Rules) → LegalPast past → rules_of past ≡ Some rules → JobsFit rules.pool_script (jobs_of past)
 jobs-fit [] rules l are = absurd (none-some are)
@@ -177,7 +188,6 @@ jobs-fit (event.Custom session custom ∷ older) rules l are =
 jobs-fit (e ∷ older) rules l are = jobs-fit older rules l.0 are
 
 pub own-jobs_read : OwnJobsAreRead
-own-jobs_read before after session custom l =
-    let none : cause_of (past_of before) (event.Custom session custom) ≡ None = none_caused (before ++ event.Custom session custom ∷ after) l before (event.Custom session custom) after refl in
-    let u : IsUncaused (past_of before) (event.Custom session custom) = uncaused (past_of before) (event.Custom session custom) refl none in
-    legal-custom (past_of before) u.rules session custom u.are_rules none
+own-jobs_read before after session custom rules l are =
+    legal-custom (past_of before) rules session custom are
+    (none_caused (before ++ event.Custom session custom ∷ after) l before (event.Custom session custom) after refl)

@@ -1,13 +1,14 @@
 -- The live job with a number, by places: it is the one that the recursion over jobs tells.
-use Rattle.std.proofs.Common.{◌⊎◌, inl, inr, ◌≡◌, ℕ, Bool, true, false, cond, Option, None, Some, List, [], ◌∷◌, ◌++◌, refl, ap, sym, ◌∙◌}
+use Rattle.std.proofs.Common.{arith, ◌<◌, ◌⊎◌, inl, inr, ◌≡◌, ℕ, Bool, true, false, cond, Option, None, Some, List, [], ◌∷◌, ◌++◌, length, refl, ap, sym, ◌∙◌}
 use Rattle.std.proofs.lemmas.Bool.{eq-eqb, eqb-true, false≢true}
-use Rattle.std.specs.Prelude.{filter, find, length, nat_eq}
+use Rattle.std.proofs.lemmas.List.{length-reverse}
+use Rattle.std.specs.Prelude.{filter, find, nat_eq}
 use Rattle.pool_history.specs.declared.events.Event.{Event}
 use Rattle.pool_history.specs.Jobs.{Job, is_own, job_moves, job_numbered, jobs_of, live_job}
 use Rattle.pool_history.specs.Sessions.{past_of}
 use Rattle.pool_history.proofs.PlacesOfJobs.{jobs_are_by_places}
 use Rattle.pool_history.proofs.PlacesOfStates.{AllOwned, Owned, customs_owned}
-use Rattle.history_laws.specs.NineConditions.{IsLiveJob}
+use Rattle.history_laws.specs.NineConditions.{IsLiveJob, LiveJobsByPlaces, LiveJobsSaySince}
 use Rattle.history_laws.proofs.Entrances.{none-some, some-same}
 use Rattle.history_laws.proofs.Keeping.{find-passes}
 use Rattle.history_laws.proofs.Living.{In, LivesSince, alive, find-in, in-left, in-right, jobs-numbered}
@@ -112,3 +113,13 @@ placed-live h n job l =
 -- and it is live since some place of the history
 pub placed-since : (h : List Event) (n : ℕ) (job : Job) → IsLiveJob h n job → LivesSince job (length (past_of h))
 placed-since h n job l = (jobs-numbered (past_of h)).living_since job (placed-alive h n job l).0
+
+pub live-by_places : LiveJobsByPlaces
+live-by_places h n job = (live-placed h n job, placed-live h n job)
+
+pub live-since : LiveJobsSaySince
+live-since h n job is =
+    let l : LivesSince job (length (past_of h)) = placed-since h n job (live-placed h n job is) in
+    let before : l.place < length (past_of h) = l.before in
+    let long : length (past_of h) ≡ length h = length-reverse h in
+    record { place = l.place; live_at = l.live_at; within = omega (arith, before, long) }

@@ -136,15 +136,15 @@ twelve-bytes kind.V1 lead extranonce h rolls =
     omega (arith, whole, most, rolls)
 
 -- a job that is alive is a template's that fits, or a miner's
-pub alive-fits : (script : List ℕ) (s : Standing) (job : Job) → JobsFit script s → In job (s.live ++ s.custom) → TemplateFits script job.source ⊎ IsMiners job.source
+pub alive-fits : (script : List ℕ) (s : Standing) (job : Job) → JobsFit script s → In job (s.live ++ s.custom) → TemplateFits script job.source ⊎ IsMiners script job.source
 alive-fits script s job f i = by_part (in-append job s.live s.custom i) where
-  by_part : In job s.live ⊎ In job s.custom → TemplateFits script job.source ⊎ IsMiners job.source
+  by_part : In job s.live ⊎ In job s.custom → TemplateFits script job.source ⊎ IsMiners script job.source
   by_part (inl i) = inl (f.live job i)
   by_part (inr i) = inr (f.custom job i)
 
 -- a solution fits
 pub solution-fits : (script : List ℕ) (session : ℕ) (share : Share) (with : Admitted) (source : Source)
-    → TemplateFits script source ⊎ IsMiners source → with.job.source ≡ source
+    → TemplateFits script source ⊎ IsMiners script source → with.job.source ≡ source
     → length (extranonce_prefix with.channel.kind with.channel.lead ++ share.extranonce) ≡ 12 → AllByRecursion NoteFits (solution_by script session share with source)
 solution-fits script session share with (FromMiner custom) f is twelve = tt
 solution-fits script session share with (FromTemplate template) (inr m) is twelve = elim m [ ]
@@ -169,7 +169,7 @@ credit-fits rules past told session channel job nonce ntime version extranonce l
     let rolls : length extranonce ≡ rolled_length with.channel.kind with.channel.lead = admission-rolls g.rules past session share with g.good.is_admitted in
     let alive : In with.job ((jobs_of past).live ++ (jobs_of past).custom) =
     find-in (λ j. eqb j.number job) ((jobs_of past).live ++ (jobs_of past).custom) with.job (booked-job past channel job with is) in
-    let fits : TemplateFits rules.pool_script with.job.source ⊎ IsMiners with.job.source =
+    let fits : TemplateFits rules.pool_script with.job.source ⊎ IsMiners rules.pool_script with.job.source =
     alive-fits rules.pool_script (jobs_of past) with.job (jobs-fit past rules l are) alive in
     let credited : Share = credit_share with channel job nonce ntime version extranonce in
     subst (λ r. AllByRecursion NoteFits (flat_map (λ notes. notes)

@@ -9,7 +9,7 @@ use Rattle.pool_history.specs.Jobs.{jobs_of}
 use Rattle.pool_history.specs.Judging.{Admitted}
 use Rattle.pool_history.specs.Sessions.{past_of}
 use Rattle.pool_history.proofs.PlacesOfJobs.{jobs_are_by_places}
-use Rattle.history_laws.specs.NineConditions.{IsOpenChannel, IsRebuiltWith}
+use Rattle.history_laws.specs.NineConditions.{BookingsByPlaces, IsOpenChannel, IsRebuiltWith}
 use Rattle.history_laws.proofs.Crediting.{WasFound, booked-found, with_all, with_job, with_place, with_tip}
 use Rattle.history_laws.proofs.Entrances.{some-same}
 use Rattle.history_laws.proofs.LiveJobs.{live-placed, placed-live}
@@ -44,3 +44,6 @@ placed-booked h channel job with r =
 -- there is one
 pub one-rebuilt : (h : List Event) (channel job : ℕ) (a b : Admitted) → IsRebuiltWith h channel job a → IsRebuiltWith h channel job b → a ≡ b
 one-rebuilt h channel job a b x y = some-same (sym (placed-booked h channel job a x) ∙ placed-booked h channel job b y)
+
+pub bookings-placed : BookingsByPlaces
+bookings-placed h channel job with = (booked-placed h channel job with, placed-booked h channel job with)

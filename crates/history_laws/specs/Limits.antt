@@ -2,8 +2,9 @@
 use Rattle.std.specs.Prelude.{◌≡◌, ◌+◌, ◌^◌, ◌<◌, ◌≤◌, ℕ, Some, Ok, List, [], ◌∷◌, ◌++◌, length}
 use Rattle.std.specs.List.{IsDistinct}
 use Rattle.std.specs.Str.{bytes_eq}
-use Rattle.coinbase.specs.Custom.{total}
+use Rattle.coinbase.specs.Custom.{custom_assembly, total}
 use Rattle.coinbase.specs.Outputs.{outputs_of}
+use Rattle.coinbase.specs.Parts.{Parts}
 use Rattle.coinbase.specs.declared.tx.TxOut.{TxOut}
 use Rattle.pool_history.specs.declared.events.Event.{Event}
 use Rattle.pool_history.specs.declared.events.Event.TheVariants as event
@@ -11,6 +12,7 @@ use Rattle.pool_history.specs.declared.settings.Rules.{Rules}
 use Rattle.pool_history.specs.declared.templates.CustomData.{CustomData}
 use Rattle.pool_history.specs.Crediting.{reward_of}
 use Rattle.pool_history.specs.Jobs.{FromMiner, jobs_of}
+use Rattle.pool_history.specs.Judging.{custom_terms}
 use Rattle.pool_history.specs.Legal.{Legal}
 use Rattle.pool_history.specs.Refusing.{Granted, grant_of, most_channels, most_enters, most_grants, most_opens, most_templates, open_count}
 use Rattle.pool_history.specs.Sessions.{credits, enters, grants, opens, past_of, rules_of, templates}
@@ -56,17 +58,21 @@ pub record SpendsTokens (history : List Event) : Type 0 where
 abbrev pub JobsSpendTokens : Type 0
 JobsSpendTokens = (history : List Event) → Legal history → SpendsTokens history
 
--- the outputs of a miner's own job are read, there is one at least, and together they pay its
--- reward, which is below 2^40
-pub record HasReadOutputs (custom : CustomData) : Type 0 where
+-- a miner's own job that was accepted: its outputs are read, there is one at least, and its
+-- coinbase is put together by the pool's script, to which the reward goes: all that they pay
+-- together, which is below 2^40
+pub record IsPaidJob (script : List ℕ) (custom : CustomData) : Type 0 where
   pub outputs : List TxOut
   pub read : outputs_of custom.coinbase_tx_outputs ≡ Ok outputs
   pub some : 1 ≤ length outputs
+  pub parts : Parts
+  pub assembled : custom_assembly (custom_terms custom) script ≡ Ok (parts, total outputs)
   pub reward : reward_of (FromMiner custom) ≡ total outputs
   pub small : total outputs < 2 ^ 40
 
--- so has each that a legal history brings
+-- so is each that a legal history brings
 abbrev pub OwnJobsAreRead : Type 0
 OwnJobsAreRead =
-    (before after : List Event) (session : ℕ) (custom : CustomData)
-    → Legal (before ++ event.Custom session custom ∷ after) → HasReadOutputs custom
+    (before after : List Event) (session : ℕ) (custom : CustomData) (rules : Rules)
+    → Legal (before ++ event.Custom session custom ∷ after)
+    → rules_of (past_of before) ≡ Some rules → IsPaidJob rules.pool_script custom

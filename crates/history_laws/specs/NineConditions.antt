@@ -16,9 +16,9 @@ use Rattle.pool_history.specs.declared.settings.Rules.{Rules}
 use Rattle.pool_history.specs.declared.templates.TipData.{TipData}
 use Rattle.pool_history.specs.ByPlaces.{IsState, class_at_place, jobs_in, live_jobs, own_jobs, tip_in}
 use Rattle.pool_history.specs.Channels.{OpenChannel, channel_in}
-use Rattle.pool_history.specs.Crediting.{credit_share, first_failed, headers}
+use Rattle.pool_history.specs.Crediting.{booked_with, credit_share, first_failed, headers}
 use Rattle.pool_history.specs.Headers.{rolled_length}
-use Rattle.pool_history.specs.Jobs.{Job, is_open_to, job_numbered}
+use Rattle.pool_history.specs.Jobs.{Job, is_open_to, job_numbered, jobs_of, live_job}
 use Rattle.pool_history.specs.Judging.{Admitted, Share, is_standard, min_ntime_of, outside, rebuilt_header, rolling_mask, version_of}
 use Rattle.pool_history.specs.Sessions.{credits, past_of, script_of}
 use Rattle.history_laws.specs.Places.{channels_from}
@@ -165,3 +165,29 @@ abbrev pub HeadersByPlaces : Type 0
 HeadersByPlaces =
     (history : List Event) (header : List ℕ)
     → IsTrue (list_any (bytes_eq header) (headers (past_of history))) ↔ HasCredited history header
+
+-- the live job with a number that the recursion over jobs tells is the one by places
+abbrev pub LiveJobsByPlaces : Type 0
+LiveJobsByPlaces =
+    (history : List Event) (number : ℕ) (job : Job)
+    → (live_job (jobs_of (past_of history)) number ≡ Some job) ↔ IsLiveJob history number job
+
+-- since when a job is live: since a place of the history
+pub record IsLiveSince (history : List Event) (job : Job) : Type 0 where
+  pub place : ℕ
+  pub live_at : job.live_at ≡ Some place
+  pub within : place < length history
+
+-- so each live job says
+abbrev pub LiveJobsSaySince : Type 0
+LiveJobsSaySince =
+    (history : List Event) (number : ℕ) (job : Job)
+    → live_job (jobs_of (past_of history)) number ≡ Some job → IsLiveSince history job
+
+-- what a credit is booked with, and so its account, its work and whether it is a block, is what
+-- stands by places before it
+abbrev pub BookingsByPlaces : Type 0
+BookingsByPlaces =
+    (history : List Event) (channel job : ℕ) (with : Admitted)
+    → (booked_with (past_of history) channel job ≡ Some with)
+    ↔ IsRebuiltWith history channel job with

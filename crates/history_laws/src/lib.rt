@@ -21,7 +21,10 @@ pub use answers::{
     answers_fit, answers_keep_legality, briefs_roll, credits_are_committed, shares_are_briefed,
     shares_are_judged, shares_need_a_session,
 };
-pub use conditions::{conditions_stand_by_themselves, headers_by_places};
+pub use conditions::{
+    bookings_by_places, conditions_stand_by_themselves, headers_by_places, live_jobs_by_places,
+    live_jobs_say_since,
+};
 pub use credited::{credits_are_booked, credits_fit, credits_have_headers, no_share_twice};
 pub use kept_jobs::{kept_jobs_move, kept_jobs_suffice};
 pub use legality::{

@@ -14,8 +14,9 @@ pub fn jobs_spend_tokens()
     ensures { JobsSpendTokens }
 {}
 
-/// The outputs of each job of a miner's own are read, there is one at least, and together they pay
-/// its reward, which is below 2^40 satoshis.
+/// Each job of a miner's own was put together by the pool's script: its outputs are read, there is
+/// one at least, what has a value pays to that script, and together they pay its reward, which is
+/// below 2^40 satoshis.
 pub fn own_jobs_are_read()
     ensures { OwnJobsAreRead }
 {}

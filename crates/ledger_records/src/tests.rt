@@ -1,5 +1,5 @@
 //! Records in bytes that were written apart from this crate: each kind, what is none, and the
-//! worked session in both formats.
+//! worked session in the format with hashes.
 
 ghost use Rattle.std.specs.Prelude.{IfOk};
 ghost use Rattle.pool_history.specs.Ledger.{HasRecord};
