@@ -208,6 +208,7 @@ impl Tally {
         requires few { self.old.pushes + 1 < 2 ^ 24 }
         ensures told { OnOk result (RemembersPush self.old self.new account.now work) }
         ensures summed { OnOk result (SumsPush self.old self.new account.now work) }
+        ensures window { OnOk result (self.new.window ≡ self.old.window) }
         ensures err { OnErr result (DiffersInRoom self.old self.new) }
     {
         self.make_room()?;
@@ -223,6 +224,7 @@ impl Tally {
         requires unsettled { IsTrue self.old.unsettled }
         ensures settled { IfOk result (SettlesBlock self.old self.new reward fee) }
         ensures summed { OnOk result (SumsBlock self.old self.new reward fee) }
+        ensures window { OnOk result (self.new.window ≡ self.old.window) }
         ensures whole { IfOk result (λ settled.
             sum_by (λ paid. paid.amount) settled.payments + settled.pool ≡ reward) }
         ensures err { OnErr result (self.new ≡ self.old) }
@@ -269,6 +271,7 @@ impl Tally {
         requires fits { Fits self.old plan }
         ensures applied { Applies self.old self.new plan.account plan.work plan.block result }
         ensures summed { SumsPlan self.old self.new plan.account plan.work plan.block }
+        ensures window { self.new.window ≡ self.old.window }
     {
         let TallyPlan {
             account,

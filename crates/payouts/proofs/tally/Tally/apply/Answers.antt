@@ -34,6 +34,7 @@ returns-in-None c = record {
   summed = subst (λ plan. SumsPlan c.args.self.now c.take_in.new.self plan.account plan.work plan.block) c.plan.view_is
       (subst (λ block. SumsPlan c.args.self.now c.take_in.new.self (string_bytes c.plan.inside.account) c.plan.inside.work (option_map (λ (b : PlannedBlock). record { reward = b.reward; fee = b.fee; listed = b.sheet }) block)) (sym c.in-None.is)
       (summed_push c.args.self.now c.take_in.new.self (string_bytes c.plan.inside.account) c.plan.inside.work c.take_in.ensures.pushed));
+  window = c.take_in.ensures.pushed.window_stays;
 }
 
 pub returns-in-Some : goal.returns-in-Some
@@ -45,4 +46,5 @@ returns-in-Some c = record {
       (subst (λ block. SumsPlan c.args.self.now c.close.new.self (string_bytes c.plan.inside.account) c.plan.inside.work (option_map (λ (b : PlannedBlock). record { reward = b.reward; fee = b.fee; listed = b.sheet }) block)) (sym c.in-Some.is)
       (summed_settled_push c.args.self.now c.take_in.new.self c.close.new.self (string_bytes c.plan.inside.account) c.plan.inside.work c.in-Some.block.reward c.in-Some.block.fee c.plan.invariant.some c.take_in.ensures.pushed
       (summed_block c.take_in.new.self c.close.new.self c.in-Some.block.reward c.in-Some.block.fee c.close.result c.close.ensures.ends.window_stays c.close.ensures.ends.accounts_stay c.close.ensures.ends.works_stay c.close.ensures.settled c.close.ensures.pays)));
+  window = c.close.ensures.ends.window_stays ∙ c.take_in.ensures.pushed.window_stays;
 }

@@ -22,3 +22,6 @@ returns-clause-settled c = told_settled c.args.self.now c.close.new.self c.args.
 pub returns-clause-summed : goal.returns-clause-summed
 returns-clause-summed c =
     summed_block c.args.self.now c.close.new.self c.args.reward c.args.fee c.close.result c.close.ensures.ends.window_stays c.close.ensures.ends.accounts_stay c.close.ensures.ends.works_stay c.close.ensures.settled c.close.ensures.pays
+
+pub returns-clause-window : goal.returns-clause-window
+returns-clause-window c = c.close.ensures.ends.window_stays
