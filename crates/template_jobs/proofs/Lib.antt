@@ -1,6 +1,7 @@
 mod Joined
 mod Listed
 mod Mapped
+mod OwnCounted
 mod Parts
 mod Rising
 mod Surplus

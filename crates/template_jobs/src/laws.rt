@@ -7,7 +7,8 @@ pub fn moves_are_told()
     ensures { MovesAreTold }
 {}
 
-/// A table that was told a history's moves answers by that history's jobs.
+/// A table that was told a history's moves answers by that history's jobs, has counted its
+/// templates, and refuses each template as after that history.
 pub fn histories_are_read()
     ensures { HistoriesAreRead }
 {}
