@@ -16,7 +16,7 @@ pub(crate) struct JobContent {
 }
 
 impl Model for JobContent {
-    ghost use Rattle.std.specs.Prelude.{◌≡◌};
+    ghost use Rattle.std.specs.Prelude.{◌≡◌, ◌^◌, ◌<◌};
     ghost use Rattle.pool_history.specs.Crediting.{reward_of};
     ghost use Rattle.template_jobs.specs.HeldJobs as held;
 
@@ -27,11 +27,12 @@ impl Model for JobContent {
       coinbase = content.coinbase;
     } };
 
-    ghost invariant = { λ content. content.reward ≡ reward_of (held.source_of content.origin) };
+    ghost invariant = { λ content.
+        (content.reward ≡ reward_of (held.source_of content.origin)) × (content.reward < 2 ^ 40) };
 }
 
 impl JobContent {
-    ghost use Rattle.std.specs.Prelude.{◌≡◌, ◌≤◌, length, IfOk};
+    ghost use Rattle.std.specs.Prelude.{◌≡◌, ◌^◌, ◌<◌, ◌≤◌, length, IfOk};
     ghost use Rattle.coinbase.specs.Custom.{custom_assembly};
     ghost use Rattle.coinbase.specs.Coin.{template_assembly};
     ghost use Rattle.pool_history.specs.Crediting.{reward_of};
@@ -132,7 +133,8 @@ impl JobContent {
     }
 
     pub(crate) fn reward(&self) -> u64
-        ensures { result ≡ reward_of self.now.source }
+        ensures value { result ≡ reward_of self.now.source }
+        ensures small { result < 2 ^ 40 }
     {
         self.reward
     }

@@ -30,7 +30,7 @@ impl Model for Job {
 }
 
 impl Job {
-    ghost use Rattle.std.specs.Prelude.{◌≡◌};
+    ghost use Rattle.std.specs.Prelude.{◌≡◌, ◌^◌, ◌<◌};
     ghost use Rattle.pool_history.specs.Jobs.{has_template, is_own};
     ghost use Rattle.pool_history.specs.Crediting.{reward_of};
     ghost use Rattle.pool_history.specs.Judging.{path_of, version_of};
@@ -120,7 +120,8 @@ impl Job {
 
     /// In satoshis.
     pub fn reward(&self) -> u64
-        ensures { result ≡ reward_of self.now.source }
+        ensures value { result ≡ reward_of self.now.source }
+        ensures small { result < 2 ^ 40 }
     {
         self.content.reward()
     }

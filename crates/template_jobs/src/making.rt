@@ -1,6 +1,6 @@
 //! Coinbases of templates and of miners' own jobs, and copies of what they are made from.
 
-ghost use Rattle.std.specs.Prelude.{◌≡◌, ◌≤◌, length, IfOk};
+ghost use Rattle.std.specs.Prelude.{◌≡◌, ◌^◌, ◌<◌, ◌≤◌, length, IfOk};
 ghost use Rattle.coinbase.specs.Coin.{template_assembly, template_parts};
 ghost use Rattle.coinbase.specs.Custom.{custom_assembly};
 ghost use Rattle.pool_history.specs.Crediting.{reward_of};
@@ -24,6 +24,7 @@ pub(crate) fn template_coinbase(
     requires short { length script.now ≤ 100 }
     ensures made { IfOk result (λ parts. parts
         ≡ template_parts (template_terms template.now) script.now) }
+    ensures small { IfOk result (λ parts. template.now.coinbase_tx_value_remaining < 2 ^ 40) }
     ensures refusal { RefusesAsTold result
         (coinbase_refusal (template_assembly (template_terms template.now) script.now)) }
 {
@@ -53,6 +54,7 @@ pub(crate) fn custom_coinbase(
     requires short { length script.now ≤ 100 }
     ensures made { IfOk result (λ made. made.0 ≡ job_parts (FromMiner custom.now) script.now) }
     ensures reward { IfOk result (λ made. made.1 ≡ reward_of (FromMiner custom.now)) }
+    ensures small { IfOk result (λ made. made.1 < 2 ^ 40) }
     ensures refusal { RefusesAsMade result
         (custom_assembly (custom_terms custom.now) script.now) }
 {
