@@ -1,6 +1,7 @@
 -- A channel is changed where it stands.
 use Rattle.std.proofs.Common.{◌≡◌, ℕ, ◌≤◌, Bool, true, false, cond, Option, None, Some, is_some, List, [], ◌∷◌, arith, length, map, refl, ap, subst, sym, ◌∙◌}
 use Rattle.std.proofs.Math.Dec.{eqb}
+use denote.Struct.Props.{props}
 use Rattle.std.proofs.lemmas.Bool.{eqb-true, false≢true}
 use Rattle.std.specs.List.{AllByRecursion, IsDistinct}
 use Rattle.std.specs.Option.{option_map}
@@ -8,6 +9,7 @@ use Rattle.std.specs.Map.{keys_of, lookup, set_value}
 use Rattle.history_laws.proofs.Entrances.{none-some, some-same}
 use Rattle.history_laws.proofs.Legalities.{some-none}
 use Rattle.history_laws.specs.Openings.{AreLeadsApart}
+use Rattle.pool_history.specs.declared.events.Kind.TheVariants.{Standard}
 use Rattle.pool_history.specs.Channels.{ClassSet, OpenChannel, account_or, channel_in, last_class, with_class, with_name}
 use Rattle.prefix_space.specs.HeldLeads.{is_held}
 use Rattle.channels.specs.declared.channel.Channel.{Channel}
@@ -154,11 +156,18 @@ found-below opened id c (e ∷ entries) all found = by_test (eqb id e.0) refl fo
   by_test true is found rest = subst (λ n. n ≤ opened) (sym (eqb-true id e.0 is)) all.0
   by_test false is found rest = rest found
 
+-- whatever proves the fact that a channel's type carries
+pub same-facts : (c : Channel) (whole : c.kind ≡ Standard → length c.lead ≡ 4) → c ≡ record c { standard_is_whole = whole }
+same-facts c whole =
+    let facts : IsProp (c.kind ≡ Standard → length c.lead ≡ 4) = hlevel props in
+    ap (λ w. record c { standard_is_whole = w }) (facts c.standard_is_whole whole)
+
 -- a channel without account gets it, and one that has some keeps it
-pub first-named : (account : List ℕ) (c : Channel) → eqb (length c.account) 0 ≡ true → named_channel account c ≡ record c { account = account }
-first-named account c none = by_account c.account none where
-  by_account : (l : List ℕ) → eqb (length l) 0 ≡ true → record c { account = account_or l account } ≡ record c { account = account }
-  by_account [] none = refl
+pub first-named : (account : List ℕ) (c : Channel) (whole : c.kind ≡ Standard → length c.lead ≡ 4) → eqb (length c.account) 0 ≡ true
+    → named_channel account c ≡ record c { account = account; standard_is_whole = whole }
+first-named account c whole none = by_account c.account none where
+  by_account : (l : List ℕ) → eqb (length l) 0 ≡ true → record c { account = account_or l account } ≡ record c { account = account; standard_is_whole = whole }
+  by_account [] none = same-facts (record c { account = account }) whole
   by_account (byte ∷ bytes) none = let e : length (byte ∷ bytes) ≡ 0 = eqb-true (length (byte ∷ bytes)) 0 none in absurd (omega (arith, e))
 
 pub later-named : (account : List ℕ) (c : Channel) → eqb (length c.account) 0 ≡ false → named_channel account c ≡ c
@@ -167,15 +176,23 @@ later-named account c some = by_account c.account some where
   by_account [] some = absurd (false≢true (sym some))
   by_account (byte ∷ bytes) some = refl
 
-pub first-written : (account : List ℕ) (id : ℕ) (c : Channel) (entries : List (ℕ × Channel)) → IsDistinct eqb (keys_of entries) → lookup (eqb id) entries ≡ Some c
-    → eqb (length c.account) 0 ≡ true → set_value (eqb id) entries (record c { account = account }) ≡ with_changed (named_channel account) id entries
-first-written account id c entries apart found none =
-    ap (λ w. set_value (eqb id) entries w) (sym (first-named account c none)) ∙ found-changed (named_channel account) id c entries apart found
+pub first-written : (account : List ℕ) (id : ℕ) (c : Channel) (whole : c.kind ≡ Standard → length c.lead ≡ 4) (entries : List (ℕ × Channel)) → IsDistinct eqb (keys_of entries)
+    → lookup (eqb id) entries ≡ Some c → eqb (length c.account) 0 ≡ true
+    → set_value (eqb id) entries (record c { account = account; standard_is_whole = whole }) ≡ with_changed (named_channel account) id entries
+first-written account id c whole entries apart found none =
+    ap (λ w. set_value (eqb id) entries w) (sym (first-named account c whole none)) ∙ found-changed (named_channel account) id c entries apart found
 
 pub later-written : (account : List ℕ) (id : ℕ) (c : Channel) (entries : List (ℕ × Channel)) → IsDistinct eqb (keys_of entries) → lookup (eqb id) entries ≡ Some c
     → eqb (length c.account) 0 ≡ false → set_value (eqb id) entries c ≡ with_changed (named_channel account) id entries
 later-written account id c entries apart found some =
     ap (λ w. set_value (eqb id) entries w) (sym (later-named account c some)) ∙ found-changed (named_channel account) id c entries apart found
+
+-- another class is written
+pub class-written : (class id : ℕ) (c : Channel) (whole : c.kind ≡ Standard → length c.lead ≡ 4) (entries : List (ℕ × Channel)) → IsDistinct eqb (keys_of entries)
+    → lookup (eqb id) entries ≡ Some c
+    → set_value (eqb id) entries (record c { class = class; standard_is_whole = whole }) ≡ with_changed (reclassed_channel class) id entries
+class-written class id c whole entries apart found =
+    ap (λ w. set_value (eqb id) entries w) (sym (same-facts (reclassed_channel class c) whole)) ∙ found-changed (reclassed_channel class) id c entries apart found
 
 -- an open channel was opened
 pub open-below : (opened id : ℕ) (settings : List Setting) (entries : List (ℕ × Channel)) → AllByRecursion (λ e. e.0 ≤ opened) entries

@@ -7,6 +7,7 @@ use Rattle.std.proofs.lemmas.Slice.Eq.{bytes_eq-Decides}
 use Rattle.std.specs.Prelude.{IsPermutation, filter}
 use Rattle.std.specs.List.{AllByRecursion, IsDistinct}
 use Rattle.std.specs.Map.{keys_of, lookup, remove_entry}
+use Rattle.std.specs.Option.{option_map}
 use Rattle.std.specs.Str.{bytes_eq}
 use Rattle.history_laws.specs.Openings.{AreLeadsApart}
 use Rattle.pool_history.specs.Channels.{OpenChannel, channel_in, channels_in}
@@ -18,8 +19,8 @@ use Rattle.history_laws.proofs.Holding.{bytes_eq-self, overlap-comm}
 use Rattle.prefix_space.proofs.Orders.{apart-differ, none-same}
 use Rattle.channels.specs.declared.channel.Channel.{Channel}
 use Rattle.channels.specs.declared.channel.Setting.{Setting}
-use Rattle.channels.specs.Tables.{AreKept, HasItsClass, lead_if_own, shown_channel}
-use Rattle.channels.proofs.Lookups.{eqb-flip, shown_all}
+use Rattle.channels.specs.Tables.{AreKept, HasItsClass, channel_if_own, kept_channel, kept_of, lead_if_own, shown_channel}
+use Rattle.channels.proofs.Lookups.{eqb-flip, kept-shown, shown_all}
 
 -- the leads of the channels that are kept
 abbrev pub leads_of : List (ℕ × Channel) → List (List ℕ)
@@ -193,7 +194,7 @@ own-session {settings} {session} {id} {o} {lead} own =
 pub own-lead : (settings : List Setting) (session id : ℕ) (o : Option Channel) (lead : List ℕ) → lead_if_own session o ≡ Some lead → IsOwn settings session id o lead
 own-lead settings session id None lead is = absurd (none-some is)
 own-lead settings session id (Some c) lead is = by_test (eqb c.session session) refl is where
-  by_test : (t : Bool) → eqb c.session session ≡ t → cond t (Some c.lead) None ≡ Some lead → IsOwn settings session id (Some c) lead
+  by_test : (t : Bool) → eqb c.session session ≡ t → option_map (λ k. k.lead) (cond t (Some c) None) ≡ Some lead → IsOwn settings session id (Some c) lead
   by_test true mine found = record {
     channel = c;
     is = refl;
@@ -205,9 +206,26 @@ own-lead settings session id (Some c) lead is = by_test (eqb c.session session) 
 pub own-none : (settings : List Setting) (session id : ℕ) (o : Option Channel) → lead_if_own session o ≡ None → own_in settings session id o ≡ None
 own-none settings session id None is = refl
 own-none settings session id (Some c) is = by_test (eqb c.session session) is where
-  by_test : (t : Bool) → cond t (Some c.lead) None ≡ None → cond t (Some (shown_channel settings id c)) None ≡ None
+  by_test : (t : Bool) → option_map (λ k. k.lead) (cond t (Some c) None) ≡ None → cond t (Some (shown_channel settings id c)) None ≡ None
   by_test true found = absurd (some-none found)
   by_test false found = refl
+
+-- it is kept as it is shown
+pub own-kept : (settings : List Setting) (session id : ℕ) (entries : List (ℕ × Channel)) → AllByRecursion (λ e. HasItsClass settings e.0 e.1) entries
+    → option_map kept_of (channel_if_own session (lookup (eqb id) entries)) ≡ option_map kept_channel (own_in settings session id (lookup (eqb id) entries))
+own-kept settings session id [] all = refl
+own-kept settings session id (e ∷ entries) all = by_test (eqb id e.0) refl (own-kept settings session id entries all.1) where
+  by_session : HasItsClass settings id e.1 → (u : Bool)
+      → option_map kept_of (cond u (Some e.1) None) ≡ option_map kept_channel (cond u (Some (shown_channel settings id e.1)) None)
+  by_session has true = ap (λ k. Some k) (sym (kept-shown settings id e.1 has))
+  by_session has false = refl
+
+  by_test : (t : Bool) → eqb id e.0 ≡ t
+      → option_map kept_of (channel_if_own session (lookup (eqb id) entries)) ≡ option_map kept_channel (own_in settings session id (lookup (eqb id) entries))
+      → option_map kept_of (channel_if_own session (cond t (Some e.1) (lookup (eqb id) entries)))
+      ≡ option_map kept_channel (own_in settings session id (cond t (Some e.1) (lookup (eqb id) entries)))
+  by_test true is rest = by_session (subst (λ n. HasItsClass settings n e.1) (sym (eqb-true id e.0 is)) all.0) (eqb e.1.session session)
+  by_test false is rest = rest
 
 -- the tables fit each other when a channel is closed
 pub closed-kept : (opened : ℕ) (settings : List Setting) (entries : List (ℕ × Channel)) (held given : List (List ℕ)) (session id : ℕ) (lead : List ℕ)

@@ -9,7 +9,7 @@ use Rattle.std.specs.Option.{option_map}
 use Rattle.pool_history.specs.Channels.{OpenChannel, channel_in, channels_in, class_at, class_before}
 use Rattle.channels.specs.declared.channel.Channel.{Channel}
 use Rattle.channels.specs.declared.channel.Setting.{Setting}
-use Rattle.channels.specs.Tables.{HasItsClass, kept_channel, sets_of, shown_channel}
+use Rattle.channels.specs.Tables.{HasItsClass, kept_channel, kept_of, sets_of, shown_channel}
 
 pub eqb-flip : (a b : ℕ) → eqb a b ≡ eqb b a
 eqb-flip a b = by_test (eqb b a) refl where
@@ -34,16 +34,16 @@ channel_in-shown settings (e ∷ entries) id =
       by_test false is rest = rest
 
 -- a channel with its present class is kept as it is shown
-pub kept-shown : (settings : List Setting) (id : ℕ) (c : Channel) → HasItsClass settings id c → kept_channel (shown_channel settings id c) ≡ c
-kept-shown settings id c h = ap (λ n. record c { class = n }) (sym h.class_is)
+pub kept-shown : (settings : List Setting) (id : ℕ) (c : Channel) → HasItsClass settings id c → kept_channel (shown_channel settings id c) ≡ kept_of c
+kept-shown settings id c h = ap (λ n. record (kept_of c) { class = n }) (sym h.class_is)
 
 pub lookup-kept : (settings : List Setting) (entries : List (ℕ × Channel)) (id : ℕ) → AllByRecursion (λ e. HasItsClass settings e.0 e.1) entries
-    → lookup (eqb id) entries ≡ option_map kept_channel (option_map (shown_channel settings id) (lookup (eqb id) entries))
+    → option_map kept_of (lookup (eqb id) entries) ≡ option_map kept_channel (option_map (shown_channel settings id) (lookup (eqb id) entries))
 lookup-kept settings [] id all = refl
 lookup-kept settings (e ∷ entries) id all = by_test (eqb id e.0) refl (lookup-kept settings entries id all.1) where
   by_test : (t : Bool) → eqb id e.0 ≡ t
-      → lookup (eqb id) entries ≡ option_map kept_channel (option_map (shown_channel settings id) (lookup (eqb id) entries))
-      → cond t (Some e.1) (lookup (eqb id) entries)
+      → option_map kept_of (lookup (eqb id) entries) ≡ option_map kept_channel (option_map (shown_channel settings id) (lookup (eqb id) entries))
+      → option_map kept_of (cond t (Some e.1) (lookup (eqb id) entries))
       ≡ option_map kept_channel (option_map (shown_channel settings id) (cond t (Some e.1) (lookup (eqb id) entries)))
   by_test true is rest = ap (λ c. Some c) (sym (kept-shown settings id e.1 (subst (λ n. HasItsClass settings n e.1) (sym (eqb-true id e.0 is)) all.0)))
   by_test false is rest = rest

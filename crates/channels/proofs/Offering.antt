@@ -62,7 +62,7 @@ on-few table rules session ask is =
     (or-none (not (has_too_many_among table.open_channels table.opened session)) (open_error.TooManyChannels (count_among table.open_channels session) table.opened) None after_size).0
 
 pub on-next : (table : ChannelTable) (rules : Rules) (session : ℕ) (ask : OpenAsk) (lead : List ℕ) (class : ℕ) → None ≡ refusal_on table rules session ask
-    → lead_among table.open_channels ask ≡ Some lead → IsNextOpening table session (record { channel = table.opened + 1; class = class; lead = lead })
+    → lead_among table.open_channels ask ≡ Some lead → IsNextOpening table session ask.kind (record { channel = table.opened + 1; class = class; lead = lead })
 on-next table rules session ask lead class is lead-is =
     let len : ℕ = lead_length ask.kind ask.min_size in
     let leads : List (List ℕ) = map (λ c. c.lead) table.open_channels in
@@ -70,4 +70,5 @@ on-next table rules session ask lead class is lead-is =
       few = on-few table rules session ask is;
       next = refl;
       lead_is = subst (λ n. lowest n leads ≡ Some lead) (sym (first_free-length len leads 0 (256 ^ len) lead lead-is)) lead-is;
+      whole = λ is. first_free-length len leads 0 (256 ^ len) lead lead-is ∙ ap (λ k. lead_length k ask.min_size) is;
     }

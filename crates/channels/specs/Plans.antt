@@ -2,6 +2,8 @@
 use Rattle.std.specs.Prelude.{◌≡◌, ℕ, ◌+◌, ◌≤◌, ◌==◌, ◌||◌, ◌⊎◌, false, Option, None, Some, is_some, Result, Ok, Err, List, [], ◌∷◌, length, map, IsTrue}
 use Rattle.std.specs.Str.{bytes_eq}
 use Rattle.pool_history.specs.declared.asking.OpenAsk.{OpenAsk}
+use Rattle.pool_history.specs.declared.events.Kind.{Kind}
+use Rattle.pool_history.specs.declared.events.Kind.TheVariants.{Standard}
 use Rattle.pool_history.specs.declared.refusals.NameError.{NameError}
 use Rattle.pool_history.specs.declared.refusals.NameError.TheVariants as name
 use Rattle.pool_history.specs.declared.refusals.OpenError.{OpenError}
@@ -31,17 +33,21 @@ opened_by (plan.Open at session kind account opened) = Some opened
 opened_by (plan.Name channel account) = None
 opened_by (plan.Class at channel class) = None
 
--- what is opened next for a session: it may open one more, and the id and the lead are the next
-pub record IsNextOpening (table : ChannelTable) (session : ℕ) (opened : Opened) : Type 0 where
+-- what is opened next for a session: it may open one more, the id and the lead are the next, and a
+-- standard channel's lead has four bytes
+pub record IsNextOpening (table : ChannelTable) (session : ℕ) (kind : Kind) (opened : Opened)
+    : Type 0 where
   pub few : has_too_many_among table.open_channels table.opened session ≡ false
   pub next : opened.channel ≡ table.opened + 1
   pub lead_is : lowest (length opened.lead) (map (λ channel. channel.lead) table.open_channels)
       ≡ Some opened.lead
+  pub whole : kind ≡ Standard → length opened.lead ≡ 4
 
 -- there is room for it
-pub record MayOpenNext (table : ChannelTable) (session : ℕ) (opened : Opened) : Type 0 where
+pub record MayOpenNext (table : ChannelTable) (session : ℕ) (kind : Kind) (opened : Opened)
+    : Type 0 where
   pub room : 1 ≤ table.opening_room
-  pub opening : IsNextOpening table session opened
+  pub opening : IsNextOpening table session kind opened
 
 -- a table may set a class: there is room, and the channel is open
 pub record MaySetClass (table : ChannelTable) (channel : ℕ) : Type 0 where
@@ -50,7 +56,7 @@ pub record MaySetClass (table : ChannelTable) (channel : ℕ) : Type 0 where
 
 -- a plan can be applied without memory; so it can as long as the table is as when it was made
 abbrev pub CanApply : ChannelTable → ChannelPlan → Type 0
-CanApply table (plan.Open at session kind account opened) = MayOpenNext table session opened
+CanApply table (plan.Open at session kind account opened) = MayOpenNext table session kind opened
 CanApply table (plan.Name channel account) = Unit {0}
 CanApply table (plan.Class at channel class) = MaySetClass table channel
 

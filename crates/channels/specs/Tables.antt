@@ -2,6 +2,8 @@
 use Rattle.std.specs.Prelude.{◌≡◌, ℕ, ◌≤◌, ◌==◌, if◌then◌else◌, Option, None, Some, List, [], ◌∷◌, filter, length, map, nat_eq, not}
 use Rattle.std.specs.List.{AllByRecursion}
 use Rattle.std.specs.Map.{lookup}
+use Rattle.std.specs.Option.{option_map}
+use Rattle.pool_history.specs.declared.events.Kind.{Kind}
 use Rattle.pool_history.specs.Channels.{ChannelMove, ClassSet, OpenChannel, account_or, channel_in, channels_told, last_class, opened, present_class}
 use Rattle.history_laws.specs.Apart.{AreDisjoint}
 use Rattle.history_laws.specs.Openings.{AreLeadsApart}
@@ -27,8 +29,29 @@ pub record IsTold (table : ChannelTable) (moves : List ChannelMove) : Type 0 whe
   pub opened_are : table.opened ≡ opened moves
   pub channels_are : table.open_channels ≡ channels_told moves
 
+-- what is kept of an open channel
+pub record KeptChannel : Type 0 where
+  pub session : ℕ
+  pub kind : Kind
+  pub account : List ℕ
+  pub lead : List ℕ
+  pub opening_class : ℕ
+  pub class : ℕ
+
+-- what a channel has, all but the fact that its type carries
+abbrev pub kept_of : Channel → KeptChannel
+kept_of channel =
+    record {
+      session = channel.session;
+      kind = channel.kind;
+      account = channel.account;
+      lead = channel.lead;
+      opening_class = channel.opening_class;
+      class = channel.class;
+    }
+
 -- an open channel as it is kept: with its present class
-abbrev pub kept_channel : OpenChannel → Channel
+abbrev pub kept_channel : OpenChannel → KeptChannel
 kept_channel channel =
     record {
       session = channel.session;
@@ -103,10 +126,13 @@ CountsChannels counts entries =
     (session : ℕ) → count_kept (lookup (nat_eq session) counts)
     ≡ length (filter (λ entry. entry.1.session == session) entries)
 
--- the lead of what is kept, where it is a session's
+-- what is kept, where it is a session's, and its lead
+abbrev pub channel_if_own : ℕ → Option Channel → Option Channel
+channel_if_own session None = None
+channel_if_own session (Some channel) = if channel.session == session then Some channel else None
+
 abbrev pub lead_if_own : ℕ → Option Channel → Option (List ℕ)
-lead_if_own session None = None
-lead_if_own session (Some channel) = if channel.session == session then Some channel.lead else None
+lead_if_own session there = option_map (λ channel. channel.lead) (channel_if_own session there)
 
 -- no twelve bytes are in the spaces of the open channels with two ids
 abbrev pub AreSpacesApart : List OpenChannel → ℕ → ℕ → Type 0

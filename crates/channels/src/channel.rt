@@ -1,5 +1,8 @@
 //! An open channel as it is kept.
 
+ghost use Rattle.std.specs.Prelude.{◌≡◌, length};
+ghost use Rattle.pool_history.specs.declared.events.Kind.TheVariants.{Standard};
+
 use pool_history::{Class, Kind, Lead};
 use sv2_types::Str255;
 
@@ -10,11 +13,13 @@ pub struct Channel {
     pub kind: Kind,
     /// Empty where there is none yet.
     pub account: Str255,
+    /// Four bytes for a standard channel.
     pub lead: Lead,
     /// The class that it was opened with.
     pub opening_class: Class,
     /// The present one.
     pub class: Class,
+    pub ghost standard_is_whole: { kind ≡ Standard → length lead ≡ 4 },
 }
 
 /// A class that was set, for which channel, and at which place.

@@ -74,7 +74,7 @@ impl Channels {
     ghost use Rattle.pool_history.specs.Conditions.{found};
     ghost use Rattle.channels.specs.declared.plan.ChannelPlan.TheVariants as plan;
     ghost use Rattle.channels.specs.Plans.{CanApply, IsDoneUnless, IsNextOpening, IsUnless, MayOpenNext, MaySetClass, planned_move, opened_by, opening_on, opening_plan, plan_for};
-    ghost use Rattle.channels.specs.Tables.{IsTold, ShowsSameChannels, kept_channel};
+    ghost use Rattle.channels.specs.Tables.{IsTold, ShowsSameChannels, kept_channel, kept_of};
 
     /// No channel is open, and none was.
     pub fn new(alloc: Global) -> Result<Channels, AllocError>
@@ -92,10 +92,18 @@ impl Channels {
 
     /// An open channel; none where it isn't open.
     pub fn channel(&self, channel: u32) -> Option<&Channel>
-        ensures { option_copied result
+        ensures { option_map kept_of (option_copied result)
             ≡ option_map kept_channel (channel_in self.now.open_channels channel) }
     {
         self.channels.get(&channel)
+    }
+
+    /// A session's open channel; none where it isn't open, or is another session's.
+    pub fn own(&self, session: u32, channel: u32) -> Option<&Channel>
+        ensures { option_map kept_of (option_copied result) ≡ option_map kept_channel
+            (channel_in (channels_in self.now.open_channels session) channel) }
+    {
+        own_channel(&self.channels, session, channel)
     }
 
     /// The class of an open channel at a job that is live since a place: the last that was set
@@ -324,7 +332,7 @@ impl Channels {
     fn opening(&self, session: u32, ask: &OpenAsk, rules: &Rules) -> Result<Opened, OpenError>
         requires { rules.now.least_class ≤ 60 }
         ensures value { result ≡ opening_on self.now rules.now session ask.now }
-        ensures next { IfOk result (λ opened. IsNextOpening self.now session opened) }
+        ensures next { IfOk result (λ opened. IsNextOpening self.now session ask.now.kind opened) }
     {
         let count = count_of(&self.counts, session);
         if let Some(refusal) = opening_refusal(rules, count, self.opened, ask) {
@@ -352,7 +360,7 @@ impl Channels {
             opening_on self.old rules.now session ask.now ≡ Ok ready.0) }
         ensures account { IfOk result (λ ready.
             ready.1 ≡ account_for ask.now.kind ask.now.identity) }
-        ensures ready { IfOk result (λ ready. MayOpenNext self.new session ready.0) }
+        ensures ready { IfOk result (λ ready. MayOpenNext self.new session ask.now.kind ready.0) }
         ensures refused { IfErr result (λ refusal. (refusal ≡ OpenError.Memory)
             ⊎ (opening_on self.old rules.now session ask.now ≡ Err refusal)) }
         ensures same { ShowsSameChannels self.old self.new }
@@ -383,7 +391,7 @@ impl Channels {
 
     /// Opens a channel, for which there is room.
     fn take_opening(&mut self, session: u32, kind: Kind, account: Str255, opened: Opened) -> Opened
-        requires { MayOpenNext self.old session opened }
+        requires { MayOpenNext self.old session kind opened }
         ensures value { result ≡ opened }
         ensures told { (at : ℕ) (moves : List ChannelMove) → IsTold self.old moves
             → IsTold self.new (Opens at session kind account opened.class opened.lead ∷ moves) }
@@ -438,7 +446,7 @@ ghost use Rattle.pool_history.specs.Accounts.{is_empty};
 ghost use Rattle.channels.specs.Plans.{naming_refusal};
 ghost use Rattle.pool_history.specs.Channels.{class_before};
 ghost use Rattle.indexmap.specs.IndexMap.{IsUnique, get};
-ghost use Rattle.channels.specs.Tables.{AreSpacesApart, lead_if_own, sets_of};
+ghost use Rattle.channels.specs.Tables.{AreSpacesApart, channel_if_own, lead_if_own, sets_of};
 
 /// The last setting of a channel before a place.
 fn last_before(settings: &[Setting], channel: u32, place: u64) -> Option<&Setting>
@@ -479,9 +487,10 @@ fn ids_of(
         .collect(alloc)
 }
 
-/// The lead of a session's channel; none where the session has no such channel.
-fn own_lead(channels: &IndexMap<u32, Channel>, session: u32, channel: u32) -> Option<Lead>
-    ensures value { result ≡ lead_if_own session (get nat_eq channels.now channel) }
+/// A session's channel; none where the session has no such channel.
+fn own_channel(channels: &IndexMap<u32, Channel>, session: u32, channel: u32) -> Option<&Channel>
+    ensures value { option_copied result
+        ≡ channel_if_own session (get nat_eq channels.now channel) }
     ensures unique { IsUnique nat_eq channels.now }
 {
     // Says that no id is kept twice.
@@ -489,11 +498,22 @@ fn own_lead(channels: &IndexMap<u32, Channel>, session: u32, channel: u32) -> Op
     match channels.get(&channel) {
         Some(there) => {
             if there.session == session {
-                Some(there.lead)
+                Some(there)
             } else {
                 None
             }
         }
+        None => None,
+    }
+}
+
+/// The lead of a session's channel; none where the session has no such channel.
+fn own_lead(channels: &IndexMap<u32, Channel>, session: u32, channel: u32) -> Option<Lead>
+    ensures value { result ≡ lead_if_own session (get nat_eq channels.now channel) }
+    ensures unique { IsUnique nat_eq channels.now }
+{
+    match own_channel(channels, session, channel) {
+        Some(there) => Some(there.lead),
         None => None,
     }
 }

@@ -200,6 +200,8 @@ fn names_are_given_and_classes_set(rt: HostRuntime) -> Result<(), Fail> {
     assert!(rt; channels.set_class(0, 2, 7, Class::of(60)).is_err());
     assert!(rt; channels.set_class(0, 1, 7, Class::of(60)).is_ok());
     assert!(rt; has(&channels, 1, 60, "a"));
+    assert!(rt; channels.own(0, 1).is_some());
+    assert!(rt; channels.own(1, 1).is_none());
     assert!(rt; counts(&channels, 1, 58));
     Ok(())
 }

@@ -6,8 +6,8 @@ use Rattle.channels.proofs.changes.put_account.Goals as goal
 
 pub returns-then-is_empty-clause-entries : goal.returns-then-is_empty-clause-entries
 returns-then-is_empty-clause-entries c =
-    (c.get_mut.follows.holds (record c.in-Some.there.now { account = c.args.account })).0
-    ∙ first-written c.args.account c.args.id c.in-Some.there.now c.args.channels.now.entries c.get_mut.ensures.unique (sym c.in-Some.ensures.value)
+    (c.get_mut.follows.holds _).0
+    ∙ first-written c.args.account c.args.id c.in-Some.there.now _ c.args.channels.now.entries c.get_mut.ensures.unique (sym c.in-Some.ensures.value)
     (ap (λ l. eqb (length l) 0) (sym c.text.ensures.value) ∙ sym c.is_empty.ensures ∙ c.if-is_empty.true)
 
 pub returns-else-is_empty-clause-entries : goal.returns-else-is_empty-clause-entries

@@ -1,12 +1,12 @@
 use Rattle.std.proofs.Common.{ap, sym, ◌∙◌}
 use Rattle.channels.specs.Tables.{reclassed_channel}
-use Rattle.channels.proofs.Changing.{found-changed, unfound-changed}
+use Rattle.channels.proofs.Changing.{class-written, unfound-changed}
 use Rattle.channels.proofs.changes.put_class.Goals as goal
 
 pub returns-in-Some-clause-entries : goal.returns-in-Some-clause-entries
 returns-in-Some-clause-entries c =
-    (c.get_mut.follows.holds (reclassed_channel c.args.class c.in-Some.there.now)).0
-    ∙ found-changed (reclassed_channel c.args.class) c.args.id c.in-Some.there.now c.args.channels.now.entries c.get_mut.ensures.unique
+    (c.get_mut.follows.holds _).0
+    ∙ class-written c.args.class c.args.id c.in-Some.there.now _ c.args.channels.now.entries c.get_mut.ensures.unique
     (sym c.in-Some.ensures.value)
 
 pub returns-in_default-clause-entries : goal.returns-in_default-clause-entries

@@ -56,7 +56,7 @@ returns-clause-next c =
     let lead : lead_among (shown_all settings entries) c.args.ask.now ≡ Some c.in-Some-lowest.lead =
     sym (held-lowest (lead_length c.args.ask.now.kind c.args.ask.now.min_size) settings entries c.self.inside.space.held c.self.invariant.0.leads)
     ∙ ap (λ n. lowest n c.self.inside.space.held) (sym c.lead_len.ensures.value) ∙ sym c.lowest.ensures ∙ c.in-Some-lowest.is in
-    subst (λ table. IsNextOpening table c.args.session (record { channel = c.self.inside.opened + 1; class = c.class_given.result; lead = c.in-Some-lowest.lead }))
+    subst (λ table. IsNextOpening table c.args.session c.args.ask.now.kind (record { channel = c.self.inside.opened + 1; class = c.class_given.result; lead = c.in-Some-lowest.lead }))
     c.self.view_is
     (on-next (the_view c.self.inside) c.args.rules.now c.args.session c.args.ask.now c.in-Some-lowest.lead c.class_given.result
     (sym c.in_default.is ∙ c.opening_refusal.ensures.refusal (shown_all settings entries) c.args.session count) lead)

@@ -7,6 +7,7 @@ use Rattle.channels.specs.declared.channel.Channel.{Channel}
 use Rattle.channels.specs.declared.channel.Setting.{Setting}
 use Rattle.pool_history.specs.Refusing.{has_too_many_among}
 use Rattle.channels.specs.Tables.{CountsChannels, AreKept}
+use Rattle.channels.proofs.Changing.{same-facts}
 use Rattle.channels.proofs.Counting.{count-joined, few-counted, own_count}
 use Rattle.channels.proofs.Closings.{leads_of}
 use Rattle.channels.proofs.Joining.{held-lowest, joined-kept, later-absent, leads-shown, lowest-free, shown-joined}
@@ -43,13 +44,16 @@ invariant_of-self c =
       lead = c.args.opened.lead;
       opening_class = c.args.opened.class;
       class = c.args.opened.class;
+      standard_is_whole = c.requires.opening.whole;
     } in
+    let put : c.put_channel.new.channels.entries ≡ entries ++ (c.args.opened.channel, channel) ∷ [] =
+    c.put_channel.ensures ∙ ap (λ k. entries ++ (c.args.opened.channel, k) ∷ []) (sym (same-facts channel _)) in
     let next : c.args.opened.channel ≡ c.self.inside.opened + 1 = c.requires.opening.next ∙ sym (ap (λ table. table.opened + 1) c.self.view_is) in
     let free : is_free (leads_of entries) c.args.opened.lead ≡ true =
     lowest-free entries c.args.opened.lead
     (ap (lowest (length c.args.opened.lead)) (sym (leads-shown settings entries))
     ∙ ap (λ table. lowest (length c.args.opened.lead) (map (λ channel. channel.lead) table.open_channels)) c.self.view_is ∙ c.requires.opening.lead_is) in
-    subst (λ es. AreKept c.args.opened.channel settings es c.hold.new.space.held × CountsChannels c.count_opening.new.counts.entries es) (sym c.put_channel.ensures) (
+    subst (λ es. AreKept c.args.opened.channel settings es c.hold.new.space.held × CountsChannels c.count_opening.new.counts.entries es) (sym put) (
       subst (λ id. AreKept id settings (entries ++ (id, channel) ∷ []) c.hold.new.space.held) (sym next)
           (joined-kept c.self.inside.opened settings entries c.self.inside.space.held c.hold.new.space.held channel refl free c.hold.ensures c.self.invariant.0),
       λ session.
@@ -68,12 +72,15 @@ returns-clause-told c at moves told =
       lead = c.args.opened.lead;
       opening_class = c.args.opened.class;
       class = c.args.opened.class;
+      standard_is_whole = c.requires.opening.whole;
     } in
+    let put : c.put_channel.new.channels.entries ≡ entries ++ (c.args.opened.channel, channel) ∷ [] =
+    c.put_channel.ensures ∙ ap (λ k. entries ++ (c.args.opened.channel, k) ∷ []) (sym (same-facts channel _)) in
     let next : c.args.opened.channel ≡ c.self.inside.opened + 1 = c.requires.opening.next ∙ sym (ap (λ table. table.opened + 1) c.self.view_is) in
     record {
       opened_are = c.requires.opening.next ∙ ap (λ n. n + 1) told.opened_are;
       channels_are =
-          ap (shown_all settings) c.put_channel.ensures ∙ ap (λ id. shown_all settings (entries ++ (id, channel) ∷ [])) next
+          ap (shown_all settings) put ∙ ap (λ id. shown_all settings (entries ++ (id, channel) ∷ [])) next
           ∙ shown-joined c.self.inside.opened settings entries channel c.self.invariant.0.settings_are
           ∙ ap (λ table. table.open_channels ++ shown channel (table.opened + 1) ∷ []) c.self.view_is
           ∙ ap (λ l. l ++ shown channel (c.args.self.now.opened + 1) ∷ []) told.channels_are
