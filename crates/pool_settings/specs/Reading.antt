@@ -150,6 +150,15 @@ settings_in settings = do
     feed = feed;
   })
 
+-- what the settings of any file are: rules as a Start event has them, and each other number in the
+-- range of its key
+pub record AreInRange (settings : Settings) : Type 0 where
+  pub rules : are_in_range settings.rules ≡ true
+  pub base : settings.base ≤ 60
+  pub idle_turns : (1 ≤ settings.limits.idle_turns) × (settings.limits.idle_turns ≤ 2 ^ 63 - 1)
+  pub door_turns : (1 ≤ settings.limits.door_turns) × (settings.limits.door_turns ≤ 2 ^ 63 - 1)
+  pub workers : (1 ≤ settings.workers) × (settings.workers ≤ 64)
+
 -- the bytes of a file are settings: at most 65,536 of them, one JSON object
 pub record AreSettings (bytes : List ℕ) (settings : Settings) : Type 0 where
   pub short : length bytes ≤ 65536

@@ -6,7 +6,7 @@ ghost use Rattle.serde_json.specs.View.{view};
 ghost use Rattle.pool_settings.specs.declared.settings.Settings.{Settings};
 ghost use Rattle.std.specs.List.{list_all};
 ghost use Rattle.pool_settings.specs.Keys.{is_known_key, is_settings_object};
-ghost use Rattle.pool_settings.specs.Reading.{AreSettings, IsAnswered, limits_in, settings_in};
+ghost use Rattle.pool_settings.specs.Reading.{AreInRange, AreSettings, IsAnswered, limits_in, settings_in};
 
 use crate::rules::rules_of;
 use crate::settings::{Settings, SettingsError};
@@ -19,6 +19,7 @@ use std::alloc::Global;
 /// file alone. `Bad` where the bytes are no settings.
 pub fn read_settings(alloc: Global, bytes: &[u8]) -> Result<Settings, SettingsError>
     ensures ok { IfOk result (λ settings. AreSettings bytes.now settings) }
+    ensures ranges { IfOk result AreInRange }
     ensures bad { result ≡ Err SettingsError.Bad
         → (settings : Settings) → ¬ AreSettings bytes.now settings }
 {
