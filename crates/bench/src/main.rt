@@ -7,6 +7,7 @@ mod frames;
 mod hash;
 mod jobs;
 mod messages;
+mod openings;
 mod pushes;
 mod shares;
 mod stream;
@@ -19,7 +20,8 @@ use std::fs;
 
 /// What each first word wants behind it.
 const USAGE: &str =
-    "want: hash COUNT, bytes LENGTH COUNT, shares SIBLINGS COUNT, payouts WINDOW COUNT, jobs COUNT, frames or messages";
+    "want: hash COUNT, bytes LENGTH COUNT, shares SIBLINGS COUNT, channels OPEN COUNT, \
+        payouts WINDOW COUNT, jobs COUNT, frames or messages";
 
 fn main(rt: HostRuntime) -> Result<()> {
     let alloc = rt.alloc();
@@ -38,6 +40,12 @@ fn main(rt: HostRuntime) -> Result<()> {
             let status = fs::read_to_string(&rt, "/proc/self/status")?;
             format!(in alloc; "{newest} {}", jobs::greatest_memory(status.as_str()))?
         }
+        "channels" => openings::report(
+            alloc,
+            number(&mut words)?,
+            number(&mut words)?,
+            &mut rt.stdout(),
+        )?,
         "frames" => frames::report(alloc, &mut rt.stdin())?,
         "messages" => messages::report(alloc, &mut rt.stdin())?,
         _ => bail!("{USAGE}"),

@@ -1,7 +1,7 @@
 //! What each benchmark prints. The hashes were worked out apart, by Python's `hashlib`, and the
 //! streams were written by hand.
 
-use crate::{bytes, frames, hash, jobs, messages, pushes, shares};
+use crate::{bytes, frames, hash, jobs, messages, openings, pushes, shares};
 use anyhow::Result;
 
 /// A SetupConnection, a NewTemplate and a SubmitSharesExtended, a frame with the kind of a
@@ -67,5 +67,14 @@ fn messages_are_counted(rt: HostRuntime) -> Result<()> {
     let stream = hex::decode(rt.alloc(), MESSAGES)?;
     let line = messages::report(rt.alloc(), &mut stream.as_slice())?;
     assert_eq!(rt; line.as_str(), "messages 3, others 1, held 2");
+    Ok(())
+}
+
+#[test]
+fn channels_are_opened(rt: HostRuntime) -> Result<()> {
+    let mut output = Vec::new(rt.alloc());
+    let line = openings::report(rt.alloc(), 3, 2, &mut output)?;
+    assert_eq!(rt; line.as_str(), "last 5");
+    assert_eq!(rt; output.as_slice(), b"open 3\n".as_slice());
     Ok(())
 }

@@ -1,0 +1,77 @@
+//! Openings of channels beside so many that are open.
+
+ghost use Rattle.std.specs.Prelude.{◌≡◌};
+
+use anyhow::Result;
+use channels::Channels;
+use pool_history::{Kind, OpenAsk, Rules, Users};
+use std::alloc::{AllocError, Global};
+use std::io::Write;
+use sv2_types::{Blob, Str255, U256};
+
+/// The most channels that a session opens here.
+const OF_A_SESSION: u32 = 1000;
+
+/// The session that opens and closes.
+const LAST: u32 = u32::MAX;
+
+/// Rules by which each user is known.
+fn open_rules(alloc: Global) -> Rules
+    ensures { result.least_class ≡ 0 }
+{
+    Rules {
+        pool_script: Blob::from_vec(Vec::new(alloc)),
+        least_class: 0,
+        fee: 0,
+        window: None,
+        ntime_window: 600,
+        credit_limit: 1,
+        version_rolling: true,
+        users: Users::of(Vec::new(alloc)),
+    }
+}
+
+/// What each opening asks for: a standard channel of the user a.
+fn standard_ask(alloc: Global) -> Result<OpenAsk, AllocError> {
+    let identity = Str255::of(alloc, "a")?;
+    Ok(OpenAsk {
+        kind: Kind::Standard,
+        identity,
+        max_target: U256::of([0xff; 32]),
+        min_size: 0,
+    })
+}
+
+/// Opens so many channels, which stay open.
+fn fill(channels: &mut Channels, count: u32, ask: &OpenAsk, rules: &Rules) -> Result<()>
+    requires { rules.now.least_class ≡ 0 }
+{
+    for number in 0..count {
+        channels.open(number / OF_A_SESSION, u64::from(number), ask, rules)?;
+    }
+    Ok(())
+}
+
+/// Opens and closes a channel so many times, and tells the last one's id.
+fn open_and_close(channels: &mut Channels, count: u32, ask: &OpenAsk, rules: &Rules) -> Result<u32>
+    requires { rules.now.least_class ≡ 0 }
+{
+    let mut last = 0;
+    for number in 0..count {
+        let opened = channels.open(LAST, u64::from(number), ask, rules)?;
+        channels.close(LAST, opened.channel)?;
+        last = opened.channel;
+    }
+    Ok(last)
+}
+
+/// Opens so many channels and says so, and then opens and closes one more so many times.
+pub fn report<W: Write>(alloc: Global, held: u32, count: u32, output: &mut W) -> Result<String> {
+    let (rules, ask) = (open_rules(alloc), standard_ask(alloc)?);
+    let mut channels = Channels::new(alloc)?;
+    fill(&mut channels, held, &ask, &rules)?;
+    writeln!(output, "open {held}")?;
+    output.flush()?;
+    let last = open_and_close(&mut channels, count, &ask, &rules)?;
+    Ok(format!(in alloc; "last {last}")?)
+}
