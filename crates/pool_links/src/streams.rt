@@ -1,0 +1,29 @@
+//! A source and a sink as one connection.
+
+use crate::link::Link;
+use pool_io::{Sink, SinkFailed, Source, Took};
+
+/// What comes from the source and goes to the sink. Both are its fields, so that they can be taken
+/// back.
+pub struct Streams<S: Source, T: Sink> {
+    pub source: S,
+    pub sink: T,
+}
+
+impl<S: Source, T: Sink> Link for Streams<S, T> {
+    ghost read_faults = { λ streams. S.faults streams.source };
+
+    ghost write_faults = { λ streams. T.faults streams.sink };
+
+    ghost left = { λ streams. S.left streams.source };
+
+    ghost held = { λ streams. T.held streams.sink };
+
+    fn take(&mut self, buffer: &mut [u8]) -> Took {
+        self.source.take(buffer)
+    }
+
+    fn put(&mut self, piece: &[u8]) -> Result<usize, SinkFailed> {
+        self.sink.put(piece)
+    }
+}
