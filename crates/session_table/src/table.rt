@@ -79,6 +79,8 @@ impl Sessions {
     pub fn reserve(&mut self) -> Result<(), AllocError>
         ensures room { OnOk result (1 ≤ self.new.room) }
         ensures same { ShowsSameSessions self.old self.new }
+        ensures shown { (past : List Event) → ShowsSessions self.old past
+            → ShowsSessions self.new past }
     {
         self.entrances.reserve(1)?;
         self.presents.reserve(1)

@@ -1,0 +1,17 @@
+//! The tokens that a pool granted for miners' own jobs, and which of them are spent. It knows no
+//! history and no job.
+#![tactic(auto)]
+
+mod granted;
+mod laws;
+mod refusals;
+mod table;
+mod tokens;
+
+pub use granted::Granted;
+pub use laws::other_events_leave_grants;
+pub use refusals::grant_refusal_of;
+pub use table::Grants;
+
+#[cfg(test)]
+mod tests;
