@@ -165,6 +165,12 @@ known_oldest [] weights oldest some is first = absurd (none some) where
   none l = omega (arith, l)
 known_oldest (kept ∷ newer) weights oldest some is first = subst (λ k. k.place < length weights) (sym first) is.each.0.known
 
+some_oldest : (all : List Kept) (weights : List ℕ) (oldest : Kept) → 0 < length all → IsCreditWindow all weights → oldest ≡ get_or all 0 oldest → 1 ≤ oldest.part
+some_oldest [] weights oldest some is first = absurd (none some) where
+  none : 0 < 0 → ⊥
+  none l = omega (arith, l)
+some_oldest (kept ∷ newer) weights oldest some is first = subst (λ k. 1 ≤ k.part) (sym first) is.each.0.some
+
 cut_oldest : (all : List Kept) (weights : List ℕ) (oldest : Kept) (weight cut : ℕ) → 0 < length all → IsCreditWindow all weights
     → oldest ≡ get_or all 0 oldest → weight ≡ get_or weights oldest.place weight → cut ≤ oldest.part → IsCut all weights oldest weight cut
 cut_oldest [] weights oldest weight cut some is first read small = absurd (none some) where
@@ -177,12 +183,14 @@ cut_oldest (kept ∷ newer) weights oldest weight cut some is first read small =
 -- the same of the weight that stands there
 pub record IsCutThere (all : List Kept) (weights : List ℕ) (oldest : Kept) (cut : ℕ) : Type 0 where
   pub known : oldest.place < length weights
+  pub some : 1 ≤ oldest.part
   pub cut_is : IsCut all weights oldest (get_or weights oldest.place 0) cut
 
 pub cut_there : (all : List Kept) (weights : List ℕ) (oldest : Kept) (cut : ℕ) → 0 < length all → IsCreditWindow all weights
     → oldest ≡ get_or all 0 oldest → cut ≤ oldest.part → IsCutThere all weights oldest cut
 cut_there all weights oldest cut some is first small = record {
   known = known_oldest all weights oldest some is first;
+  some = some_oldest all weights oldest some is first;
   cut_is = cut_oldest all weights oldest (get_or weights oldest.place 0) cut some is first
       (get_or_default weights oldest.place 0 (get_or weights oldest.place 0) (known_oldest all weights oldest some is first)) small;
 }

@@ -4,6 +4,8 @@ pub mod Listing
 pub mod Names
 pub mod Paid
 pub mod Ordered
+pub mod Times
+pub mod Slotted
 pub mod Placed
 pub mod Tallied
 pub mod Told

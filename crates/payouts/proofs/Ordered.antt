@@ -1,12 +1,11 @@
 -- Places that rise, and the places that have a weight.
-use Rattle.std.proofs.Common.{◌≡◌, ℕ, ◌+◌, ◌<◌, ◌≤◌, suc, zero, Bool, true, false, cond, nat_eq, nat_lt, map, take, drop, get_or, set, replicate, List, [], ◌∷◌, ◌++◌, length, refl, Result, Ok, Err, sym, ap, ap₂, ◌∙◌, subst, arith}
-use Rattle.std.specs.List.{insert, remove}
+use Rattle.std.proofs.Common.{◌≡◌, ℕ, ◌+◌, ◌<◌, ◌≤◌, suc, zero, Bool, true, false, cond, nat_lt, map, get_or, List, [], ◌∷◌, ◌++◌, length, refl, Result, Ok, Err, sym, ap, ◌∙◌, subst, arith}
+use Rattle.std.specs.List.{insert}
 use Rattle.std.specs.List.Sorted.{IsBinarySearchResult}
 use Rattle.std.specs.Ordering.{nat_cmp}
-use Rattle.std.proofs.lemmas.Bool.{eq-eqb, eqb-true, lt-ltb, le-ltb, ltb-false, ltb-true, ne_eqb}
-use Rattle.std.proofs.lemmas.List.{length-map}
+use Rattle.std.proofs.lemmas.Bool.{lt-ltb, le-ltb, ltb-false, ltb-true}
 use Rattle.std.proofs.lemmas.List.Sorted.{searched}
-use Rattle.payouts.specs.Weights.{IsRisingFrom, weighed_places, with_place, without_place}
+use Rattle.payouts.specs.Weights.{IsRisingFrom, weighed_places, with_place}
 use Rattle.payouts.specs.Window.{added}
 
 -- places by their order
@@ -109,38 +108,6 @@ found least (x ∷ xs) place (suc at) is within same = with-before place x xs le
   less : x < place
   less = omega (arith, rising-least (suc x) xs at is.1 below, same)
 
--- where a place is taken out
-without-same : (gone x : ℕ) (xs : List ℕ) → x ≡ gone → without_place gone (x ∷ xs) ≡ xs
-without-same gone x xs e = ap (λ t. cond t xs (x ∷ without_place gone xs)) (eq-eqb x gone e)
-
-without-other : (gone x : ℕ) (xs : List ℕ) → (x ≡ gone → ⊥) → without_place gone (x ∷ xs) ≡ x ∷ without_place gone xs
-without-other gone x xs other = ap (λ t. cond t xs (x ∷ without_place gone xs)) (ne_eqb x gone other)
-
-pub removed : (least : ℕ) (xs : List ℕ) (gone at : ℕ) → IsRisingFrom least xs → at < length xs → get_or xs at 0 ≡ gone → remove xs at ≡ without_place gone xs
-removed least [] gone at is within same = absurd (none within) where
-  none : at < 0 → ⊥
-  none l = omega (arith, l)
-removed least (x ∷ xs) gone zero is within same = sym (without-same gone x xs same)
-removed least (x ∷ xs) gone (suc at) is within same =
-    ap (λ ys. x ∷ ys) (removed (suc x) xs gone at is.1 below same) ∙ sym (without-other gone x xs other)
-  where
-    below : at < length xs
-    below = omega (arith, within)
-
-    other : x ≡ gone → ⊥
-    other e = omega (arith, rising-least (suc x) xs at is.1 below, same, e)
-
-pub absent : (xs : List ℕ) (gone : ℕ) → ((k : ℕ) → k < length xs → get_or xs k 0 ≡ gone → ⊥) → without_place gone xs ≡ xs
-absent [] gone none = refl
-absent (x ∷ xs) gone none =
-    without-other gone x xs (none 0 some) ∙ ap (λ ys. x ∷ ys) (absent xs gone (λ k l. none (suc k) (up k l)))
-  where
-    some : 0 < suc (length xs)
-    some = omega arith
-
-    up : (k : ℕ) → k < length xs → suc k < suc (length xs)
-    up k l = omega (arith, l)
-
 -- the same, one place further
 
 with-further : (new : ℕ) (xs : List ℕ) → with_place (suc new) (map (λ place. suc place) xs) ≡ map (λ place. suc place) (with_place new xs)
@@ -164,25 +131,6 @@ with-first [] = refl
 with-first (x ∷ xs) = with-behind 0 (suc x) (map (λ place. suc place) xs) less where
   less : 0 < suc x
   less = omega arith
-
-without-further : (gone : ℕ) (xs : List ℕ) → without_place (suc gone) (map (λ place. suc place) xs) ≡ map (λ place. suc place) (without_place gone xs)
-without-further gone [] = refl
-without-further gone (x ∷ xs) = by_test (nat_eq x gone) refl (without-further gone xs) where
-  by_test : (t : Bool) → nat_eq x gone ≡ t
-      → without_place (suc gone) (map (λ place. suc place) xs) ≡ map (λ place. suc place) (without_place gone xs)
-      → without_place (suc gone) (suc x ∷ map (λ place. suc place) xs) ≡ map (λ place. suc place) (cond t xs (x ∷ without_place gone xs))
-  by_test true e more = without-same (suc gone) (suc x) (map (λ place. suc place) xs) (ap (λ n. suc n) (eqb-true x gone e))
-  by_test false e more = without-other (suc gone) (suc x) (map (λ place. suc place) xs) other ∙ ap (λ ys. suc x ∷ ys) more where
-    other : suc x ≡ suc gone → ⊥
-    other same = absurd (differ (omega (arith, same))) where
-      differ : x ≡ gone → ⊥
-      differ s = cc (eq-eqb x gone s)
-
-without-first : (xs : List ℕ) → without_place 0 (map (λ place. suc place) xs) ≡ map (λ place. suc place) xs
-without-first [] = refl
-without-first (x ∷ xs) = without-other 0 (suc x) (map (λ place. suc place) xs) other ∙ ap (λ ys. suc x ∷ ys) (without-first xs) where
-  other : suc x ≡ 0 → ⊥
-  other e = omega (arith, e)
 
 rising-further : (least : ℕ) (xs : List ℕ) → IsRisingFrom least xs → IsRisingFrom (suc least) (map (λ place. suc place) xs)
 rising-further least [] is = tt
@@ -233,113 +181,11 @@ weighed-added (w ∷ ws) (suc place) x some within =
     by_test true more = ap (λ ys. 0 ∷ ys) more ∙ sym (with-before (suc place) 0 (map (λ place. suc place) (weighed_places ws)) (omega arith))
     by_test false more = more
 
--- a weight that goes
-pub weighed-gone : (ws : List ℕ) (place : ℕ) → place < length ws → weighed_places (set ws place 0) ≡ without_place place (weighed_places ws)
-weighed-gone [] place within = absurd (none within) where
-  none : place < 0 → ⊥
-  none l = omega (arith, l)
-weighed-gone (w ∷ ws) zero within = by_test (nat_lt 0 w) where
-  by_test : (t : Bool) → map (λ place. suc place) (weighed_places ws) ≡ without_place 0 (cond t (0 ∷ map (λ place. suc place) (weighed_places ws)) (map (λ place. suc place) (weighed_places ws)))
-  by_test true = sym (without-same 0 0 (map (λ place. suc place) (weighed_places ws)) refl)
-  by_test false = sym (without-first (weighed_places ws))
-weighed-gone (w ∷ ws) (suc place) within =
-    by_test (nat_lt 0 w) (ap (map (λ place. suc place)) (weighed-gone ws place below) ∙ sym (without-further place (weighed_places ws)))
-  where
-    below : place < length ws
-    below = omega (arith, within)
-
-    other : 0 ≡ suc place → ⊥
-    other e = omega (arith, e)
-
-    by_test : (t : Bool) → map (λ place. suc place) (weighed_places (set ws place 0)) ≡ without_place (suc place) (map (λ place. suc place) (weighed_places ws))
-        → cond t (0 ∷ map (λ place. suc place) (weighed_places (set ws place 0))) (map (λ place. suc place) (weighed_places (set ws place 0)))
-        ≡ without_place (suc place) (cond t (0 ∷ map (λ place. suc place) (weighed_places ws)) (map (λ place. suc place) (weighed_places ws)))
-    by_test true more = ap (λ ys. 0 ∷ ys) more ∙ sym (without-other (suc place) 0 (map (λ place. suc place) (weighed_places ws)) other)
-    by_test false more = more
-
--- a weight that changes and stays one
-pub weighed-stays : (ws : List ℕ) (place x : ℕ) → 0 < x → 0 < get_or ws place 0 → weighed_places (set ws place x) ≡ weighed_places ws
-weighed-stays [] place x some was = refl
-weighed-stays (w ∷ ws) zero x some was = weighed-cons x ws some ∙ sym (weighed-cons w ws was)
-weighed-stays (w ∷ ws) (suc place) x some was =
-    ap (λ ps. cond (nat_lt 0 w) (0 ∷ map (λ place. suc place) ps) (map (λ place. suc place) ps)) (weighed-stays ws place x some was)
-
 -- an account more, without a weight
 pub weighed-newcomer : (ws : List ℕ) → weighed_places (ws ++ 0 ∷ []) ≡ weighed_places ws
 weighed-newcomer [] = refl
 weighed-newcomer (w ∷ ws) =
     ap (λ ps. cond (nat_lt 0 w) (0 ∷ map (λ place. suc place) ps) (map (λ place. suc place) ps)) (weighed-newcomer ws)
-
--- there are no more places than weights, and fewer where some weight is 0
-pub weighed-most : (ws : List ℕ) → length (weighed_places ws) ≤ length ws
-weighed-most [] = omega arith
-weighed-most (w ∷ ws) = by_test (nat_lt 0 w) (weighed-most ws) where
-  by_test : (t : Bool) → length (weighed_places ws) ≤ length ws
-      → length (cond t (0 ∷ map (λ place. suc place) (weighed_places ws)) (map (λ place. suc place) (weighed_places ws))) ≤ suc (length ws)
-  by_test true less = omega (arith, length-map (weighed_places ws) (λ (place : ℕ). suc place), less)
-  by_test false less = omega (arith, length-map (weighed_places ws) (λ (place : ℕ). suc place), less)
-
-pub weighed-fewer : (ws : List ℕ) (place : ℕ) → place < length ws → get_or ws place 0 ≡ 0 → length (weighed_places ws) < length ws
-weighed-fewer [] place within none = absurd (empty within) where
-  empty : place < 0 → ⊥
-  empty l = omega (arith, l)
-weighed-fewer (w ∷ ws) zero within none =
-    subst (λ ps. length ps < suc (length ws)) (sym (weighed-skip w ws none)) (omega (arith, length-map (weighed_places ws) (λ (place : ℕ). suc place), weighed-most ws))
-weighed-fewer (w ∷ ws) (suc place) within none = by_test (nat_lt 0 w) (weighed-fewer ws place below none) where
-  below : place < length ws
-  below = omega (arith, within)
-
-  by_test : (t : Bool) → length (weighed_places ws) < length ws
-      → length (cond t (0 ∷ map (λ place. suc place) (weighed_places ws)) (map (λ place. suc place) (weighed_places ws))) < suc (length ws)
-  by_test true less = omega (arith, length-map (weighed_places ws) (λ (place : ℕ). suc place), less)
-  by_test false less = omega (arith, length-map (weighed_places ws) (λ (place : ℕ). suc place), less)
-
--- where no place has a weight, all weights are 0
-map-empty : (xs : List ℕ) → map (λ place. suc place) xs ≡ [] → xs ≡ []
-map-empty [] e = refl
-map-empty (x ∷ xs) e = cc
-
-pub weighed-empty : (ws : List ℕ) → weighed_places ws ≡ [] → ws ≡ replicate (length ws) 0
-weighed-empty [] e = refl
-weighed-empty (w ∷ ws) e = by_test (nat_lt 0 w) refl (weighed-empty ws) e where
-  by_test : (t : Bool) → nat_lt 0 w ≡ t → (weighed_places ws ≡ [] → ws ≡ replicate (length ws) 0)
-      → cond t (0 ∷ map (λ place. suc place) (weighed_places ws)) (map (λ place. suc place) (weighed_places ws)) ≡ [] → w ∷ ws ≡ replicate (suc (length ws)) 0
-  by_test true f more h = cc
-  by_test false f more h = ap₂ (λ n ns. n ∷ ns) zeroed (more (map-empty (weighed_places ws) h)) where
-    zeroed : w ≡ 0
-    zeroed = omega (arith, ltb-false 0 w f)
-
--- each place is one of a weight
-abbrev pub AllBelow : ℕ → List ℕ → Type 0
-AllBelow n [] = Unit
-AllBelow n (x ∷ xs) = (x < n) × AllBelow n xs
-
-below-further : (n : ℕ) (xs : List ℕ) → AllBelow n xs → AllBelow (suc n) (map (λ place. suc place) xs)
-below-further n [] h = tt
-below-further n (x ∷ xs) h = (omega (arith, h.0), below-further n xs h.1)
-
-pub weighed-below : (ws : List ℕ) → AllBelow (length ws) (weighed_places ws)
-weighed-below [] = tt
-weighed-below (w ∷ ws) = by_test (nat_lt 0 w) (below-further (length ws) (weighed_places ws) (weighed-below ws)) where
-  by_test : (t : Bool) → AllBelow (suc (length ws)) (map (λ place. suc place) (weighed_places ws))
-      → AllBelow (suc (length ws)) (cond t (0 ∷ map (λ place. suc place) (weighed_places ws)) (map (λ place. suc place) (weighed_places ws)))
-  by_test true more = (omega arith, more)
-  by_test false more = more
-
-pub below-read : (n : ℕ) (xs : List ℕ) (k : ℕ) → AllBelow n xs → k < length xs → get_or xs k 0 < n
-below-read n [] k h l = absurd (none l) where
-  none : k < 0 → ⊥
-  none m = omega (arith, m)
-below-read n (x ∷ xs) zero h l = h.0
-below-read n (x ∷ xs) (suc k) h l = below-read n xs k h.1 (omega (arith, l))
-
-pub weighed-within : (ws : List ℕ) (k : ℕ) → k < length (weighed_places ws) → get_or (weighed_places ws) k 0 < length ws
-weighed-within ws k within = below-read (length ws) (weighed_places ws) k (weighed-below ws) within
-
--- the first place that has a weight loses it
-pub weighed-next : (ws : List ℕ) (place : ℕ) (places : List ℕ) → place < length ws → weighed_places ws ≡ place ∷ places → weighed_places (set ws place 0) ≡ places
-weighed-next ws place places within is =
-    weighed-gone ws place within ∙ ap (without_place place) is ∙ without-same place place places refl
 
 -- what a search among places comes to
 pub found_at : (xs : List ℕ) (place at : ℕ) (r : Result ℕ ℕ) → IsRisingFrom 0 xs → r ≡ Ok at → IsBinarySearchResult (λ y. nat_cmp y place) xs r
@@ -361,12 +207,3 @@ pub inserted_at : (xs : List ℕ) (place at : ℕ) (r : Result ℕ ℕ) → IsRi
 inserted_at xs place at r is e h =
     let gap : IsGap xs place at = gap_at xs place at r is e h in
     inserted xs place at gap.0 gap.1 gap.2
-
-pub absent_at : (xs : List ℕ) (place at : ℕ) (r : Result ℕ ℕ) → IsRisingFrom 0 xs → r ≡ Err at → IsBinarySearchResult (λ y. nat_cmp y place) xs r
-    → without_place place xs ≡ xs
-absent_at xs place at r is e h = absent xs place (other (gap_at xs place at r is e h)) where
-  other : IsGap xs place at → (k : ℕ) → k < length xs → get_or xs k 0 ≡ place → ⊥
-  other gap k l same = by_side (nat_lt k at) refl where
-    by_side : (t : Bool) → nat_lt k at ≡ t → ⊥
-    by_side true e = omega (arith, gap.1 k (ltb-true k at e), same)
-    by_side false e = omega (arith, gap.2 k (ltb-false k at e) l, same)

@@ -1,8 +1,8 @@
 -- One account more is paid.
-use Rattle.std.proofs.Common.{◌-◌, ap₂, ◌≡◌, ℕ, ◌+◌, ◌*◌, ◌/◌, ◌<◌, ◌≤◌, Bool, true, false, cond, drop, get_or, nat_lt, List, [], ◌∷◌, ◌++◌, length, sum_by, refl, sym, ap, ◌∙◌, subst, arith, le_of_mul-le-mul_right}
+use Rattle.std.proofs.Common.{◌-◌, ap₂, ◌≡◌, ℕ, ◌+◌, ◌*◌, ◌/◌, ◌<◌, ◌≤◌, Bool, true, false, cond, get_or, nat_lt, List, [], ◌∷◌, ◌++◌, sum_by, refl, sym, ap, ◌∙◌, subst, arith, le_of_mul-le-mul_right}
 use Rattle.std.proofs.lemmas.Bool.{ltb-false}
 use Rattle.std.proofs.lemmas.List.{append_assoc}
-use Rattle.std.proofs.lemmas.List.Sums.{sum_by-append, sum_by-cons}
+use Rattle.std.proofs.lemmas.List.Sums.{sum_by-append}
 use Rattle.payout_laws.proofs.Shares.{nothing_paid}
 use Rattle.pool_history.specs.Settling.{Payment, Settled, settled_with}
 use Rattle.payouts.specs.declared.settlement.Listed.{Listed}

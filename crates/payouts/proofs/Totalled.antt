@@ -1,5 +1,5 @@
 -- The sums of a tally follow what it is told.
-use Rattle.std.proofs.Common.{◌≡◌, ℕ, ◌+◌, ◌-◌, ◌*◌, ◌/◌, ◌≤◌, Bool, true, false, cond, bytes_eq, filter, is_some, map, count_by, sum_by, Option, None, Some, List, [], ◌∷◌, ◌++◌, length, refl, sym, ap, ap₂, ◌∙◌, subst, arith}
+use Rattle.std.proofs.Common.{◌≡◌, ℕ, ◌+◌, ◌-◌, ◌*◌, ◌/◌, ◌≤◌, Bool, true, false, cond, bytes_eq, filter, is_some, map, count_by, sum_by, Option, None, Some, List, [], ◌∷◌, ◌++◌, refl, sym, ap, ap₂, ◌∙◌, subst, arith}
 use Rattle.std.specs.List.{list_any}
 use Rattle.std.proofs.lemmas.Bool.{both_ways}
 use Rattle.std.proofs.lemmas.List.Sums.{sum_by-cons}
@@ -8,12 +8,11 @@ use Rattle.payout_laws.proofs.Conserved.{payouts-weighed}
 use Rattle.payout_laws.proofs.Members.{AreAmong, among-with_account, distinct-with_account, parts_of-among, weight-none}
 use Rattle.payout_laws.proofs.Shares.{nothing_paid}
 use Rattle.payout_laws.proofs.Sums.{sum_by-kept}
-use Rattle.pool_history.specs.Accounts.{are_distinct}
 use Rattle.pool_history.specs.Crediting.{Booked}
 use Rattle.pool_history.specs.Settling.{Part, Settled, all_weights, balance, fee_of, paid_to, parts_in_block, settled_at, settlement, settlements, weight, with_account, work_for}
 use Rattle.payouts.specs.Settlements.{as_block, settled_by}
 use Rattle.payouts.specs.Sums.{with_amounts}
-use Rattle.payouts.specs.Tallies.{DiffersInRoom, IsPushed, Remembers, Weighing, account_place, with_newcomer}
+use Rattle.payouts.specs.Tallies.{DiffersInRoom, IsPushed, Remembers, Weighing, with_newcomer}
 use Rattle.payouts.specs.Totals.{HasSums, PaysBlock, SumsBlock, SumsPush}
 use Rattle.payouts.specs.Window.{added, weights_sum}
 use Rattle.payouts.proofs.Placed.{added-map, map-same, map-with_account, place-with_account}

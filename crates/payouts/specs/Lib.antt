@@ -1,3 +1,4 @@
+pub mod Listings
 pub mod Plans
 pub mod Settlements
 pub mod Sheets

@@ -1,5 +1,5 @@
 -- The accounts that a block may pay, and what it pays them (this project's own).
-use Rattle.std.specs.Prelude.{◌≡◌, ℕ, ◌+◌, ◌*◌, ◌/◌, ◌<◌, ◌≤◌, suc, if◌then◌else◌, List, [], ◌∷◌, ◌++◌, length, map, nat_lt, slice_index, slice_index_or}
+use Rattle.std.specs.Prelude.{◌≡◌, ℕ, ◌+◌, ◌*◌, ◌/◌, ◌<◌, suc, if◌then◌else◌, List, [], ◌∷◌, ◌++◌, map, nat_lt, slice_index, slice_index_or}
 use Rattle.pool_history.specs.Settling.{Payment}
 use Rattle.payouts.specs.declared.settlement.Listed.{Listed}
 use Rattle.payouts.specs.Settlements.{payments_by}

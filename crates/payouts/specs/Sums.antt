@@ -1,6 +1,6 @@
 -- The sums of a tally: what its accounts have worked and are owed, what its blocks left the pool,
 -- and how many they were (this project's own).
-use Rattle.std.specs.Prelude.{◌≡◌, ℕ, ◌+◌, ◌-◌, ◌*◌, ◌/◌, ◌<◌, ◌≤◌, ◌^◌, Bool, is_some, if◌then◌else◌, None, min, List, [], ◌∷◌, length, map, count_by, sum_by}
+use Rattle.std.specs.Prelude.{◌≡◌, ℕ, ◌+◌, ◌-◌, ◌*◌, ◌/◌, ◌<◌, ◌≤◌, ◌^◌, Bool, if◌then◌else◌, min, List, [], ◌∷◌, length}
 use Rattle.std.specs.Vec.{vec_len, vec_capacity}
 use Rattle.payouts.specs.declared.sums.Sums.{Sums}
 use Rattle.payouts.specs.Window.{weights_sum}

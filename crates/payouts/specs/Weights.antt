@@ -1,12 +1,14 @@
 -- The weights of the accounts by their places, and the places that have one, in order (this
 -- project's own).
-use Rattle.std.specs.Prelude.{◌≡◌, ℕ, ◌<◌, ◌≤◌, suc, if◌then◌else◌, List, [], ◌∷◌, length, map, nat_eq, nat_lt}
+use Rattle.std.specs.Prelude.{ℕ, ◌≤◌, suc, if◌then◌else◌, List, [], ◌∷◌, map, nat_lt}
 
 -- weights by places
 pub record AccountWeights : Type 0 where
   pub numbers : List ℕ
   -- so many accounts more need no memory
   pub room : ℕ
+  -- so many accounts more can have a weight
+  pub list_room : ℕ
 
 -- the places that have a weight
 abbrev pub weighed_places : List ℕ → List ℕ
@@ -26,17 +28,6 @@ with_place new [] = new ∷ []
 with_place new (place ∷ places) =
     if nat_lt place new then place ∷ with_place new places
     else if nat_lt new place then new ∷ place ∷ places else place ∷ places
-
--- places without one of them
-abbrev pub without_place : ℕ → List ℕ → List ℕ
-without_place gone [] = []
-without_place gone (place ∷ places) =
-    if nat_eq place gone then places else place ∷ without_place gone places
-
--- the places that are kept are those that have a weight, and there is room for all
-pub record IsWeighed (numbers places : List ℕ) (capacity : ℕ) : Type 0 where
-  pub places_are : places ≡ weighed_places numbers
-  pub fits : length numbers ≤ capacity
 
 -- each weight is at most another
 abbrev pub AreAtMost : List ℕ → List ℕ → Type 0

@@ -56,6 +56,7 @@ pub(crate) fn place_for(
         (map string_bytes names.old.keys) sums.old.balances.items }
     ensures pool { sums.new.pool ≡ sums.old.pool }
     ensures blocks { sums.new.blocks ≡ sums.old.blocks }
+    ensures list_room { weights.new.list_room ≡ weights.old.list_room }
     ensures same { length names.new.keys ≡ length weights.new.numbers }
 {
     match names.insert_full(account) {

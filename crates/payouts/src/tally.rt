@@ -71,7 +71,7 @@ impl Model for Tally {
       blocks = tally.sums.blocks;
       pushes = tally.pushes;
       unsettled = tally.unsettled;
-      room = min (min (spare tally.names) tally.weights.room)
+      room = min (min (spare tally.names) (min tally.weights.room tally.weights.list_room))
           (min (rows_left tally.sums) (deque_capacity tally.kept - deque_len tally.kept));
     } };
 
@@ -229,7 +229,8 @@ impl Tally {
             sum_by (λ paid. paid.amount) settled.payments + settled.pool ≡ reward) }
         ensures err { OnErr result (self.new ≡ self.old) }
     {
-        let sheet = Sheet::of(self.alloc, self.names.as_slice(), "", self.weights.places())?;
+        let places = self.weights.sorted_places(self.alloc)?;
+        let sheet = Sheet::of(self.alloc, self.names.as_slice(), "", places.as_slice())?;
         Ok(self.close(sheet, reward, fee))
     }
 
@@ -255,7 +256,8 @@ impl Tally {
         let block = match block {
             None => None,
             Some((reward, fee)) => {
-                let sheet = sheet_with(self.alloc, &self.names, self.weights.places(), account)?;
+                let places = self.weights.sorted_places(self.alloc)?;
+                let sheet = sheet_with(self.alloc, &self.names, places, account)?;
                 Some(PlannedBlock { reward, fee, sheet })
             }
         };
@@ -363,6 +365,7 @@ fn weigh(
     requires keeps { KeepsCredits (window_of rule) kept.old.items weights.old.numbers }
     requires known { IsKeptCredit (length weights.old.numbers) credit }
     requires room { deque_len kept.old < deque_capacity kept.old }
+    requires list_room { 1 ≤ weights.old.list_room }
     requires summed { sum ≡ weights_sum weights.old.numbers }
     requires small { sum + credit.part < 2 ^ 128 }
     ensures adds { AddsCredit (window_of rule) kept.old.items weights.old.numbers credit
@@ -404,19 +407,19 @@ fn end_round(rule: Rule, weights: &mut Weights, sum: u128) -> u128
 fn sheet_with(
     alloc: Global,
     names: &IndexSet<String>,
-    places: &[usize],
+    mut places: Vec<usize>,
     account: &str,
 ) -> Result<Sheet, AllocError>
-    requires rising { IsRisingFrom 0 places.now }
+    requires rising { IsRisingFrom 0 places.items }
     requires short { AllByRecursion (λ account. length account ≤ 255)
         (map string_bytes names.now.keys) }
     requires fits { length account.now ≤ 255 }
     ensures { IfOk result (λ sheet. sheet
         ≡ map (listed_at (map string_bytes names.now.keys) account.now)
-        (with_place (account_place (map string_bytes names.now.keys) account.now) places.now)) }
+        (with_place (account_place (map string_bytes names.now.keys) account.now)
+        places.items)) }
 {
-    let mut all = Vec::from_slice(alloc, places)?;
-    all.reserve(1)?;
-    insert_place(&mut all, place_of(names, account));
-    Sheet::of(alloc, names.as_slice(), account, all.as_slice())
+    places.reserve(1)?;
+    insert_place(&mut places, place_of(names, account));
+    Sheet::of(alloc, names.as_slice(), account, places.as_slice())
 }

@@ -85,6 +85,7 @@ pub(crate) fn enter(
     requires weighed { IsCreditWindow kept.old.items weights.old.numbers }
     requires known { IsKeptCredit (length weights.old.numbers) credit }
     requires room { deque_len kept.old < deque_capacity kept.old }
+    requires list_room { 1 ≤ weights.old.list_room }
     requires summed { sum ≡ weights_sum weights.old.numbers }
     requires within { sum ≤ window }
     ensures kept { kept.new.items ≡ without_oldest

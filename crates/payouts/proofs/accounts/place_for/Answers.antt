@@ -11,7 +11,7 @@ returns-then-is_new-clause-names c = ap (map string_bytes) c.in-Ok.ensures.keys 
 
 pub returns-then-is_new-clause-weights : goal.returns-then-is_new-clause-weights
 returns-then-is_new-clause-weights c =
-    c.push_newcomer.ensures ∙ ap (λ t. cond t (c.args.weights.now.numbers ++ 0 ∷ []) c.args.weights.now.numbers) (sym c.if-is_new.true)
+    c.push_newcomer.ensures.numbers ∙ ap (λ t. cond t (c.args.weights.now.numbers ++ 0 ∷ []) c.args.weights.now.numbers) (sym c.if-is_new.true)
     ∙ numbers-inserted string_bytes c.args.account c.args.names.now.keys c.args.weights.now.numbers c.in-Ok.is_new c.in-Ok.ensures.added
 
 pub returns-then-is_new-clause-works : goal.returns-then-is_new-clause-works

@@ -1,4 +1,4 @@
-use Rattle.std.proofs.Common.{◌∙◌, sym}
+use Rattle.std.proofs.Common.{◌∙◌}
 use Rattle.std.specs.String.{string_bytes}
 use Rattle.payouts.proofs.Names.{placed-none, placed-some}
 use Rattle.payouts.proofs.accounts.place_of.Goals as goal

@@ -1,4 +1,4 @@
-use Rattle.std.proofs.Common.{◌≡◌, ◌+◌, ◌*◌, ◌/◌, ◌≤◌, ◌<◌, ◌∙◌, get_or, length, refl, ap, arith}
+use Rattle.std.proofs.Common.{◌+◌, ◌*◌, ◌≤◌, ◌∙◌, get_or, length, refl, ap, arith}
 use Rattle.std.specs.Vec.Iter.{into_iter_items}
 use Rattle.payouts.specs.Sheets.{listed_weights}
 use Rattle.payouts.specs.Window.{weights_sum}

@@ -1,4 +1,4 @@
-use Rattle.std.proofs.Common.{◌+◌, set, ap, ap₂, ◌∙◌}
+use Rattle.std.proofs.Common.{◌+◌, set, ap₂, ◌∙◌}
 use Rattle.payouts.proofs.Added.{added-set}
 use Rattle.payouts.proofs.sums.add_work.Goals as goal
 

@@ -7,13 +7,13 @@ pub take-requires : goal.take-requires
 take-requires c =
     let whole : IsCutThere c.args.kept.now.items c.args.weights.now.numbers c.index-oldest.result.now c.from-part.result =
     cut_there _ _ _ _ c.requires.some c.requires.weighed c.index-oldest.ensures (omega (arith, c.from-part.ensures)) in
-    record { within = whole.known; enough = whole.cut_is.enough }
+    record { within = whole.known; some = omega (arith, whole.some, c.from-part.ensures); enough = whole.cut_is.enough }
 
 pub take-requires-2 : goal.take-requires-2
 take-requires-2 c =
     let partly : IsCutThere c.args.kept.now.items c.args.weights.now.numbers c.index-oldest.result.now c.args.excess =
     cut_there _ _ _ _ c.requires.some c.requires.weighed c.index-oldest.ensures (omega (arith, c.from-part.ensures, c.if-part-excess.false)) in
-    record { within = partly.known; enough = partly.cut_is.enough }
+    record { within = partly.known; some = omega (arith, c.requires.wanted); enough = partly.cut_is.enough }
 
 whole : (c : goal.After-take) → IsCutThere c.args.kept.now.items c.args.weights.now.numbers c.index-oldest.result.now c.from-part.result
 whole c = cut_there _ _ _ _ c.requires.some c.requires.weighed c.index-oldest.ensures (omega (arith, c.from-part.ensures))

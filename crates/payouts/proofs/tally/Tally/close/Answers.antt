@@ -1,7 +1,7 @@
 use Rattle.std.proofs.Common.{◌≡◌, ◌+◌, ◌-◌, ◌≤◌, sym, ap, ap₂, ◌∙◌, length, subst, sum_by, arith}
 use Rattle.pool_history.specs.Settling.{Payment, fee_of}
 use Rattle.payouts.specs.Settlements.{payments_by}
-use Rattle.payouts.specs.Sheets.{AreListed, ListsWeighed, balances_with, listed_weights, payments_to}
+use Rattle.payouts.specs.Sheets.{AreListed, balances_with, listed_weights, payments_to}
 use Rattle.payouts.specs.Sums.{blocks_by, with_amounts}
 use Rattle.payouts.specs.Tallies.{window_of}
 use Rattle.payouts.specs.Window.{weights_sum}

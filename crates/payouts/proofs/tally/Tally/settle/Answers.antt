@@ -10,7 +10,7 @@ use Rattle.payouts.proofs.tally.Tally.settle.Goals as goal
 pub close-requires-clause-accounts : goal.close-requires-clause-accounts
 close-requires-clause-accounts c =
     let names : map string_bytes c.as_slice.result.now ≡ c.args.self.now.accounts = ap (map string_bytes) c.as_slice.ensures.keys ∙ ap (λ tally. tally.accounts) c.self.view_is in
-    let places : c.places.result.now ≡ weighed_places c.args.self.now.weights = c.places.ensures ∙ ap (λ tally. weighed_places tally.weights) c.self.view_is in
+    let places : c.as_slice-2.result.now ≡ weighed_places c.args.self.now.weights = c.as_slice-2.ensures.value ∙ c.in_ok-places.ensures ∙ ap (λ tally. weighed_places tally.weights) c.self.view_is in
     let long : length c.args.self.now.weights ≡ length c.args.self.now.accounts =
     omega (arith, c.self.invariant.weighed.same_length, ap (λ tally. length tally.weights) c.self.view_is, ap (λ tally. length tally.accounts) c.self.view_is) in
     lists-weighed c.args.self.now.accounts [] c.args.self.now.weights c.in_ok-sheet.sheet long
