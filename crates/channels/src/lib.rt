@@ -13,6 +13,7 @@ mod table;
 pub use accounts::{account_in, is_known_account};
 pub use channel::Channel;
 pub use laws::tables_show_histories;
+pub use openings::class_given;
 pub use plan::ChannelPlan;
 pub use table::{Channels, NotOpen, SetError, spaces_apart};
 

@@ -76,7 +76,7 @@ pub(crate) fn lead_len(kind: Kind, size: u16) -> u8
 }
 
 /// The class that a target gets, which has none above 60.
-pub(crate) fn class_given(rules: &Rules, target: &U256) -> Class
+pub fn class_given(rules: &Rules, target: &U256) -> Class
     requires class { class_of_target target.now ≤ 60 }
     requires least { rules.now.least_class ≤ 60 }
     ensures { result ≡ class_for rules.now target.now }

@@ -164,6 +164,14 @@ impl Jobs {
         is_counted(self.count, id) && !is_others(&self.owners, channel, id)
     }
 
+    /// How many jobs there were, future, live and stale.
+    pub fn count(&self) -> u32
+        ensures value { result ≡ self.now.count }
+        ensures few { result < 2 ^ 21 }
+    {
+        self.count
+    }
+
     /// How many jobs the miners brought.
     pub fn own_count(&self) -> u32
         ensures { result ≡ length self.now.own }

@@ -1,0 +1,3 @@
+mod Admitting
+mod Found
+mod Kept
