@@ -1,1 +1,12 @@
+pub mod Able
+pub mod Chained
+pub mod Changed
+pub mod Entered
+pub mod Later
+pub mod Listened
+pub mod Owed
+pub mod Polled
+pub mod Pushed
+pub mod Sourced
 pub mod Started
+pub mod Walked

@@ -1,2 +1,9 @@
 pub mod Blocks
+pub mod Chains
+pub mod Index
 pub mod Kept
+pub mod Listening
+pub mod Marking
+pub mod Solving
+pub mod Telling
+pub mod Told

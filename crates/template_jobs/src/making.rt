@@ -14,8 +14,9 @@ use pool_history::{CustomData, JobError, TemplateData};
 use std::alloc::{AllocError, Global};
 use sv2_types::{Blob, Hashes};
 
-/// The coinbase of a template's job, with the pool's script.
-pub(crate) fn template_coinbase(
+/// The coinbase of a template's job, with the pool's script. The job of a table has its own; this
+/// puts it together again from the template alone.
+pub fn template_coinbase(
     alloc: Global,
     template: &TemplateData,
     script: &[u8],
