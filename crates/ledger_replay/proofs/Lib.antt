@@ -1,0 +1,4 @@
+mod Caused
+mod ChannelsMoved
+mod JobsMoved
+mod TokensMoved

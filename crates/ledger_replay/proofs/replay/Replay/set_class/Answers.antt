@@ -1,0 +1,41 @@
+use Rattle.std.proofs.Common.{◌≡◌, ◌∷◌, refl, subst}
+use Rattle.pool_history.specs.declared.events.Event.TheVariants as event
+use Rattle.pool_history.specs.Channels.{Sets, channel_moves}
+use Rattle.pool_history.specs.Legal.{may_mine}
+use Rattle.channels.specs.Tables.{IsTold}
+use Rattle.ledger_replay.specs.Replays.{tables_of}
+use Rattle.ledger_replay.proofs.Caused.{by_session}
+use Rattle.ledger_replay.proofs.ChannelsMoved.{channels-same, class-out, class-refused, class-taken, may_become-told}
+use Rattle.ledger_replay.proofs.replay.Replay.set_class.Goals as goal
+
+pub returns-in-Some : goal.returns-in-Some
+returns-in-Some c past was =
+    by_session (tables_of c.args.self.now) past (event.Class c.args.session c.args.channel c.args.class) may_mine c.args.session _ c.in-Some.cause was refl
+    (c.in-Some.ensures past was.sessions_are)
+
+pub returns-in_default-class_in_range : goal.returns-in_default-class_in_range
+returns-in_default-class_in_range c past was =
+    class-out (tables_of c.args.self.now) past c.args.session c.args.channel c.args.class
+    was (c.in_default.ensures past was.sessions_are) (c.in_default-class_in_range.ensures.none refl)
+
+pub returns-then-not-may_change_to : goal.returns-then-not-may_change_to
+returns-then-not-may_change_to c past was =
+    class-refused (tables_of c.args.self.now) past c.args.session c.args.channel c.args.class
+    was (c.in_default.ensures past was.sessions_are)
+    (may_become-told (tables_of c.args.self.now) past c.args.session c.args.channel c.args.class _ _ was
+    c.in-Some-class_in_range.ensures.some.1 c.own.ensures
+    (let given : c.in-Some-class_in_range.class ≡ c.args.class = c.in-Some-class_in_range.ensures.some.0 in cc))
+
+pub returns-in-Ok : goal.returns-in-Ok
+returns-in-Ok c past was =
+    class-taken (tables_of c.args.self.now) c.set_class.new.self past c.args.session c.args.channel c.args.class
+    c.other_events_leave_sessions.ensures c.other_events_leave_grants.ensures was (c.in_default.ensures past was.sessions_are)
+    (may_become-told (tables_of c.args.self.now) past c.args.session c.args.channel c.args.class _ _ was
+    c.in-Some-class_in_range.ensures.some.1 c.own.ensures
+    (let given : c.in-Some-class_in_range.class ≡ c.args.class = c.in-Some-class_in_range.ensures.some.0 in cc))
+    (subst (λ class. IsTold c.set_class.new.self (Sets c.args.self.now.events c.args.channel class ∷ channel_moves past))
+    c.in-Some-class_in_range.ensures.some.0 (c.in-Ok.ensures.told (channel_moves past) was.channels_are))
+
+pub returns-in-Err : goal.returns-in-Err
+returns-in-Err c past was =
+    channels-same (tables_of c.args.self.now) c.set_class.new.self past was c.in-Err.ensures.refused

@@ -1,0 +1,91 @@
+-- What a replay was told, and what it answers (this project's own).
+use Rattle.std.specs.Prelude.{◌≡◌, ℕ, Some, Result, Ok, Err, List, [], ◌∷◌, length}
+use Rattle.channels.specs.Tables.{ChannelTable, IsTold}
+use Rattle.grant_table.specs.Tables.{GrantTable, ShowsGrants}
+use Rattle.pool_history.specs.declared.causes.Cause.{Cause}
+use Rattle.pool_history.specs.declared.causes.Cause.TheVariants as cause
+use Rattle.pool_history.specs.declared.events.Event.{Event}
+use Rattle.pool_history.specs.declared.refusals.JobError.{JobError}
+use Rattle.pool_history.specs.declared.refusals.JobError.TheVariants as job
+use Rattle.pool_history.specs.declared.settings.Rules.{Rules}
+use Rattle.pool_history.specs.Channels.{channel_moves}
+use Rattle.pool_history.specs.Jobs.{job_moves}
+use Rattle.pool_history.specs.Legal.{LegalPast, cause_of}
+use Rattle.pool_history.specs.Sessions.{rules_of}
+use Rattle.session_table.specs.Tables.{SessionTable, ShowsSessions}
+use Rattle.template_jobs.specs.Tables.{HasCoinbases, JobTable}
+use Rattle.template_jobs.specs.Told.{WasTold}
+use Rattle.ledger_replay.specs.declared.error.ReplayError.{ReplayError}
+use Rattle.ledger_replay.specs.declared.error.ReplayError.TheVariants as error
+use Rattle.ledger_replay.specs.declared.replay.Replay.{Replay}
+
+-- the rules, how many events were told, and the tables that were told them
+pub record ReplayTables : Type 0 where
+  pub rules : Rules
+  pub events : ℕ
+  pub sessions : SessionTable
+  pub channels : ChannelTable
+  pub jobs : JobTable
+  pub grants : GrantTable
+
+-- those of a replay
+abbrev pub tables_of : Replay → ReplayTables
+tables_of replay =
+    record {
+      rules = replay.rules;
+      events = replay.events;
+      sessions = replay.sessions;
+      channels = replay.channels;
+      jobs = replay.jobs;
+      grants = replay.grants;
+    }
+
+-- tables were told these events, the last of which stands first, and they are legal
+pub record WereReplayed (tables : ReplayTables) (past : List Event) : Type 0 where
+  pub legal : LegalPast past
+  pub rules_are : rules_of past ≡ Some tables.rules
+  pub events_are : tables.events ≡ length past
+  pub sessions_are : ShowsSessions tables.sessions past
+  pub channels_are : IsTold tables.channels (channel_moves past)
+  pub jobs_are : WasTold tables.jobs (job_moves past)
+  pub coinbases : HasCoinbases tables.rules.pool_script tables.jobs
+  pub grants_are : ShowsGrants tables.grants past
+
+-- a replay was told legal events
+abbrev pub WasReplayed : Replay → List Event → Type 0
+WasReplayed replay past = WereReplayed (tables_of replay) past
+
+-- an event has this cause after others
+abbrev pub HasCause : List Event → Event → Cause → Type 0
+HasCause past event cause = cause_of past event ≡ Some cause
+
+-- one more event was told; or it has this cause, or memory ran out, and no more was told
+abbrev pub IsJudged : List Event → Event → Result Unit ReplayError → ReplayTables → Type 0
+IsJudged past event (Ok done) tables = WereReplayed tables (event ∷ past)
+IsJudged past event (Err (error.Illegal cause)) tables =
+    HasCause past event cause × WereReplayed tables past
+IsJudged past event (Err error.Memory) tables = WereReplayed tables past
+
+-- so it is whatever the replay was told before
+abbrev pub Judges : Replay → Event → Result Unit ReplayError → Replay → Type 0
+Judges old event result new =
+    (past : List Event) → WasReplayed old past → IsJudged past event result (tables_of new)
+
+-- the replay of the first event, or its cause
+abbrev pub Begins : Event → Result Replay ReplayError → Type 0
+Begins event (Ok replay) = WasReplayed replay (event ∷ [])
+Begins event (Err (error.Illegal cause)) = HasCause [] event cause
+Begins event (Err error.Memory) = Unit {0}
+
+-- how many events were told
+abbrev pub event_count : Replay → ℕ
+event_count replay = replay.events
+
+-- what a template's refusal is called
+abbrev pub template_error_of : JobError → ReplayError
+template_error_of job.Memory = error.Memory
+template_error_of (job.TooMany count) = error.Illegal cause.BadTemplate
+template_error_of (job.TemplateKnown id) = error.Illegal cause.BadTemplate
+template_error_of job.NoTip = error.Illegal cause.BadTemplate
+template_error_of (job.UnknownTemplate id) = error.Illegal cause.BadTemplate
+template_error_of (job.Coinbase refusal) = error.Illegal cause.BadTemplate

@@ -1,0 +1,14 @@
+//! The events of a history, replayed one after the other: each is judged by those before it, and
+//! told to tables if it is legal. It keeps no list of events.
+#![tactic(auto)]
+
+mod channel_events;
+mod error;
+mod job_events;
+mod replay;
+mod session_events;
+mod sessions_by;
+mod token_events;
+
+pub use error::ReplayError;
+pub use replay::Replay;

@@ -1,0 +1,73 @@
+//! The replay itself.
+
+ghost use Rattle.std.specs.Prelude.{IsTrue};
+ghost use Rattle.pool_history.specs.Accounts.{are_in_range};
+
+use crate::error::ReplayError;
+use channels::Channels;
+use grant_table::{Grants, other_events_leave_grants};
+use pool_history::{Cause, Event, Rules};
+use pool_settings::are_rules_in_range;
+use session_table::{Sessions, other_events_leave_sessions};
+use std::alloc::{AllocError, Global};
+use template_jobs::Jobs;
+
+/// What was told of a legal history so far: its rules, how many events it has, and tables that were
+/// told each of them.
+#[derive(Drop)]
+pub struct Replay {
+    pub(crate) rules: Rules,
+    pub(crate) events: u64,
+    pub(crate) sessions: Sessions,
+    pub(crate) channels: Channels,
+    pub(crate) jobs: Jobs,
+    pub(crate) grants: Grants,
+    pub(crate) ghost in_range: { IsTrue (are_in_range rules) },
+}
+
+impl Replay {
+    ghost use Rattle.std.specs.Prelude.{◌≡◌, [], ◌∷◌, IfOk};
+    ghost use Rattle.pool_history.specs.declared.events.Event.TheVariants as event;
+    ghost use Rattle.ledger_replay.specs.Replays.{Begins, WasReplayed, event_count};
+
+    /// The replay of a first event.
+    pub fn begin(alloc: Global, first: Event) -> Result<Replay, ReplayError>
+        ensures { Begins first result }
+    {
+        let Event::Start(rules) = first else {
+            return Err(ReplayError::Illegal(Cause::BadStart));
+        };
+        if !are_rules_in_range(&rules) {
+            return Err(ReplayError::Illegal(Cause::BadStart));
+        }
+        match Replay::with_rules(alloc, rules) {
+            Ok(replay) => Ok(replay),
+            Err(_) => Err(ReplayError::Memory),
+        }
+    }
+
+    /// How many events were told.
+    pub fn events(&self) -> u64
+        ensures { result ≡ event_count self.now }
+    {
+        self.events
+    }
+
+    /// Tables that were told of these rules alone.
+    fn with_rules(alloc: Global, rules: Rules) -> Result<Replay, AllocError>
+        requires { IsTrue (are_in_range rules) }
+        ensures { IfOk result (λ replay. WasReplayed replay (event.Start rules ∷ [])) }
+    {
+        other_events_leave_sessions();
+        other_events_leave_grants();
+        let channels = Channels::new(alloc)?;
+        Ok(Replay {
+            rules,
+            events: 1,
+            sessions: Sessions::new(alloc),
+            channels,
+            jobs: Jobs::new(alloc),
+            grants: Grants::new(alloc),
+        })
+    }
+}
