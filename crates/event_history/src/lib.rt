@@ -11,3 +11,6 @@ mod notes;
 mod telling;
 
 pub use history::History;
+
+#[cfg(test)]
+mod tests;
