@@ -13,7 +13,7 @@ use Rattle.desk.specs.declared.rule.Note.{Note}
 use Rattle.desk.specs.Machines.{MakesTurn}
 use Rattle.desk.specs.Views.{View, acting_view, joined_view, telling_view}
 use Rattle.desk.specs.Plays.{HasLooked, IsNextCall, IsTaken, call_of, called_view, outcome_of}
-use Rattle.desk.specs.Passes.{FrontsRise, IsAnswered, IsResting, MakesCall, Progress, progress_of}
+use Rattle.desk.specs.Passes.{AreOfWorker, FrontsRise, IsAnswered, IsResting, MakesCall, Progress, progress_of}
 
 module _ {E Q R F : Type 0} where
   pub rise-snoc : (known : ℕ) (calls : List (Call E Q R F)) (now : ℕ) (call : Call E Q R F) → RiseFrom known calls now → now ≤ call.number → RiseFrom known (calls ++ call ∷ []) (call.number + 1)
@@ -32,6 +32,10 @@ module _ {E Q R F : Type 0} where
   pub fronts-on : (reached : ℕ) (calls : List (Call E Q R F)) (now later : ℕ) → FrontsRise reached calls now → now ≤ later → FrontsRise reached calls later
   fronts-on reached [] now later r le = omega (arith, r)
   fronts-on reached (c ∷ cs) now later r le = (r.0, fronts-on (c.front + length c.added) cs now later r.1 le)
+
+  own-snoc : (worker : ℕ) (calls : List (Call E Q R F)) (call : Call E Q R F) → AreOfWorker worker calls → call.worker ≡ worker → AreOfWorker worker (calls ++ call ∷ [])
+  own-snoc worker [] call own is = (is, tt)
+  own-snoc worker (c ∷ cs) call own is = (own.0, own-snoc worker cs call own.1 is)
 
 begins-length : {X : Type 0} (front whole : List X) → Begins front whole → length front ≤ length whole
 begins-length front whole b = omega (arith, length-append front b.0, ap length b.1)
@@ -182,12 +186,13 @@ module _ {E Q R F S : Type 0} where
             (let a = length-append made.events made.call.added in let b = ap length made.seen in let d = made.front_is in let e = made.at_front in omega arith)
             (fronts-snoc 0 me.0.calls (length me.0.seen) made.call rests.fronts
             (let b = begins-length me.0.seen made.events made.seen_before in let d = made.front_is in let e = made.at_front in omega arith)));
+        own = subst (λ (l : List (Call E Q R F)). AreOfWorker worker l) (sym made.calls) (own-snoc worker me.0.calls made.call rests.own made.worker);
       })
 
   -- a look
   pub looked-rests : (worker : ℕ) (me now : Me S (View E Q R F)) (count : ℕ) → me.1 ≡ [] → me.0.has_turn ≡ false → me.0.workers ≡ worker ∷ []
-      → RiseFrom 0 me.0.calls me.0.known → FrontsRise 0 me.0.calls (length me.0.seen) → HasLooked me count now → IsResting worker now
-  looked-rests worker me now count carried turn workers numbers fronts looked =
+      → RiseFrom 0 me.0.calls me.0.known → FrontsRise 0 me.0.calls (length me.0.seen) → AreOfWorker worker me.0.calls → HasLooked me count now → IsResting worker now
+  looked-rests worker me now count carried turn workers numbers fronts own looked =
       subst (λ (m : Me S (View E Q R F)). IsResting worker m) (sym looked.is) (record {
         carried = carried;
         told = refl;
@@ -195,6 +200,7 @@ module _ {E Q R F S : Type 0} where
         workers = workers;
         numbers = rise-on 0 me.0.calls me.0.known count numbers looked.known;
         fronts = fronts-on 0 me.0.calls (length me.0.seen) _ fronts (begins-length me.0.seen _ looked.seen);
+        own = own;
       })
 
   -- a meeting
@@ -203,5 +209,5 @@ module _ {E Q R F S : Type 0} where
   met-rests worker to from me now count rests is looked =
       let met : Me S (View E Q R F) = (joined_view to.0 (telling_view from.0), to.1) in
       looked-rests worker met now count rests.carried rests.turn rests.workers
-      (rise-on 0 to.0.calls to.0.known met.0.known rests.numbers (omega arith)) rests.fronts
+      (rise-on 0 to.0.calls to.0.known met.0.known rests.numbers (omega arith)) rests.fronts rests.own
       (subst (λ (m : Me S (View E Q R F)). HasLooked m count now) is looked)

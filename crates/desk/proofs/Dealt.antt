@@ -1,9 +1,11 @@
 -- How passes are dealt.
 use Rattle.std.proofs.Common.{◌≡◌, ℕ, zero, suc, ◌+◌, ◌-◌, ◌<◌, ◌≤◌, List, [], ◌∷◌, ◌++◌, map, take, drop, refl, sym, ap, ◌∙◌, subst, arith}
+use Rattle.std.specs.List.{AllByRecursion}
+use Rattle.std.proofs.lemmas.List.Elements.{All-from_recursion}
 use Rattle.atomic_table.specs.Table.{Me}
 use Rattle.atomic_table.specs.Seated.{TableId}
 use Rattle.desk.specs.Views.{View, dealt_view, fresh_view, left_view, workers_from}
-use Rattle.desk.specs.Passes.{IsResting, Progress, fresh_passes, progress_of}
+use Rattle.desk.specs.Passes.{HasJustOpened, IsResting, Opening, Progress, fresh_passes, progress_of}
 
 first-worker : (first count : ℕ) → 0 < count → workers_from first count ≡ first ∷ workers_from (first + 1) (count - 1)
 first-worker first zero some = absurd (omega arith)
@@ -27,6 +29,7 @@ module _ {E Q R F S : Type 0} where
     workers = refl;
     numbers = omega arith;
     fronts = omega arith;
+    own = tt;
   })
 
   pub deals-next : (worker count : ℕ) (start : List E) (me next : Me S (View E Q R F)) → worker < count → me ≡ (fresh_view start (workers_from worker (count - worker)), [])
@@ -67,3 +70,20 @@ module _ {E Q R F : Type 0} where
       let e : count - worker ≡ 1 = omega arith in
       let k : worker ≡ count - 1 = omega arith in
       is ∙ ap (λ (n : ℕ). (fresh_view start (workers_from worker n), [])) e ∙ ap (λ (w : ℕ). (fresh_view start (w ∷ []), [])) k
+
+-- all of them are the desk's
+fresh-tables : (E Q R F : Type 0) (table : TableId) (start : List E) (workers : List ℕ)
+    → AllByRecursion (λ (pass : Progress E Q R F). pass.table ≡ table) (fresh_passes {Q = Q} {R = R} {F = F} table start workers)
+fresh-tables E Q R F table start [] = tt
+fresh-tables E Q R F table start (worker ∷ workers) = (refl, fresh-tables E Q R F table start workers)
+
+module _ {E Q R F M : Type 0} where
+  pub just-opened : (events_of : M → List E) (machine : M) (count : ℕ) (desk : Opening M) (passes : List (Progress E Q R F)) → desk.start ≡ machine → desk.count ≡ count
+      → passes ≡ fresh_passes desk.table (events_of machine) (workers_from 0 count) → HasJustOpened events_of machine count desk passes
+  just-opened events_of machine count desk passes start dealt are = record {
+    start = start;
+    dealt = dealt;
+    passes_are = are;
+    tables = All-from_recursion (λ (pass : Progress E Q R F). pass.table ≡ desk.table) passes
+        (subst (AllByRecursion (λ (pass : Progress E Q R F). pass.table ≡ desk.table)) (sym are) (fresh-tables E Q R F desk.table (events_of machine) (workers_from 0 count)));
+  }

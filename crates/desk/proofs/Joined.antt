@@ -26,6 +26,8 @@ module _ {E Q R F S : Type 0} where
     calls = sym (append-nil me.0.calls);
     workers = rests.workers;
     seen = (begins-itself me.0.seen, tt);
+    rise = ((rests.numbers, rests.fronts), tt);
+    own = (rests.own, tt);
   }
 
   pub joined-more : (done : List (Progress E Q R F)) (me other both now : Me S (View E Q R F)) (worker : ℕ) (table : TableId) (count : ℕ) → IsJoined done me → IsResting worker other
@@ -41,6 +43,8 @@ module _ {E Q R F S : Type 0} where
           looked.told,
           all-map (λ (pass : Progress E Q R F). Begins pass.seen me.0.seen) _ (λ pass b. begins-trans pass.seen me.0.seen _ b looked.seen) done joined.seen,
         );
+        rise = ((rests.numbers, rests.fronts), joined.rise);
+        own = (rests.own, joined.own);
       })
 
 module _ {E Q R F M S : Type 0} (answers : List E → ℕ → Q → List E → R → Type 0) (wants_memory : F → Bool) (events_of : M → List E) (faults_of : M → ℕ) where
@@ -56,6 +60,8 @@ module _ {E Q R F M S : Type 0} (answers : List E → ℕ → Q → List E → R
         begins = begins.0;
         seen = all-map (λ (pass : Progress E Q R F). Begins pass.seen me.0.seen) (λ (pass : Progress E Q R F). Begins pass.seen (events_of machine))
             (λ pass b. begins-trans pass.seen me.0.seen (events_of machine) b ends.seen) passes joined.seen;
+        rise = joined.rise;
+        own = joined.own;
         good = subst (λ (l : List (Call E Q R F)). GoodCalls answers wants_memory (events_of machine) l) joined.calls ends.good;
         parted = parted;
         later = begins.1;

@@ -5,7 +5,7 @@ use Rattle.atomic_table.specs.Table.{Me}
 use Rattle.pool_base.specs.Lists.{Begins}
 use Rattle.calls.specs.Calls.{Call, GoodCalls, Parted}
 use Rattle.desk.specs.Views.{View}
-use Rattle.desk.specs.Passes.{Opening, Progress}
+use Rattle.desk.specs.Passes.{AreOfWorker, CallsRise, Opening, Progress}
 
 abbrev pub workers_of : {E Q R F : Type 0} → List (Progress E Q R F) → List ℕ
 workers_of passes = map (λ pass. pass.worker) passes
@@ -41,6 +41,9 @@ pub record HasClosed {E Q R F M : Type 0} (answers : List E → ℕ → Q → Li
   pub complete : HasEveryWorker desk.count passes
   pub begins : Begins (events_of desk.start) (events_of machine)
   pub seen : AllByRecursion (λ pass. Begins pass.seen (events_of machine)) passes
+  -- the calls of each pass rise, and are those of its worker
+  pub rise : AllByRecursion CallsRise passes
+  pub own : AllByRecursion (λ pass. AreOfWorker pass.worker pass.calls) passes
   pub good : GoodCalls answers wants_memory (events_of machine) (calls_of passes)
   pub parted : Parted (events_of desk.start) (events_of machine) (faults_of desk.start)
       (faults_of machine) (calls_of passes)
@@ -54,6 +57,8 @@ pub record IsJoined {E Q R F S : Type 0} (passes : List (Progress E Q R F))
   pub calls : me.0.calls ≡ calls_of passes
   pub workers : me.0.workers ≡ workers_of passes
   pub seen : AllByRecursion (λ pass. Begins pass.seen me.0.seen) passes
+  pub rise : AllByRecursion CallsRise passes
+  pub own : AllByRecursion (λ pass. AreOfWorker pass.worker pass.calls) passes
 
 -- the machine is what the calls of one seat made of the one at the start
 pub record IsOfSeat {E Q R F M : Type 0} (answers : List E → ℕ → Q → List E → R → Type 0)

@@ -1,5 +1,6 @@
 -- What contracts see of a pass and of a desk (this project's own).
-use Rattle.std.specs.Prelude.{◌≡◌, ℕ, ◌+◌, ◌≤◌, Bool, false, List, [], ◌∷◌, ◌++◌, map, length, Result, Ok, Err}
+use Rattle.std.specs.Prelude.{◌≡◌, ℕ, All, ◌+◌, ◌≤◌, Bool, false, List, [], ◌∷◌, ◌++◌, map, length, Result, Ok, Err}
+use Rattle.std.specs.List.{AllByRecursion}
 use Rattle.atomic_table.specs.Seated.{TableId}
 use Rattle.atomic_table.specs.Table.{Me}
 use Rattle.pool_base.specs.Lists.{Begins}
@@ -36,6 +37,10 @@ FrontsRise reached [] now = reached ≤ now
 FrontsRise reached (call ∷ calls) now =
     (reached ≤ call.front) × FrontsRise (call.front + length call.added) calls now
 
+-- they are this worker's own
+abbrev pub AreOfWorker : {E Q R F : Type 0} → ℕ → List (Call E Q R F) → Type 0
+AreOfWorker worker calls = AllByRecursion (λ call. call.worker ≡ worker) calls
+
 -- between two calls a seat carries nothing, has no turn, and calls for this worker alone
 pub record IsResting {E Q R F S : Type 0} (worker : ℕ) (me : Me S (View E Q R F)) : Type 0 where
   pub carried : me.1 ≡ []
@@ -44,6 +49,7 @@ pub record IsResting {E Q R F S : Type 0} (worker : ℕ) (me : Me S (View E Q R 
   pub workers : me.0.workers ≡ worker ∷ []
   pub numbers : RiseFrom 0 me.0.calls me.0.known
   pub fronts : FrontsRise 0 me.0.calls (length me.0.seen)
+  pub own : AreOfWorker worker me.0.calls
 
 -- one call of a pass: it stood at a front that has all that the pass had seen, its number is one
 -- that the pass didn't know yet, and the pass has then seen the events up to and with the call's
@@ -101,3 +107,4 @@ pub record HasJustOpened {E Q R F M : Type 0} (events_of : M → List E) (machin
   pub start : desk.start ≡ machine
   pub dealt : desk.count ≡ count
   pub passes_are : passes ≡ fresh_passes desk.table (events_of machine) (workers_from 0 count)
+  pub tables : All (λ pass. pass.table ≡ desk.table) passes

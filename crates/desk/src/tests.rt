@@ -23,21 +23,23 @@ fn counter(alloc: Global, listed: &[u64]) -> Result<Counter, Fail> {
     })
 }
 
-// Waits until so many calls were made.
-fn wait_for(rt: &impl Wait, desk: &Desk<Counter>, pass: &mut Pass<Counter>, count: u64)
+// Whether so many calls were made before the desk was looked at ten million times. A test ends so
+// also where no other thread is at work.
+fn comes_to(desk: &Desk<Counter>, pass: &mut Pass<Counter>, count: u64) -> bool
     requires { pass.old.table ≡ desk.now.table }
     ensures { pass.new.table ≡ pass.old.table }
 {
-    for _ in rt.forever() {
+    for _ in 0..10_000_000u32 {
         if desk.look(pass) == count {
-            break;
+            return true;
         }
         thread::yield_now();
     }
+    false
 }
 
 // Adds the number 1,000 times, by turns with another at every first or second call where that is
-// said, and answers how many calls had a reply.
+// said, and answers how many calls had a reply. It ends where the other's call doesn't come.
 fn add_often(
     rt: &impl Wait,
     desk: &Desk<Counter>,
@@ -51,7 +53,9 @@ fn add_often(
     let mut replies = 0;
     for round in 0..1000u64 {
         if let Some(is_second) = is_second {
-            wait_for(rt, desk, &mut pass, 2 * round + u64::from(is_second));
+            if !comes_to(desk, &mut pass, 2 * round + u64::from(is_second)) {
+                break;
+            }
         }
         if desk.act(rt, &mut pass, number).is_ok() {
             replies += 1;

@@ -13,7 +13,7 @@ load-requires g c = (
 pub invariant_of-pass : goal.invariant_of-pass
 invariant_of-pass g c =
     let rests = c.pass.invariant in
-    looked-rests c.pass.inside.worker c.pass.inside.seat.me c.load.new.seat.me _ rests.carried rests.turn rests.workers rests.numbers rests.fronts c.load.ensures.2
+    looked-rests c.pass.inside.worker c.pass.inside.seat.me c.load.new.seat.me _ rests.carried rests.turn rests.workers rests.numbers rests.fronts rests.own c.load.ensures.2
 
 pub returns-clause-rise : goal.returns-clause-rise
 returns-clause-rise g c = let rests = invariant_of-pass g c in (rests.numbers, rests.fronts)
