@@ -1,0 +1,20 @@
+use Rattle.std.proofs.Common.{◌∙◌, sym}
+use Rattle.sv2_messages.specs.Tables.{declare_table, mining_table, template_table}
+use Rattle.pool_core.specs.Frames.{frame_value}
+use Rattle.pool_core.proofs.Reading.{if_met_by, table_of_feeds, table_of_others, table_of_tokens}
+use Rattle.pool_core.proofs.session.Session.on_frame.Goals as goal
+
+pub returns-then-is_feeds_kind-clause-ok : goal.returns-then-is_feeds_kind-clause-ok
+returns-then-is_feeds_kind-clause-ok c =
+    if_met_by template_table c.args.self.now _ (frame_value c.args.frame.now) c.on_template.result
+    (table_of_feeds c.args.frame.now.kind (sym c.if-is_feeds_kind.ensures)) (sym c.if-not-takes.ensures) c.on_template.ensures.ok
+
+pub returns-then-kind-eq-ALLOCATE_MINING_JOB_TOKEN-clause-ok : goal.returns-then-kind-eq-ALLOCATE_MINING_JOB_TOKEN-clause-ok
+returns-then-kind-eq-ALLOCATE_MINING_JOB_TOKEN-clause-ok c =
+    if_met_by declare_table c.args.self.now _ (frame_value c.args.frame.now) c.on_declare.result
+    (table_of_tokens c.args.frame.now.kind c.if-kind-eq-ALLOCATE_MINING_JOB_TOKEN.true) (sym c.if-not-takes.ensures) c.on_declare.ensures.ok
+
+pub returns-else-kind-eq-ALLOCATE_MINING_JOB_TOKEN-clause-ok : goal.returns-else-kind-eq-ALLOCATE_MINING_JOB_TOKEN-clause-ok
+returns-else-kind-eq-ALLOCATE_MINING_JOB_TOKEN-clause-ok c =
+    if_met_by mining_table c.args.self.now _ (frame_value c.args.frame.now) c.on_mining.result
+    (table_of_others c.args.frame.now.kind (sym c.is_feeds_kind.ensures ∙ c.if-is_feeds_kind.false) c.if-kind-eq-ALLOCATE_MINING_JOB_TOKEN.false) (sym c.if-not-takes.ensures) c.on_mining.ensures.ok

@@ -1,0 +1,4 @@
+pub mod Frames
+pub mod Following
+pub mod Meanings
+pub mod Parts

@@ -1,0 +1,10 @@
+pub mod Talks
+pub mod Taken
+pub mod Setups
+pub mod Asking
+pub mod Meeting
+pub mod Told
+pub mod Answers
+pub mod States
+pub mod Steps
+pub mod Laws

@@ -1,0 +1,30 @@
+//! How a session ended.
+
+/// Why a session is over: the first reason in the order of its turns.
+#[derive(Clone, Copy, Debug, PartialEq, Eq)]
+pub enum SessionEnd {
+    /// No byte will come any more, and each frame was whole.
+    Done,
+    /// No byte will come any more, and this many bytes of a frame had come.
+    CutFrame(usize),
+    /// A header says a payload of this many bytes, over the limit.
+    TooLong(u32),
+    /// The first message isn't a setup that is acceptable.
+    BadSetup,
+    /// The payload of a frame of this kind isn't its message.
+    BadMessage(u8),
+    /// No byte came for too many turns in a row.
+    IdleOut,
+    /// As many bytes came as are taken.
+    BytesOut,
+    /// The pool takes no more sessions.
+    PoolFull,
+    /// A read failed.
+    ReadFault,
+    /// A write failed.
+    WriteFault,
+    /// The ledger's keeper failed.
+    LedgerFault,
+    /// There was no memory.
+    Memory,
+}

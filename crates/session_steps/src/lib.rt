@@ -1,0 +1,13 @@
+//! What a session is: the frames that it takes, what each asks for, what is answered, and how it
+//! ends, as a list of steps. It holds no session: the crates above keep to these definitions.
+#![tactic(auto)]
+
+mod about;
+mod ends;
+mod laws;
+mod meeting;
+
+pub use about::About;
+pub use ends::SessionEnd;
+pub use laws::{sessions_have_one_end, taken_bytes_are_met};
+pub use meeting::{SetupCode, Step};

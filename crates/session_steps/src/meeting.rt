@@ -1,0 +1,28 @@
+//! What a frame leads to.
+
+use pool_history::Request;
+
+/// Why a setup is refused. Where several reasons hold, the first in this order is told.
+#[derive(Clone, Copy, Debug, PartialEq, Eq)]
+pub enum SetupCode {
+    /// It is no mining connection.
+    Protocol,
+    /// Version 2 isn't among those that it takes.
+    Version,
+    /// It asks for features that aren't offered.
+    Flags,
+}
+
+/// What a session makes of a frame.
+#[derive(Debug, Drop)]
+pub enum Step {
+    /// It isn't taken.
+    Ignore,
+    Ask(Request),
+    /// The setup is refused, with the flags that aren't offered.
+    RefuseSetup(SetupCode, u32),
+    /// The first message is no setup.
+    BadSetup,
+    /// The payload of this kind isn't its message.
+    BadMessage(u8),
+}
