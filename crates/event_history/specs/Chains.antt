@@ -8,6 +8,7 @@ pub record Link : Type 0 where
   pub session : ℕ
   pub before : Option ℕ
 
+-- that of a mark
 abbrev pub link_of : OpeningMark → Link
 link_of mark = record { session = mark.session; before = mark.before }
 

@@ -32,7 +32,7 @@ pub record KeptIndex : Type 0 where
   pub parts : IndexParts
   pub room : ℕ
 
--- the future templates that are kept stand in the list
+-- no mark, and no job
 abbrev pub empty_index : IndexParts
 empty_index = record {
   jobs = [];
@@ -44,11 +44,12 @@ empty_index = record {
   first_future = 0;
 }
 
--- a list with one element changed, where it has that many
+-- a list with this element changed, which was found at a place
 abbrev pub changed_from : {X : Type 0} → (X → X) → List X → ℕ → Option X → List X
 changed_from f xs at None = xs
 changed_from f xs at (Some x) = slice_set xs at (f x)
 
+-- a list with the element at a place changed, where it has one
 abbrev pub changed : {X : Type 0} → (X → X) → List X → ℕ → List X
 changed f xs at = changed_from f xs at (slice_get xs at)
 
@@ -88,9 +89,11 @@ with_job future id job index =
       live = if future then index.live else Some job;
     }
 
+-- a job's mark
 abbrev pub with_mark : JobMark → IndexParts → IndexParts
 with_mark mark index = record index { jobs = index.jobs ++ mark ∷ [] }
 
+-- a template comes: its job has the next number, and the time of the last tip where it is live
 abbrev pub with_came : ℕ → TemplateData → IndexParts → IndexParts
 with_came at template index =
     with_mark
@@ -193,11 +196,12 @@ detail_after is_block (event.Leave session) before after = 0
 detail_after is_block (event.Grant session account fixed path) before after = 0
 detail_after is_block (event.Custom session custom) before after = 0
 
--- what is kept beside a history
+-- the marks of a history
 abbrev pub index_of : List Event → IndexParts
 index_of [] = empty_index
 index_of (event ∷ older) = index_after (length older) event (index_of older)
 
+-- the details of a history, in the order of its events
 abbrev pub details_of : List Event → List ℕ
 details_of [] = []
 details_of (event ∷ older) =

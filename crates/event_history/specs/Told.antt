@@ -42,7 +42,7 @@ channel_by listener = record {
   sets = [];
 }
 
--- a place that was reached
+-- a place comes before another; none does where there is none
 abbrev pub is_before : Option ℕ → ℕ → Bool
 is_before None place = false
 is_before (Some at) place = nat_lt at place
@@ -57,16 +57,17 @@ abbrev pub listeners_in : List OpeningMark → ℕ → ℕ → List Listening
 listeners_in openings session place =
     map (λ mark. mark.listener) (filter (listens_at session place) openings)
 
--- the flags of a session at a place
+-- the flags of a session at a place: none before it was entered
 abbrev pub flags_at : ℕ → Option SessionMark → ℕ
 flags_at place None = 0
 flags_at place (Some mark) = if nat_lt mark.at place then mark.flags else 0
 
--- whether it had left
+-- whether a session had left at a place
 abbrev pub has_left_at : ℕ → Option SessionMark → Bool
 has_left_at place None = false
 has_left_at place (Some mark) = is_before mark.left place
 
+-- the channels that a session hears news for at a place: none where it had left
 abbrev pub listeners_at : IndexParts → ℕ → ℕ → List Listening
 listeners_at index session place =
     if has_left_at place (slice_get index.sessions session) then []
@@ -78,7 +79,7 @@ audience_at index session place =
     audience_of session (bit_at (flags_at place (slice_get index.sessions session)) 0 == 1)
     (map channel_by (listeners_at index session place))
 
--- a message's addressee
+-- whom a message is for, as the definitions say it
 abbrev pub heard_as : Heard → Audience
 heard_as (heard.Rolling id) = Rolling id
 heard_as (heard.Single channel) =
@@ -94,12 +95,13 @@ abbrev pub prev_hash_note : TipData → ℕ → Audience → Note
 prev_hash_note tip number to =
     note.PrevHash (id_of to) number tip.prev_hash tip.header_timestamp tip.nbits
 
--- the template of an event, and the tip of one
+-- the template of an event
 abbrev pub event_template : Option Event → Option TemplateData
 event_template None = None
 event_template (Some (event.Template session template)) = Some template
 event_template (Some event) = None
 
+-- the tip of an event
 abbrev pub event_tip : Option Event → Option TipData
 event_tip None = None
 event_tip (Some (event.Tip session tip)) = Some tip
@@ -111,18 +113,20 @@ future_told rules to number None = []
 future_told rules to number (Some template) =
     job_note rules None (told_job number template) to ∷ []
 
+-- each future job, in their order
 abbrev pub futures_told : Rules → List Event → Audience → List FutureMark → List Note
 futures_told rules events to [] = []
 futures_told rules events to (mark ∷ marks) =
     future_told rules to mark.job.number (event_template (slice_get events mark.job.at))
     ++ futures_told rules events to marks
 
--- the newest live job with the tip
+-- a live job and the tip, where their events are a template and a tip
 abbrev pub live_told : Rules → Audience → ℕ → Option TemplateData → Option TipData → List Note
 live_told rules to number (Some template) (Some tip) =
     job_note rules None (told_job number template) to ∷ prev_hash_note tip number to ∷ []
 live_told rules to number template tip = []
 
+-- the newest live job with the tip, where there are both
 abbrev pub present_told : Rules → List Event → Audience → Option JobPlace → Option TipMark
     → List Note
 present_told rules events to (Some job) (Some tip) =
@@ -137,6 +141,7 @@ opening_told rules events index mark =
     ++ futures_told rules events (alone (channel_by mark.listener))
     (drop mark.first_future (take mark.end_future index.futures))
 
+-- the same of an opening's mark, where there is one
 abbrev pub marked_opening_told : Rules → List Event → IndexParts → Option OpeningMark → List Note
 marked_opening_told rules events index None = []
 marked_opening_told rules events index (Some mark) = opening_told rules events index mark
@@ -165,17 +170,19 @@ solution_note script template solved listener =
     (whole (template_parts (template_terms template) script)
     (extranonce_prefix listener.kind listener.lead ++ solved.extranonce))
 
--- of a template's job alone, for the session that sent it
+-- a session sent the template of an event
 abbrev pub is_sent_by : ℕ → Option Event → Bool
 is_sent_by session None = false
 is_sent_by session (Some (event.Template feed template)) = feed == session
 is_sent_by session (Some event) = false
 
+-- the solution of a template's job on an opening's channel
 abbrev pub solution_to : List ℕ → Solved → Option TemplateData → Option OpeningMark → List Note
 solution_to script solved (Some template) (Some mark) =
     solution_note script template solved mark.listener ∷ []
 solution_to script solved template mark = []
 
+-- it is owed of a template's job alone, to the session that sent it
 abbrev pub solution_from : List ℕ → ℕ → Solved → Option Event → Option OpeningMark → List Note
 solution_from script session solved source opening =
     if is_sent_by session source then solution_to script solved (event_template source) opening
@@ -186,6 +193,7 @@ abbrev pub marked_event : List Event → Option JobMark → Option Event
 marked_event events None = None
 marked_event events (Some mark) = slice_get events mark.at
 
+-- a credit's solution, by the marks of its job and its channel
 abbrev pub solution_told : Rules → List Event → IndexParts → ℕ → ℕ → ℕ → Solved → List Note
 solution_told rules events index session channel job solved =
     solution_from rules.pool_script session solved
