@@ -1,7 +1,7 @@
 mod Joined
 mod Listed
 mod Mapped
-mod OwnCounted
+pub mod OwnCounted
 mod Parts
 mod Rising
 mod Surplus
