@@ -3,6 +3,7 @@
 #![tactic(auto)]
 
 mod bytes;
+mod counter;
 mod frames;
 mod hash;
 mod jobs;
@@ -13,6 +14,7 @@ mod shares;
 mod stream;
 #[cfg(test)]
 mod tests;
+mod turns;
 
 use anyhow::{Context, Result, bail};
 use std::env::{self, Args};
@@ -21,7 +23,8 @@ use std::fs;
 /// What each first word wants behind it.
 const USAGE: &str =
     "want: hash COUNT, bytes LENGTH COUNT, shares SIBLINGS COUNT, channels OPEN COUNT, \
-        payouts WINDOW COUNT, jobs COUNT, frames or messages";
+        payouts WINDOW COUNT, jobs COUNT, desk THREADS COUNT, lock THREADS COUNT, frames or \
+        messages";
 
 fn main(rt: HostRuntime) -> Result<()> {
     let alloc = rt.alloc();
@@ -46,6 +49,8 @@ fn main(rt: HostRuntime) -> Result<()> {
             number(&mut words)?,
             &mut rt.stdout(),
         )?,
+        "desk" => turns::report_desk(&rt, alloc, number(&mut words)?, number(&mut words)?)?,
+        "lock" => turns::report_lock(&rt, alloc, number(&mut words)?, number(&mut words)?)?,
         "frames" => frames::report(alloc, &mut rt.stdin())?,
         "messages" => messages::report(alloc, &mut rt.stdin())?,
         _ => bail!("{USAGE}"),

@@ -1,7 +1,7 @@
 //! What each benchmark prints. The hashes were worked out apart, by Python's `hashlib`, and the
 //! streams were written by hand.
 
-use crate::{bytes, frames, hash, jobs, messages, openings, pushes, shares};
+use crate::{bytes, frames, hash, jobs, messages, openings, pushes, shares, turns};
 use anyhow::Result;
 
 /// A SetupConnection, a NewTemplate and a SubmitSharesExtended, a frame with the kind of a
@@ -76,5 +76,19 @@ fn channels_are_opened(rt: HostRuntime) -> Result<()> {
     let line = openings::report(rt.alloc(), 3, 2, &mut output)?;
     assert_eq!(rt; line.as_str(), "last 5");
     assert_eq!(rt; output.as_slice(), b"open 3\n".as_slice());
+    Ok(())
+}
+
+#[test]
+fn calls_of_two_threads_are_taken(rt: HostRuntime) -> Result<()> {
+    let alloc = rt.alloc();
+    assert_eq!(rt;
+        turns::report_desk(&rt, alloc, 2, 100)?.as_str(),
+        "calls 200"
+    );
+    assert_eq!(rt;
+        turns::report_lock(&rt, alloc, 2, 100)?.as_str(),
+        "calls 200"
+    );
     Ok(())
 }

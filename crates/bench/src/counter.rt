@@ -1,0 +1,50 @@
+//! A machine that many threads call: it keeps numbers, and answers how many it had.
+
+ghost use Rattle.std.specs.Prelude.{◌≡◌, ◌+◌, [], ◌∷◌, length, true};
+
+use desk::Machine;
+use std::alloc::{AllocError, Global};
+
+/// The numbers so far.
+#[derive(Drop)]
+pub struct Counter {
+    numbers: Vec<u64>,
+}
+
+impl Counter {
+    /// No numbers.
+    pub fn new(alloc: Global) -> Counter {
+        Counter {
+            numbers: Vec::new(alloc),
+        }
+    }
+}
+
+impl Machine for Counter {
+    type Event = u64;
+
+    type Request = u64;
+
+    type Reply = u64;
+
+    type Fault = AllocError;
+
+    ghost events = { λ counter. counter.numbers.items };
+
+    ghost faults = { λ _. 0 };
+
+    ghost wants_memory = { λ _. true };
+
+    ghost answers = { λ before caller request added reply.
+        (added ≡ request ∷ []) × (reply ≡ length before) };
+
+    fn length(&self) -> u64 {
+        self.numbers.len() as u64
+    }
+
+    fn act(&mut self, caller: u32, request: u64) -> Result<u64, AllocError> {
+        let before = self.numbers.len() as u64;
+        self.numbers.push(request)?;
+        Ok(before)
+    }
+}
