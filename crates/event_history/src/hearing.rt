@@ -25,14 +25,21 @@ pub(crate) fn alone(listener: &Listener) -> Heard
     }
 }
 
-/// Whether a place comes before another.
-pub(crate) fn is_before(at: Option<u64>, place: u64) -> bool
+// Whether a place comes before another.
+fn is_before(at: Option<u64>, place: u64) -> bool
     ensures { result ≡ told.is_before at place }
 {
     match at {
         Some(at) => at < place,
         None => false,
     }
+}
+
+/// Whether a session had left at a place.
+pub(crate) fn has_left(mark: &SessionMark, place: u64) -> bool
+    ensures { result ≡ told.has_left_at place (Some mark.now) }
+{
+    is_before(mark.left, place)
 }
 
 /// The flags of a session at a place: none before it was entered.

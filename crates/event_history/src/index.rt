@@ -2,10 +2,10 @@
 
 ghost use Rattle.std.specs.Prelude.{◌≡◌, ◌+◌, ◌<◌, ◌≤◌, ◌==◌, length, [], ◌∷◌, ◌++◌, find, vec_capacity, vec_len};
 ghost use Rattle.std.specs.Option.{option_map};
-ghost use Rattle.event_history.specs.Index.{last_ntime, live_number};
+ghost use Rattle.event_history.specs.Index.{live_number, marked_ntime};
 
 use crate::audience::Heard;
-use crate::hearing::{flags_at, hear, is_before, listeners_at};
+use crate::hearing::{flags_at, has_left, hear, listeners_at};
 use crate::marks::{FutureMark, JobMark, JobPlace, Listener, OpeningMark, SessionMark, TipMark};
 use pool_history::{Event, Kind, Lead, TemplateData, TipData};
 use std::alloc::{AllocError, Global};
@@ -150,15 +150,14 @@ impl Index {
             number: place + 1,
             at,
         };
-        let min_ntime = if template.future_template {
+        if template.future_template {
             let template_id = template.template_id;
             put(&mut self.futures, FutureMark { job, template_id });
             self.first_future = self.first_future.max(self.futures.len().saturating_sub(16));
-            None
         } else {
             self.live = Some(job);
-            ntime_of(self.tip)
-        };
+        }
+        let min_ntime = min_ntime(template.future_template, self.tip);
         put(
             &mut self.jobs,
             JobMark {
@@ -287,7 +286,7 @@ impl Index {
         let Some(mark) = self.session(session) else {
             return Ok(Vec::new(alloc));
         };
-        if is_before(mark.left, place) {
+        if has_left(mark, place) {
             return Ok(Vec::new(alloc));
         }
         let listeners = listeners_at(alloc, self.openings(), mark.last, session, place)?;
@@ -318,10 +317,13 @@ fn lead_of(bytes: &[u8]) -> Lead
     }
 }
 
-// The time of the last tip.
-fn ntime_of(tip: Option<TipMark>) -> Option<u32>
-    ensures { result ≡ last_ntime tip }
+// The least time of a template's job: the last tip's, and none where it is of the future.
+fn min_ntime(future: bool, tip: Option<TipMark>) -> Option<u32>
+    ensures { result ≡ marked_ntime future tip }
 {
+    if future {
+        return None;
+    }
     match tip {
         Some(mark) => Some(mark.ntime),
         None => None,
