@@ -2,3 +2,5 @@ mod Caused
 mod ChannelsMoved
 mod JobsMoved
 mod TokensMoved
+mod OpeningsMoved
+mod Probing

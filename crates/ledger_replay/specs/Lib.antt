@@ -1,3 +1,4 @@
 pub mod Kept
 pub mod Rights
+pub mod Openings
 pub mod Replays

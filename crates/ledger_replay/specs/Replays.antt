@@ -1,16 +1,19 @@
 -- What a replay was told, and what it answers (this project's own).
-use Rattle.std.specs.Prelude.{◌≡◌, ℕ, Some, Result, Ok, Err, List, [], ◌∷◌, length}
+use Rattle.std.specs.Prelude.{◌≡◌, ℕ, true, None, Some, Result, Ok, Err, List, [], ◌∷◌, length}
 use Rattle.channels.specs.Tables.{ChannelTable, IsTold}
 use Rattle.grant_table.specs.Tables.{GrantTable, ShowsGrants}
 use Rattle.pool_history.specs.declared.causes.Cause.{Cause}
 use Rattle.pool_history.specs.declared.causes.Cause.TheVariants as cause
 use Rattle.pool_history.specs.declared.events.Event.{Event}
+use Rattle.pool_history.specs.declared.events.Kind.{Kind}
+use Rattle.pool_history.specs.declared.refusals.OpenError.{OpenError}
+use Rattle.pool_history.specs.declared.refusals.OpenError.TheVariants as open_error
 use Rattle.pool_history.specs.declared.refusals.JobError.{JobError}
 use Rattle.pool_history.specs.declared.refusals.JobError.TheVariants as job
 use Rattle.pool_history.specs.declared.settings.Rules.{Rules}
 use Rattle.pool_history.specs.Channels.{channel_moves}
 use Rattle.pool_history.specs.Jobs.{job_moves}
-use Rattle.pool_history.specs.Legal.{LegalPast, cause_of}
+use Rattle.pool_history.specs.Legal.{LegalPast, cause_of, is_class, is_opening_account, may_mine, within}
 use Rattle.pool_history.specs.Sessions.{rules_of}
 use Rattle.session_table.specs.Tables.{SessionTable, ShowsSessions}
 use Rattle.template_jobs.specs.Tables.{HasCoinbases, JobTable}
@@ -89,3 +92,19 @@ template_error_of (job.TemplateKnown id) = error.Illegal cause.BadTemplate
 template_error_of job.NoTip = error.Illegal cause.BadTemplate
 template_error_of (job.UnknownTemplate id) = error.Illegal cause.BadTemplate
 template_error_of (job.Coinbase refusal) = error.Illegal cause.BadTemplate
+
+-- what an opening's refusal is called
+abbrev pub opening_error_of : OpenError → ReplayError
+opening_error_of (open_error.TooManyChannels own all) = error.Illegal cause.TooManyChannels
+opening_error_of open_error.Memory = error.Memory
+opening_error_of open_error.UnknownUser = error.Illegal cause.BadLead
+opening_error_of (open_error.TargetOutOfRange class) = error.Illegal cause.BadLead
+opening_error_of (open_error.SizeTooLarge size) = error.Illegal cause.BadLead
+opening_error_of open_error.NoSpace = error.Illegal cause.BadLead
+
+-- a session may open a channel with this account and class
+pub record IsOpened (replay : Replay) (session : ℕ) (kind : Kind) (account : List ℕ) (class : ℕ)
+    : Type 0 where
+  pub may : (past : List Event) → WasReplayed replay past → None ≡ within may_mine past session None
+  pub account_said : is_opening_account replay.rules kind account ≡ true
+  pub in_range : is_class replay.rules class ≡ true

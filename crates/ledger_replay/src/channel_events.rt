@@ -115,7 +115,7 @@ fn is_without_account(kind: Kind, account: &str) -> bool
 }
 
 /// The class, where a channel may have it.
-fn class_in_range(rules: &Rules, class: u8) -> Option<Class>
+pub(crate) fn class_in_range(rules: &Rules, class: u8) -> Option<Class>
     ensures some { IfSome result (λ given. (given ≡ class) × IsTrue (is_class rules.now class)) }
     ensures none { result ≡ None → is_class rules.now class ≡ false }
 {

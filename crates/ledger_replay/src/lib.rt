@@ -5,6 +5,7 @@
 mod channel_events;
 mod error;
 mod job_events;
+mod opening_events;
 mod replay;
 mod session_events;
 mod sessions_by;

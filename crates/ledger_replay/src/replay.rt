@@ -16,6 +16,7 @@ use template_jobs::Jobs;
 /// told each of them.
 #[derive(Drop)]
 pub struct Replay {
+    pub(crate) alloc: Global,
     pub(crate) rules: Rules,
     pub(crate) events: u64,
     pub(crate) sessions: Sessions,
@@ -62,6 +63,7 @@ impl Replay {
         other_events_leave_grants();
         let channels = Channels::new(alloc)?;
         Ok(Replay {
+            alloc,
             rules,
             events: 1,
             sessions: Sessions::new(alloc),
