@@ -1,0 +1,11 @@
+mod Answering
+mod Applied
+mod ChannelSteps
+mod JobSteps
+mod Ranges
+mod SessionSteps
+mod ShareSteps
+mod Started
+mod Told
+mod TokenSteps
+mod Within

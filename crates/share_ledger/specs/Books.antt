@@ -1,0 +1,53 @@
+-- What a book answers, and what its keeper is told (this project's own).
+use Rattle.std.specs.Prelude.{◌≡◌, ℕ, Bool, true, false, Option, None, Some, IfSome, Result, Ok, Err, List, [], ◌∷◌, ◌++◌}
+use Rattle.pool_history.specs.declared.asking.Request.{Request}
+use Rattle.pool_history.specs.declared.events.Event.{Event}
+use Rattle.pool_history.specs.declared.refusals.BookError.{BookError}
+use Rattle.pool_history.specs.declared.refusals.BookError.TheVariants.{KeeperFault, Memory}
+use Rattle.pool_history.specs.declared.refusals.Failed.{Failed}
+use Rattle.pool_history.specs.declared.replies.Reply.{Reply}
+use Rattle.pool_history.specs.declared.settings.Rules.{Rules}
+use Rattle.pool_history.specs.Answering.{Answer}
+use Rattle.pool_history.specs.Crediting.{first_failed}
+use Rattle.pool_history.specs.Judging.{Share}
+use Rattle.pool_history.specs.Ledger.{chained, kept_records}
+use Rattle.pool_history.specs.Sessions.{past_of, present, rules_of}
+use Rattle.ledger_laws.specs.Growing.{hash_after}
+
+-- the events, and the keeper of their records
+pub record BookSeen (K : Type 0) : Type 0 where
+  pub events : List Event
+  pub keeper : K
+
+-- the reply is that of the answer to the request, and the history grows by its events alone
+abbrev pub IsReplied : List Event → List Event → ℕ → Request → Reply → Type 0
+IsReplied old new worker asked answer =
+    (added : List Event) × (new ≡ old ++ added) × Answer old worker asked added answer
+
+-- a keeper that tells its records was given the pieces of the events that were added, and no other
+abbrev pub AddsPieces :
+    Option (List (List ℕ)) → Option (List (List ℕ)) → List Event → List Event → Type 0
+AddsPieces before after old new =
+    (added : List Event) → new ≡ old ++ added
+    → IfSome before (λ records. after ≡ Some (records ++ chained (hash_after old) added))
+
+-- it was given the ledger of the first events, in its pieces
+abbrev pub KeepsFirst : Option (List (List ℕ)) → Option (List (List ℕ)) → List Event → Type 0
+KeepsFirst before after events =
+    IfSome before (λ records. after ≡ Some (records ++ kept_records events))
+
+-- the keeper's fault; want of memory is none
+abbrev pub is_start_fault : BookError → Bool
+is_start_fault KeeperFault = true
+is_start_fault Memory = false
+
+abbrev pub is_keeper_fault : {X : Type 0} → Result X BookError → Bool
+is_keeper_fault (Ok x) = false
+is_keeper_fault (Err error) = is_start_fault error
+
+-- it is the first condition that fails for a share of a worker's present session
+abbrev pub IsFirstFailed : List Event → ℕ → Share → Option Failed → Type 0
+IsFirstFailed history worker share code =
+    (rules : Rules) (session : ℕ) → rules_of (past_of history) ≡ Some rules
+    → present (past_of history) worker ≡ Some session
+    → code ≡ first_failed rules (past_of history) session share

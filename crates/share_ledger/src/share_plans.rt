@@ -1,0 +1,220 @@
+//! Shares that are judged and booked.
+
+use crate::planning::{Change, Crediting, Planned, Step};
+use crate::tables::Tables;
+use block_header::meets_target;
+use channels::{Channels, tables_show_histories};
+use payouts::{Tally, TallyPlan};
+use pool_history::{Checked, Class, Event, Failed, Reply, Submission};
+use share_check::{brief_of, checked_headers_are_rebuilt, header_by_parts, header_of};
+use share_judging::{admit, late_refusal};
+use std::alloc::{AllocError, Global};
+use sv2_types::{Blob, U256};
+
+impl Tables {
+    ghost use Rattle.std.specs.Prelude.{◌≡◌, IfErr, IfOk, Some};
+    ghost use Rattle.pool_history.specs.declared.asking.Request.TheVariants as request;
+    ghost use Rattle.pool_history.specs.Judging.{share_of};
+    ghost use Rattle.pool_history.specs.Sessions.{rules_of};
+    ghost use Rattle.share_ledger.specs.Planning.{IsStepWithin, past_in};
+    ghost use Rattle.share_ledger.specs.Shares.{IsPassed, IsPayable, failed_within};
+    ghost use Rattle.share_ledger.specs.Booking.{BooksPassed};
+
+    /// The first of the nine conditions that fails for a session's share. It takes no memory.
+    pub(crate) fn judge(&self, session: u32, sub: &Submission) -> Option<Failed>
+        ensures { result
+            ≡ failed_within (rules_of (past_in self.now)) (past_in self.now) session
+            (share_of sub.now) }
+    {
+        checked_headers_are_rebuilt();
+        tables_show_histories();
+        let rules = self.history.rules();
+        let found = match admit(rules, &self.channels, &self.jobs, session, sub) {
+            Ok(found) => found,
+            Err(code) => return Some(code),
+        };
+        let (header, hash) = header_of(&found.parts(), sub);
+        let credits = self.tally.pushes();
+        late_refusal(rules, found.class, &header, &hash, &self.headers, credits)
+    }
+
+    /// What is needed to hash a share.
+    pub(crate) fn brief(
+        &self,
+        alloc: Global,
+        session: u32,
+        sub: Submission,
+    ) -> Result<Step, AllocError>
+        ensures { IfOk result (IsStepWithin self.now self.now session (request.Brief sub)) }
+    {
+        tables_show_histories();
+        let rules = self.history.rules();
+        match admit(rules, &self.channels, &self.jobs, session, &sub) {
+            Ok(found) => {
+                let brief = brief_of(alloc, &found.parts())?;
+                Ok(Step::Answer(Reply::Brief(brief)))
+            }
+            Err(code) => Ok(Step::Answer(Reply::Refused(code))),
+        }
+    }
+
+    /// A share that is booked, unless one of the nine conditions fails.
+    pub(crate) fn plan_commit(
+        &mut self,
+        alloc: Global,
+        session: u32,
+        checked: Checked,
+    ) -> Result<Step, AllocError>
+        ensures same { self.new.history ≡ self.old.history }
+        ensures step { IfOk result
+            (IsStepWithin self.old self.new session (request.Commit checked)) }
+    {
+        match self.pass(session, &checked) {
+            Ok(passed) => self.book(alloc, session, &checked.sub, passed),
+            Err(code) => Ok(Step::Answer(Reply::Refused(code))),
+        }
+    }
+
+    /// What is booked of a share that meets the nine conditions, or the first that fails.
+    fn pass(&self, session: u32, checked: &Checked) -> Result<Passed, Failed>
+        ensures ok { IfOk result (λ passed. IsPassed (past_in self.now) session
+            (share_of checked.now.sub) passed.header passed.is_block passed.work passed.reward) }
+        ensures small { IfOk result (λ passed. IsPayable passed.work passed.reward) }
+        ensures err { IfErr result (λ code. Some code
+            ≡ failed_within (rules_of (past_in self.now)) (past_in self.now) session
+            (share_of checked.now.sub)) }
+    {
+        checked_headers_are_rebuilt();
+        tables_show_histories();
+        let rules = self.history.rules();
+        let found = match admit(rules, &self.channels, &self.jobs, session, &checked.sub) {
+            Ok(found) => found,
+            Err(code) => return Err(code),
+        };
+        let (header, hash) = header_by_parts(checked, &found.parts());
+        let credits = self.tally.pushes();
+        match late_refusal(rules, found.class, &header, &hash, &self.headers, credits) {
+            Some(code) => Err(code),
+            None => Ok(Passed {
+                header,
+                is_block: is_at_most_target(&hash, &found.tip.target),
+                work: work_of(found.class),
+                reward: found.job.reward(),
+            }),
+        }
+    }
+
+    /// Books a share that passed.
+    fn book(
+        &mut self,
+        alloc: Global,
+        session: u32,
+        sub: &Submission,
+        passed: Passed,
+    ) -> Result<Step, AllocError>
+        requires passes { IsPassed (past_in self.old) session (share_of sub.now)
+            passed.header passed.is_block passed.work passed.reward }
+        requires small { IsPayable passed.work passed.reward }
+        ensures same { self.new.history ≡ self.old.history }
+        ensures booked { IfOk result (BooksPassed self.new session (share_of sub.now) passed.work) }
+    {
+        tables_show_histories();
+        let fee = self.history.rules().fee;
+        let plan = plan_push(&self.channels, &mut self.tally, sub.channel, fee, &passed)?;
+        self.headers.reserve()?;
+        Ok(Step::Move(Planned {
+            event: credit_event(alloc, session, sub)?,
+            change: Change::Credit(Crediting {
+                plan,
+                header: passed.header,
+                is_block: passed.is_block,
+            }),
+            reply: Reply::Credited(passed.work),
+        }))
+    }
+}
+
+/// What is booked of a share.
+#[derive(Clone, Copy)]
+pub(crate) struct Passed {
+    header: [u8; 80],
+    is_block: bool,
+    work: u64,
+    /// Of its job, in satoshis.
+    reward: u64,
+}
+
+ghost use Rattle.std.specs.Prelude.{◌≡◌, IfOk};
+ghost use Rattle.history_laws.specs.Answered.{credit_of};
+ghost use Rattle.pool_history.specs.Judging.{share_of};
+
+/// The event of a share that is booked.
+fn credit_event(alloc: Global, session: u32, sub: &Submission) -> Result<Event, AllocError>
+    ensures { IfOk result (λ event. event ≡ credit_of session (share_of sub.now)) }
+{
+    let sent = &sub.extranonce[..usize::from(sub.extranonce_len)];
+    Ok(Event::Credit {
+        session,
+        channel: sub.channel,
+        job: sub.job,
+        nonce: sub.nonce,
+        ntime: sub.ntime,
+        version: sub.version,
+        extranonce: Blob::of(alloc, sent)?,
+    })
+}
+
+ghost use Rattle.std.specs.Prelude.{ℕ, ◌+◌, ◌<◌, ◌≤◌, ◌^◌, if◌then◌else◌, List, None, Some};
+ghost use Rattle.std.specs.Option.{option_map};
+ghost use Rattle.block_header.specs.Target.{is_at_most};
+ghost use Rattle.pool_history.specs.Channels.{channel_in};
+ghost use Rattle.payouts.specs.Plans.{Fits, IsPlanOf};
+ghost use Rattle.payouts.specs.Tallies.{DiffersInRoom};
+ghost use Rattle.share_ledger.specs.Shares.{HasAccount, IsPayable};
+
+/// Whether a hash, as a number, is at most a target.
+fn is_at_most_target(hash: &[u8; 32], target: &U256) -> bool
+    ensures { result ≡ is_at_most hash.now target.now }
+{
+    meets_target(hash, target)
+}
+
+/// The work of a share of a class.
+fn work_of(class: Class) -> u64
+    ensures value { result ≡ 2 ^ class }
+    ensures some { 1 ≤ result }
+    ensures small { result ≤ 2 ^ 60 }
+{
+    1 << class.value()
+}
+
+/// Plans the push of a share's work for its channel's account, and its block where it is one.
+fn plan_push(
+    channels: &Channels,
+    tally: &mut Tally,
+    channel: u32,
+    fee: u16,
+    passed: &Passed,
+) -> Result<TallyPlan, AllocError>
+    requires there { HasAccount (channel_in channels.now.open_channels channel) }
+    requires few { tally.old.pushes + 1 < 2 ^ 24 }
+    requires small { IsPayable passed.now.work passed.now.reward }
+    requires fee { fee ≤ 10000 }
+    ensures same { DiffersInRoom tally.old tally.new }
+    ensures asked { IfOk result (λ plan. (account : List ℕ)
+        × (option_map (λ shown. shown.account) (channel_in channels.now.open_channels channel)
+        ≡ Some account)
+        × IsPlanOf account passed.now.work
+        (if passed.now.is_block then Some (passed.now.reward, fee) else None) plan) }
+    ensures fits { IfOk result (Fits tally.new) }
+{
+    let Some(channel) = channels.channel(channel) else {
+        unreachable!();
+    };
+    let block = if passed.is_block {
+        Some((passed.reward, fee))
+    } else {
+        None
+    };
+    tally.plan(channel.account.text(), passed.work, block)
+}
