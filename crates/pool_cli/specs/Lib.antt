@@ -1,4 +1,5 @@
 pub mod Edges
 pub mod Forms
+pub mod Incoming
 pub mod Numbers
 pub mod Running

@@ -1,11 +1,31 @@
-//! The edge: standard input and output as a source and a sink. The real ones tell nothing of what
-//! they bring or hold.
+//! The edge: readers and writers as sources and sinks. The real ones tell nothing of what they bring
+//! or hold.
 
-ghost use Rattle.std.specs.Prelude.{◌≡◌, []};
+ghost use Rattle.std.specs.Prelude.{◌≡◌};
 
-use pool_io::{Host, HostError, Shelf, Sink, SinkFailed, Source, Took};
-use std::alloc::Global;
+use pool_io::{Sink, SinkFailed, Source, Took};
+use std::io;
 use std::io::{ErrorKind, Read, Write};
+
+/// What a host reads: standard input, or a file.
+#[derive(Drop)]
+pub enum Incoming<R: Read + Drop, F: Read + Drop> {
+    Standard(R),
+    File(F),
+}
+
+impl<R: Read + Drop, F: Read + Drop> Read for Incoming<R, F> {
+    ghost use Rattle.pool_cli.specs.Incoming.{remaining_of};
+
+    ghost remaining = { remaining_of R.remaining F.remaining };
+
+    fn read(&mut self, buffer: &mut [u8]) -> io::Result<usize> {
+        match self {
+            Incoming::Standard(reader) => reader.read(buffer),
+            Incoming::File(file) => file.read(buffer),
+        }
+    }
+}
 
 /// A reader as a source, which tells no turns. A read that was interrupted or would block is Idle;
 /// any other error is counted.
@@ -103,95 +123,5 @@ impl<W: Write + Drop> Sink for WriteSink<W> {
                 Err(SinkFailed::Failed)
             }
         }
-    }
-}
-
-/// The host of a program that reads `R` and writes `W`. It never fails but for want of memory.
-#[derive(Drop)]
-pub struct StreamHost<R: Read + Copy + Drop, W: Write + Copy + Drop> {
-    input: R,
-    output: W,
-    sources: Shelf<ReadSource<R>>,
-    sinks: Shelf<WriteSink<W>>,
-}
-
-impl<R: Read + Copy + Drop, W: Write + Copy + Drop> StreamHost<R, W> {
-    /// A host that has given nothing.
-    pub fn new(alloc: Global, input: R, output: W) -> StreamHost<R, W>
-        ensures input { result.input ≡ input }
-        ensures output { result.output ≡ output }
-        ensures sources { result.sources ≡ record { lent = 0; back = [] } }
-        ensures sinks { result.sinks ≡ record { lent = 0; back = [] } }
-    {
-        StreamHost {
-            input,
-            output,
-            sources: Shelf::new(alloc),
-            sinks: Shelf::new(alloc),
-        }
-    }
-}
-
-impl<R: Read + Copy + Drop, W: Write + Copy + Drop> Host for StreamHost<R, W> {
-    ghost use Rattle.std.specs.Prelude.{None, ◌≢◌, ◌<◌, IfOk, OnOk, OnErr};
-    ghost use Rattle.pool_io.specs.Lending.{lent_one, with_back};
-
-    type S = ReadSource<R>;
-
-    type T = WriteSink<W>;
-
-    ghost seen = { λ h. record {
-      faults = 0;
-      input = None;
-      output = None;
-      sources = h.sources;
-      sinks = h.sinks;
-    } };
-
-    fn input(&mut self) -> Result<ReadSource<R>, HostError>
-        ensures fresh { IfOk result (λ given. given.faults ≡ 0) }
-        ensures given { OnOk result (self.new ≡ record
-            self.old { sources = lent_one self.old.sources }) }
-        ensures refused { OnErr result (self.new ≡ self.old) }
-        ensures counts { result ≢ Err HostError.Failed }
-
-        // It was not used before it was given.
-        ensures unused { IfOk result (λ given. given.reader ≡ self.old.input) }
-    {
-        if self.sources.lend().is_err() {
-            return Err(HostError::Memory);
-        }
-        Ok(ReadSource::new(self.input))
-    }
-
-    fn output(&mut self) -> Result<WriteSink<W>, HostError>
-        ensures fresh { IfOk result (λ given. given.faults ≡ 0) }
-        ensures given { OnOk result (self.new ≡ record
-            self.old { sinks = lent_one self.old.sinks }) }
-        ensures refused { OnErr result (self.new ≡ self.old) }
-        ensures counts { result ≢ Err HostError.Failed }
-
-        // It was not used before it was given.
-        ensures unused { IfOk result (λ given. given.writer ≡ self.old.output) }
-    {
-        if self.sinks.lend().is_err() {
-            return Err(HostError::Memory);
-        }
-        Ok(WriteSink::new(self.output))
-    }
-
-    // What was used isn't kept for the next.
-    fn done_source(&mut self, source: ReadSource<R>)
-        requires { 0 < self.old.sources.lent }
-        ensures { self.new ≡ record self.old { sources = with_back self.old.sources source } }
-    {
-        self.sources.take_back(source);
-    }
-
-    fn done_sink(&mut self, sink: WriteSink<W>)
-        requires { 0 < self.old.sinks.lent }
-        ensures { self.new ≡ record self.old { sinks = with_back self.old.sinks sink } }
-    {
-        self.sinks.take_back(sink);
     }
 }

@@ -6,12 +6,15 @@ ghost use Rattle.std.specs.Prelude.{◌≡◌, IfOk, map, drop, string_bytes};
 ghost use Rattle.std.specs.Vec.Iter.{into_iter_items};
 
 mod edge;
+#[cfg(test)]
+mod edge_tests;
+mod file_keeper;
 mod run;
+mod stream_host;
 #[cfg(test)]
 mod tests;
 mod words;
 
-use edge::StreamHost;
 use pool_turns::Status;
 use run::run;
 use std::alloc::{AllocError, Global};
@@ -19,6 +22,7 @@ use std::env::Args;
 use std::process::ExitCode;
 use std::rt::Env;
 use std::{env, io};
+use stream_host::StreamHost;
 use words::Word;
 
 /// The words after the program's name.
@@ -48,6 +52,6 @@ fn main(rt: HostRuntime) -> ExitCode {
         ),
         Err(_) => return ExitCode::from(Status::Memory.code()),
     };
-    let mut host = StreamHost::new(rt.alloc(), rt.stdin(), rt.stdout());
+    let mut host = StreamHost::new(rt.alloc(), rt.stdin(), rt.stdout(), rt);
     ExitCode::from(run(rt.alloc(), &mut host, &words))
 }

@@ -6,7 +6,7 @@ ghost use Rattle.pool_turns.specs.declared.status.Status.{Status as Answer};
 ghost use Rattle.pool_turns.specs.Statuses.{status_code};
 ghost use Rattle.pool_cli.specs.declared.words.Form.{Form as Asked};
 ghost use Rattle.pool_cli.specs.Forms.{IsForm, HasNoForm};
-ghost use Rattle.pool_cli.specs.Running.{DoesForm, OwesRow, IsWithinLimits, IsHandedBack};
+ghost use Rattle.pool_cli.specs.Running.{CallsForForm, DoesForm, OwesCalls, OwesRow, IsWithinLimits, IsHandedBack};
 
 use crate::words::{Form, Word, form_of};
 use fixed_job::judge_shares;
@@ -20,6 +20,7 @@ pub fn run<H: Host>(alloc: Global, host: &mut H, words: &[Word]) -> u8
     // 2 exactly where the words are none of the forms; then nothing was opened.
     ensures usage { result ≡ 2 ↔ HasNoForm words.now }
     ensures unopened { result ≡ 2 → H.seen host.new ≡ H.seen host.old }
+    ensures uncalled { result ≡ 2 → H.openings host.new ≡ H.openings host.old }
 
     // What the words ask for was done: the answer is a status, and what the command owes at it
     // stands.
@@ -32,6 +33,11 @@ pub fn run<H: Host>(alloc: Global, host: &mut H, words: &[Word]) -> u8
               H.T.faults;
         })
         form (H.seen host.old) (H.seen host.new) result }
+
+    // Where the host tells its opening calls, they are those that the words ask for, in their order,
+    // up to the first that was refused.
+    ensures calls { (form : Asked) → IsForm words.now form → CallsForForm form
+        (H.openings host.old) (H.openings host.new) result }
 
     // So for each words: 2, or a form that they have was done.
     ensures formed { (result ≡ 2) ⊎ ((form : Asked) × IsForm words.now form × DoesForm
@@ -59,7 +65,7 @@ pub fn run<H: Host>(alloc: Global, host: &mut H, words: &[Word]) -> u8
 /// Does what a form asks for.
 fn perform<H: Host>(alloc: Global, host: &mut H, form: Form) -> Status
     requires { IsWithinLimits form }
-    ensures { OwesRow
+    ensures row { OwesRow
         (record {
           left = H.S.left;
           read_faults = H.S.faults;
@@ -68,6 +74,7 @@ fn perform<H: Host>(alloc: Global, host: &mut H, form: Form) -> Status
               H.T.faults;
         })
         form (H.seen host.old) (H.seen host.new) result }
+    ensures calls { OwesCalls form (H.openings host.old) (H.openings host.new) result }
 {
     match form {
         Form::SoloFixed { class, job } => judge_shares(alloc, host, class, &job),

@@ -1,7 +1,8 @@
 //! The worked examples over a host in memory, and what the adapters of the real system answer.
 
-use crate::edge::{ReadSource, StreamHost, WriteSink};
+use crate::edge::{ReadSource, WriteSink};
 use crate::run::run;
+use crate::stream_host::StreamHost;
 use crate::words::Word;
 use pool_io::{Host, MemHost, Piece, Script, Sink, SinkFailed, Source, Took, Turn};
 use std::alloc::{AllocError, Global};
@@ -443,7 +444,7 @@ fn a_host_neither_reads_nor_writes_by_itself(rt: HostRuntime) -> Result<(), Fail
     let writes = Cell::new(0);
     let input = Counting(&reads, false);
     let output = Counting(&writes, false);
-    let mut host = StreamHost::new(rt.alloc(), input, output);
+    let mut host = StreamHost::new(rt.alloc(), input, output, rt);
     let mut source = host.input()?;
     let sink = host.output()?;
     assert_eq!(rt; reads.get(), 0);
@@ -491,7 +492,7 @@ fn a_writer_is_a_sink(rt: HostRuntime) {
 
 #[test]
 fn the_standard_streams_are_given_and_come_back(rt: HostRuntime) -> Result<(), Fail> {
-    let mut host = StreamHost::new(rt.alloc(), rt.stdin(), rt.stdout());
+    let mut host = StreamHost::new(rt.alloc(), rt.stdin(), rt.stdout(), rt);
     let source = host.input()?;
     let sink = host.output()?;
     host.done_sink(sink);

@@ -44,6 +44,14 @@ impl<T> Shelf<T> {
         Ok(())
     }
 
+    /// One that was to go out doesn't.
+    pub fn unlend(&mut self)
+        requires { 0 < self.old.lent }
+        ensures { self.old ≡ lent_one self.new }
+    {
+        self.lent -= 1;
+    }
+
     /// Takes one back.
     pub fn take_back(&mut self, item: T)
         requires { 0 < self.old.lent }

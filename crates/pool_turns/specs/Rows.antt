@@ -2,7 +2,9 @@
 use Rattle.std.specs.Prelude.{ℕ, ◌≡◌, ◌⊎◌, List, [], ◌∷◌, ◌++◌, Option, Some, Err}
 use Rattle.pool_io.specs.declared.host.HostError.{HostError}
 use Rattle.pool_io.specs.declared.turn.Turn.{Turn}
+use Rattle.pool_io.specs.declared.opening.Opening.TheVariants.{Input, Output}
 use Rattle.pool_io.specs.Lending.{Lending, nothing_left}
+use Rattle.pool_io.specs.Openings.{Openings, openings_after, openings_and}
 use Rattle.pool_io.specs.Outside.{CountsFailure, is_failed_gift}
 use Rattle.pool_io.specs.Seen.{Seen}
 use Rattle.pool_io.specs.Steps.{steps_of}
@@ -66,3 +68,12 @@ StreamRow meanings duty old new status =
     ((end : End) × (status ≡ status_of_end end) × RanOnHost meanings duty old new end)
     ⊎ ((error : HostError) × (status ≡ status_of_refusal error)
     × IsRefusedByHost meanings old new error)
+
+-- The host was asked for its input and then for its output, and for nothing else: for both, or up to
+-- what it refused.
+abbrev pub AsksForStreams : {K : Type 0} → Openings K → Openings K → Status → Type 0
+AsksForStreams old new status =
+    (new ≡ openings_and (openings_and old Input) Output)
+    ⊎ ((error : HostError) × (status ≡ status_of_refusal error)
+    × ((new ≡ openings_after {A = Unit {0}} Input (Err error) old)
+    ⊎ (new ≡ openings_after {A = Unit {0}} Output (Err error) (openings_and old Input))))

@@ -1,6 +1,6 @@
 //! A command over a host's standard input and output.
 
-ghost use Rattle.pool_turns.specs.Rows.{StreamRow};
+ghost use Rattle.pool_turns.specs.Rows.{AsksForStreams, StreamRow};
 
 use crate::status::refusal_status;
 use crate::{Status, StreamCommand, drive};
@@ -10,12 +10,13 @@ use std::alloc::Global;
 /// Runs a command from the host's standard input to its standard output, and hands both back.
 pub fn run_on_host<C: StreamCommand, H: Host>(alloc: Global, host: &mut H, task: &C::Task) -> Status
     requires { C.can_run task.now }
-    ensures { StreamRow (record {
+    ensures row { StreamRow (record {
       left = H.S.left;
       read_faults = H.S.faults;
       held = H.T.held;
       write_faults = H.T.faults;
     }) (C.duty task.now) (H.seen host.old) (H.seen host.new) result }
+    ensures calls { AsksForStreams (H.openings host.old) (H.openings host.new) result }
 {
     let mut source = match host.input() {
         Ok(source) => source,

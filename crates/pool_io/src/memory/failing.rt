@@ -37,8 +37,15 @@ impl FailingCalls {
         self.calls = call.saturating_add(1);
         let fails = self.failing.contains(&call);
         if fails {
-            self.faults = self.faults.saturating_add(1);
+            self.fail();
         }
         fails
+    }
+
+    /// Counts one failure more.
+    pub(crate) fn fail(&mut self)
+        ensures { self.new ≡ record self.old { faults = next_count self.old.faults } }
+    {
+        self.faults = self.faults.saturating_add(1);
     }
 }
