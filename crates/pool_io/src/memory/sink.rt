@@ -33,6 +33,12 @@ impl SureSink {
     {
         &self.bytes
     }
+
+    pub fn into_bytes(self) -> Vec<u8>
+        ensures { result.items ≡ self }
+    {
+        self.bytes
+    }
 }
 
 impl Sink for SureSink {
