@@ -1,0 +1,5 @@
+pub mod Asked
+pub mod Chains
+pub mod Moves
+pub mod Parts
+pub mod Turns

@@ -1,0 +1,193 @@
+-- The turns of a session, by what its code did.
+use Rattle.std.proofs.Common.{◌≡◌, ℕ, ◌+◌, ◌-◌, ◌*◌, ◌<◌, ◌≤◌, ◌++◌, Bool, true, false, List, [], Option, Some, None, length, take, drop, refl, sym, ap, subst, ◌∙◌, append_assoc, arith}
+use Rattle.std.proofs.Math.Nat.{mul-le-mul_right}
+use Rattle.std.proofs.lemmas.List.{take-append-drop, take_rest}
+use Rattle.pool_io.specs.declared.sink.SinkFailed.{SinkFailed}
+use Rattle.pool_io.specs.declared.sink.SinkFailed.TheVariants as sink
+use Rattle.pool_io.specs.declared.source.Took.{Took}
+use Rattle.pool_io.specs.declared.source.Took.TheVariants as took
+use Rattle.pool_io.specs.declared.turn.Turn.{Turn}
+use Rattle.pool_io.specs.Outside.{CountsFailure, TakesTurn, is_failed_take}
+use Rattle.pool_io.specs.Steps.{BringsSteps, steps_of}
+use Rattle.pool_io.proofs.Stepping.{brought_bytes, brought_idle, brought_none, steps_of-ended}
+use Rattle.pool_turns.proofs.Puts.{Adds-none}
+use Rattle.sv2_frames.specs.Holding.{Holding, HoldsOver, IsCutWithin}
+use Rattle.pool_history.specs.declared.events.Role.{Role}
+use Rattle.pool_history.specs.Calls.{PoolCall}
+use Rattle.session_steps.specs.declared.ends.SessionEnd.{SessionEnd}
+use Rattle.session_steps.specs.declared.ends.SessionEnd.TheVariants as end
+use Rattle.session_steps.specs.declared.meeting.SetupCode.{SetupCode}
+use Rattle.session_steps.specs.declared.meeting.Step.{Step}
+use Rattle.session_steps.specs.Answers.{greeting, refusal_frame}
+use Rattle.session_steps.specs.States.{Greeting, Reading, Refusing, end_stage, input_end, most_payload, new_state, news_stage, next_stage, put_stage}
+use Rattle.session_steps.specs.Steps as steps
+use Rattle.session_steps.specs.Steps.{CanTake, CanOverrun, Framed, Greeted, Met, Overran, Refused, Starved, bytes_of_frames, met_stage, reads_after_step, SessionStep}
+use Rattle.session_steps.specs.Talks.{new_talk}
+use Rattle.pool_sessions.specs.declared.conversation.Conversation.{Conversation}
+use Rattle.pool_sessions.specs.declared.listening.Listener.{Listener}
+use Rattle.pool_sessions.specs.Links.{Telling, PutsOut}
+use Rattle.pool_sessions.specs.Meeting.{MeetsHeld}
+use Rattle.pool_sessions.specs.Running.{Runs, TakesAll}
+use Rattle.pool_sessions.specs.Standing.{Intake, IsListening, idled, intake_of, intake_with, new_intake, put_end, refused_end, stage_or, state_at}
+use Rattle.pool_sessions.proofs.Chains.{runs_on, runs_put, runs_quiet, runs_step}
+use Rattle.pool_sessions.specs.Sessions.{IdlesOn, ReadsOn}
+use Rattle.pool_sessions.proofs.Moves.{put_stage_or}
+
+-- a refused setup ends the session, however its answer was put
+refused_stage : (entered : Bool) (fault : Option SinkFailed) → end_stage entered (refused_end fault) ≡ put_stage fault entered (end_stage entered end.BadSetup)
+refused_stage entered None = refl
+refused_stage entered (Some sink.Failed) = refl
+refused_stage entered (Some sink.Memory) = refl
+
+module _ {L A : Type 0} {telling : Telling L} {worker : A → ℕ} {does : A → PoolCall → A → Type 0} {l l' : L} {a : A} (intake : Intake) (c : Conversation) where
+  pub greeted_runs : (fault : Option SinkFailed) (result : Option SessionEnd) → put_end fault ≡ result → PutsOut telling (bytes_of_frames (greeting c.session.role)) fault l l'
+      → Runs telling worker does (state_at Greeting intake c) (state_at (stage_or Reading c.entered result) intake c) l l' a a
+  greeted_runs fault result is puts =
+      runs_put (Greeted (record { bytes = puts.bytes; fault = fault })) (bytes_of_frames (greeting c.session.role)) fault puts (refl, puts.front)
+      (ap (λ r. state_at (stage_or Reading c.entered r) intake c) (sym is) ∙ ap (λ stage. state_at stage intake c) (put_stage_or fault c.entered Reading))
+      refl refl refl refl (λ n. refl)
+
+  pub refused_runs : (code : SetupCode) (flags : ℕ) (fault : Option SinkFailed) → PutsOut telling (refusal_frame code flags) fault l l'
+      → Runs telling worker does (state_at (Refusing code flags) intake c) (state_at (end_stage c.entered (refused_end fault)) intake c) l l' a a
+  refused_runs code flags fault puts =
+      runs_put (Refused (record { bytes = puts.bytes; fault = fault })) (refusal_frame code flags) fault puts puts.front
+      (ap (λ stage. state_at stage intake c) (refused_stage c.entered fault)) refl refl refl refl (λ n. refl)
+
+module _ {L A : Type 0} {telling : Telling L} {worker : A → ℕ} {does : A → PoolCall → A → Type 0} {l : L} {a : A} (intake : Intake) (c : Conversation) where
+  -- a header over the limit
+  pub overran_runs : (holding : Holding) (rest : List ℕ) (len : ℕ) → holding.limit ≡ most_payload → HoldsOver len holding
+      → Runs telling worker does (state_at Reading (record intake { unmet = holding.held ++ rest }) c)
+      (state_at (end_stage c.entered (end.TooLong len)) (record intake { unmet = holding.held ++ rest }) c) l l a a
+  overran_runs holding rest len limit over =
+      runs_quiet (Overran len)
+      (record {
+        reading = refl;
+        ext = over.ext;
+        kind = over.kind;
+        more = rest;
+        header = ap (λ bytes. bytes ++ rest) over.header;
+        ext_fits = over.ext_fits;
+        kind_fits = over.kind_fits;
+        length_fits = over.length_fits;
+        over = rw limit at over.over;
+      })
+      refl refl refl refl refl (λ n. refl)
+
+  -- memory was wanted
+  pub starved_runs : Runs telling worker does (state_at Reading intake c) (state_at (end_stage c.entered end.Memory) intake c) l l a a
+  starved_runs = runs_quiet Starved tt refl refl refl refl refl (λ n. refl)
+
+  -- so it was before the greeting
+  pub unserved_runs : Runs telling worker does (state_at Greeting intake c) (state_at (end_stage c.entered end.Memory) intake c) l l a a
+  unserved_runs = runs_quiet Starved tt refl refl refl refl refl (λ n. refl)
+
+  -- a frame
+  pub framed_runs : (holding : Holding) (rest : List ℕ) (made : Step) (new : Conversation) → holding.limit ≡ most_payload → MeetsHeld holding c made new
+      → Runs telling worker does (state_at Reading (record intake { unmet = holding.held ++ rest }) c) (state_at (met_stage new.entered made) (record intake { unmet = rest }) new) l l a a
+  framed_runs holding rest made new limit meets =
+      runs_quiet (Framed (record { frame = meets.frame; rest = rest; step = made; talk = new.session }))
+      (record {
+        reading = refl;
+        whole = ap (λ bytes. bytes ++ rest) meets.whole;
+        fits = meets.fits;
+        within = rw limit at meets.within;
+        meets = meets.meets;
+      })
+      (rw (meets.entered, meets.cursor) refl)
+      refl refl refl refl (λ n. refl)
+
+-- the end of the input
+end_brings : (old new : Option (List Turn)) (buffer : List ℕ) → TakesTurn old new took.End buffer → BringsSteps old new [] × TakesAll true old []
+end_brings None new buffer takes = (tt, tt)
+end_brings (Some turns) new buffer takes =
+    let none = steps_of-ended turns takes.2.0 in
+    ((takes.0, takes.1, ap steps_of (sym takes.2.1)), none)
+
+-- a take that failed
+failed_brings : (old new : Option (List Turn)) (buffer : List ℕ) → TakesTurn old new took.Failed buffer → BringsSteps old new []
+failed_brings None new buffer takes = tt
+failed_brings (Some turns) new buffer takes = (takes.0, takes.1, ap steps_of (sym takes.2))
+
+-- one answer of a link, and what stays of the rest
+pub record TakesOf {L : Type 0} (telling : Telling L) (answered : Took) (buffer : List ℕ) (old new : L) : Type 0 where
+  pub turns : TakesTurn (telling.left old) (telling.left new) answered buffer
+  pub counts : CountsFailure (is_failed_take answered) (telling.read_faults old) (telling.read_faults new)
+  pub put_before : telling.held new ≡ telling.held old
+  pub writes : telling.write_faults new ≡ telling.write_faults old
+
+module _ (listener : Listener) (listening : IsListening listener) where
+  cut_at_most : IsCutWithin (record { held = listener.splitter.held; limit = most_payload })
+  cut_at_most = subst (λ n. IsCutWithin (record { held = listener.splitter.held; limit = n })) listening.limit listening.cut
+
+  can_take : (c : Conversation) → CanTake (state_at Reading (intake_of listener) c)
+  can_take c = record { waiting = record { reading = refl; cut = cut_at_most }; some = listening.some }
+
+  module _ {L A : Type 0} {telling : Telling L} {worker : A → ℕ} {does : A → PoolCall → A → Type 0} {l l' : L} {a : A} (c : Conversation) (buffer : List ℕ) where
+    pub took_runs : (n : ℕ) → 0 < length (take n buffer) → length (take n buffer) ≤ 4096 → length (take n buffer) ≤ listener.bytes → TakesOf telling (took.Bytes n) buffer l l'
+        → Runs telling worker does (state_at Reading (intake_of listener) c) (state_at Reading (intake_with (take n buffer) listener) c) l l' a a
+    took_runs n some piece within takes =
+        runs_step (steps.Took (take n buffer)) (record { can = can_take c; some = some; piece = piece; within = within }) refl
+        (brought_bytes (telling.left l) (telling.left l) (telling.left l') [] n buffer (brought_none (telling.left l)) takes.turns) tt
+        (rw takes.put_before (Adds-none (telling.held l))) takes.counts takes.writes refl refl
+
+    pub idled_runs : TakesOf telling took.Idle buffer l l'
+        → Runs telling worker does (state_at Reading (intake_of listener) c)
+        (state_at (news_stage c.entered (idled (intake_of listener)).idles) (idled (intake_of listener)) c) l l' a a
+    idled_runs takes =
+        runs_step steps.Idled (can_take c) refl
+        (brought_idle (telling.left l) (telling.left l) (telling.left l') [] buffer (brought_none (telling.left l)) takes.turns) tt
+        (rw takes.put_before (Adds-none (telling.held l))) takes.counts takes.writes refl refl
+
+    pub ended_runs : TakesOf telling took.End buffer l l'
+        → Runs telling worker does (state_at Reading (intake_of listener) c) (state_at (end_stage c.entered (input_end listener.splitter.held)) (intake_of listener) c) l l' a a
+    ended_runs takes =
+        let brings = end_brings (telling.left l) (telling.left l') buffer takes.turns in
+        runs_step steps.Ended (can_take c) refl brings.0 brings.1 (rw takes.put_before (Adds-none (telling.held l))) takes.counts takes.writes refl refl
+
+    pub missed_runs : TakesOf telling took.Failed buffer l l'
+        → Runs telling worker does (state_at Reading (intake_of listener) c) (state_at (end_stage c.entered end.ReadFault) (intake_of listener) c) l l' a a
+    missed_runs takes =
+        runs_step steps.Missed (can_take c) refl (failed_brings (telling.left l) (telling.left l') buffer takes.turns) tt
+        (rw takes.put_before (Adds-none (telling.held l))) takes.counts takes.writes refl refl
+
+-- as many bytes came as are taken
+pub spent_runs : {L A : Type 0} {telling : Telling L} {worker : A → ℕ} {does : A → PoolCall → A → Type 0} {l : L} {a : A} (intake : Intake) (c : Conversation)
+    → IsCutWithin (record { held = intake.unmet; limit = most_payload }) → intake.bytes ≡ 0
+    → Runs telling worker does (state_at Reading intake c) (state_at (end_stage c.entered end.BytesOut) intake c) l l a a
+spent_runs intake c cut none = runs_quiet steps.Spent (record { reading = refl; cut = cut }, none) refl refl refl refl refl (λ n. refl)
+
+-- a step that leads on to more
+pub reads_first : {L A : Type 0} {telling : Telling L} {worker : A → ℕ} {does : A → PoolCall → A → Type 0} {l l' l'' : L} {a a' a'' : A} {before middle kept : Intake} {old new : Conversation} {result : Option SessionEnd}
+    → Runs telling worker does (state_at Reading before old) (state_at Reading middle old) l l' a a' → ReadsOn telling worker does middle kept old new l' l'' a' a'' result
+    → ReadsOn telling worker does before kept old new l l'' a a'' result
+reads_first first then = record { intake = then.intake; kept_is = then.kept_is; runs = runs_on first then.runs }
+
+pub idles_first : {L A : Type 0} {telling : Telling L} {worker : A → ℕ} {does : A → PoolCall → A → Type 0} {l l' l'' : L} {a a' a'' : A} {before kept : Intake} {old new : Conversation} {result : Option SessionEnd}
+    → Runs telling worker does (state_at Reading before old) (state_at (news_stage old.entered (idled before).idles) (idled before) old) l l' a a'
+    → IdlesOn telling worker does before kept old new l' l'' a' a'' result → ReadsOn telling worker does before kept old new l l'' a a'' result
+idles_first {before = before} first then = record { intake = idled before; kept_is = λ none. sym then.kept_is; runs = runs_on first then.runs }
+
+-- bytes bring the end nearer, and so does an Idle turn
+pub bytes_nearer : (bytes turns idles count : ℕ) → 0 < count → count ≤ bytes → (bytes - count) * (turns + 1) + turns < bytes * (turns + 1) + idles
+bytes_nearer bytes turns idles count some fits =
+    let least : (bytes - count) + 1 ≤ bytes = omega (arith, some, fits) in
+    omega (arith, mul-le-mul_right (turns + 1) least)
+
+-- what was fed and what is left of the piece are what was held and the piece
+pub fed_whole : (held held' rest : List ℕ) (count : ℕ) → held' ≡ held ++ take count rest → held' ++ take (length rest - count) (drop count rest) ≡ held ++ rest
+fed_whole held held' rest count fed =
+    ap (λ l. held' ++ l) (take_rest rest count) ∙ ap (λ l. l ++ drop count rest) fed
+    ∙ append_assoc held (take count rest) (drop count rest) ∙ ap (λ l. held ++ l) (take-append-drop count rest)
+
+-- what is held once all is fed is cut within the limit
+pub cut_held : (holding : Holding) (rest : List ℕ) → rest ≡ holding.held → holding.limit ≡ most_payload → IsCutWithin holding → IsCutWithin (record { held = rest; limit = most_payload })
+cut_held holding rest is limit cut = rw is (subst (λ n. IsCutWithin (record { held = holding.held; limit = n })) limit cut)
+
+-- too many Idle turns came in a row
+pub next_idle_out : (entered : Bool) (idles : ℕ) → idles ≡ 0 → next_stage entered idles ≡ end_stage entered end.IdleOut
+next_idle_out entered idles none = rw none refl
+
+-- a session begins
+pub new_is : (c : Conversation) (role : Role) (rolling : Bool) (idle_turns : ℕ) → c.session ≡ new_talk role rolling → c.entered ≡ false → c.cursor ≡ 0
+    → state_at Greeting (new_intake idle_turns) c ≡ new_state role rolling idle_turns
+new_is c role rolling idle_turns talk entered cursor = rw (talk, entered, cursor) refl

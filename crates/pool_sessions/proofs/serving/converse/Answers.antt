@@ -1,0 +1,19 @@
+use Rattle.std.proofs.Common.{refl}
+use Rattle.session_steps.specs.States.{Over}
+use Rattle.pool_sessions.specs.Standing.{state_at}
+use Rattle.pool_sessions.proofs.Chains.{runs_none, runs_on}
+use Rattle.pool_sessions.proofs.Moves.{left_runs}
+use Rattle.pool_sessions.proofs.Turns.{new_is}
+use Rattle.pool_sessions.proofs.serving.converse.Goals as goal
+
+pub returns-clause-session : goal.returns-clause-session
+returns-clause-session g c =
+    let conversation = c.new-conversation.result in
+    let begins = new_is conversation c.args.role c.args.rolling c.args.limits.idle_turns c.new-conversation.ensures.talk c.new-conversation.ensures.entered c.new-conversation.ensures.cursor in
+    let serves = c.serve-end.ensures.serves in
+    record {
+      last = state_at (Over c.leave.result) serves.intake c.serve-end.new.self;
+      over = refl;
+      runs = runs_on (runs_none begins)
+          (runs_on serves.runs (left_runs serves.intake c.serve-end.new.self c.serve-end.result c.leave.result c.leave.ensures.leaves));
+    }

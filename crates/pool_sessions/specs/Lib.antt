@@ -1,0 +1,6 @@
+pub mod Answerers
+pub mod Links
+pub mod Running
+pub mod Standing
+pub mod Meeting
+pub mod Sessions
