@@ -4,3 +4,4 @@ pub mod Running
 pub mod Standing
 pub mod Meeting
 pub mod Sessions
+pub mod Good

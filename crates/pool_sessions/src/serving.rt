@@ -1,7 +1,9 @@
 //! One session.
 
-ghost use Rattle.std.specs.Prelude.{◌≡◌, ◌<◌, ℕ};
+ghost use Rattle.std.specs.Prelude.{◌≡◌, ◌<◌, ℕ, List, Some};
+ghost use Rattle.pool_io.specs.declared.turn.Turn.{Turn};
 ghost use Rattle.session_steps.specs.States.{Greeting, Reading};
+ghost use Rattle.pool_sessions.specs.Good.{IsGoodEnd, IsGoodInput};
 ghost use Rattle.pool_sessions.specs.Sessions.{IsSession};
 
 use crate::acting::Acting;
@@ -94,6 +96,10 @@ pub fn converse<L: Link, A: Acting>(
       write_faults = L.write_faults;
     }) A.worker A.does role rolling limits.idle_turns
         link.old link.new acting.old acting.new result }
+
+    // Input that is to blame for nothing isn't blamed.
+    ensures good { (told : List Turn) → L.left link.old ≡ Some told
+        → IsGoodInput role rolling told → IsGoodEnd result }
 {
     let mut conversation = Conversation::new(alloc, role, rolling);
     let end = conversation.serve(limits.idle_turns, link, acting);
