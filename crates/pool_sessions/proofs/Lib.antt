@@ -1,5 +1,6 @@
 pub mod Asked
 pub mod Chains
+pub mod Counted
 pub mod Good
 pub mod Moves
 pub mod Parts

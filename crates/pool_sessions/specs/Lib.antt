@@ -5,3 +5,4 @@ pub mod Standing
 pub mod Meeting
 pub mod Sessions
 pub mod Good
+pub mod Causes

@@ -2,7 +2,9 @@
 
 ghost use Rattle.std.specs.Prelude.{◌≡◌, ◌<◌, ℕ, List, Some};
 ghost use Rattle.pool_io.specs.declared.turn.Turn.{Turn};
+ghost use Rattle.pool_io.specs.Outside.{CountsFailure};
 ghost use Rattle.session_steps.specs.States.{Greeting, Reading};
+ghost use Rattle.pool_sessions.specs.Causes.{is_read_end, is_write_end};
 ghost use Rattle.pool_sessions.specs.Good.{IsGoodEnd, IsGoodInput};
 ghost use Rattle.pool_sessions.specs.Sessions.{IsSession};
 
@@ -96,6 +98,12 @@ pub fn converse<L: Link, A: Acting>(
       write_faults = L.write_faults;
     }) A.worker A.does role rolling limits.idle_turns
         link.old link.new acting.old acting.new result }
+
+    // A failure is the end exactly where it was counted, and is counted once.
+    ensures reads { CountsFailure (is_read_end result) (L.read_faults link.old)
+        (L.read_faults link.new) }
+    ensures writes { CountsFailure (is_write_end result) (L.write_faults link.old)
+        (L.write_faults link.new) }
 
     // Input that is to blame for nothing isn't blamed.
     ensures good { (told : List Turn) → L.left link.old ≡ Some told

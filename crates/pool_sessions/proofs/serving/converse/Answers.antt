@@ -2,6 +2,7 @@ use Rattle.std.proofs.Common.{refl}
 use Rattle.session_steps.specs.States.{Over}
 use Rattle.pool_sessions.specs.Standing.{state_at}
 use Rattle.pool_sessions.proofs.Chains.{runs_none, runs_on}
+use Rattle.pool_sessions.proofs.Counted.{session_reads, session_writes}
 use Rattle.pool_sessions.proofs.Good.{session_good}
 use Rattle.pool_sessions.proofs.Moves.{left_runs}
 use Rattle.pool_sessions.proofs.Turns.{new_is}
@@ -18,6 +19,12 @@ returns-clause-session g c =
       runs = runs_on (runs_none begins)
           (runs_on serves.runs (left_runs serves.intake c.serve-end.new.self c.serve-end.result c.leave.result c.leave.ensures.leaves));
     }
+
+pub returns-clause-reads : goal.returns-clause-reads
+returns-clause-reads g c = session_reads (returns-clause-session g c)
+
+pub returns-clause-writes : goal.returns-clause-writes
+returns-clause-writes g c = session_writes (returns-clause-session g c)
 
 pub returns-clause-good : goal.returns-clause-good
 returns-clause-good g c = λ told is input. session_good (returns-clause-session g c) told is input
