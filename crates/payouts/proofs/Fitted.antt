@@ -63,7 +63,7 @@ fitted-all n left (x ∷ xs) each fits = by_test (nat_lt 0 left) refl (fitted-al
     filled : left ≤ 0 → ⊥
     filled l = omega (arith, l, fits, each.0.some)
 
-all-reverse : (n : ℕ) (xs : List Kept) → AllByRecursion (IsKeptCredit n) xs → AllByRecursion (IsKeptCredit n) (reverse xs)
+pub all-reverse : (n : ℕ) (xs : List Kept) → AllByRecursion (IsKeptCredit n) xs → AllByRecursion (IsKeptCredit n) (reverse xs)
 all-reverse n [] each = tt
 all-reverse n (x ∷ xs) each = subst (AllByRecursion (IsKeptCredit n)) (sym (reverse-append (x ∷ []) xs)) (all-append (IsKeptCredit n) (reverse xs) (x ∷ []) (all-reverse n xs each.1) (each.0, tt))
 

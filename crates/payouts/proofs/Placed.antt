@@ -1,7 +1,7 @@
 -- Accounts and their places, and weights by them.
 use Rattle.std.proofs.Common.{◌≡◌, ℕ, ◌+◌, ◌<◌, ◌≤◌, ◌||◌, suc, Bool, true, false, not, cond, bytes_eq, filter, map, nat_lt, List, [], ◌∷◌, ◌++◌, length, replicate, reverse, refl, sym, ap, ap₂, ◌∙◌, subst, arith}
-use Rattle.std.specs.List.{list_any}
-use Rattle.std.proofs.lemmas.Bool.{and_parts, ltb-false, not-true, or_parts, false≢true}
+use Rattle.std.specs.List.{AllByRecursion, list_any}
+use Rattle.std.proofs.lemmas.Bool.{and_parts, ltb-false, ltb-true, not-true, or_parts, false≢true}
 use Rattle.std.proofs.lemmas.List.{reverse-append}
 use Rattle.std.proofs.lemmas.Slice.Eq.{bytes_eq-Decides}
 use Rattle.payout_laws.proofs.Members.{IsAmong, PartsAmong, bytes_eq-self}
@@ -10,7 +10,7 @@ use Rattle.pool_history.specs.Accounts.{are_distinct}
 use Rattle.pool_history.specs.Settling.{Part, weight, with_account}
 use Rattle.payouts.specs.declared.window.Kept.{Kept}
 use Rattle.payouts.specs.Tallies.{account_place, placed, with_newcomer}
-use Rattle.payouts.specs.Window.{added, weights_of}
+use Rattle.payouts.specs.Window.{IsKeptCredit, added, weights_of}
 use Rattle.payouts.proofs.Added.{added-none, weights_of-push}
 
 -- a place behind the first
@@ -161,3 +161,12 @@ place-within a (x ∷ accounts) there = by_test (bytes_eq a x) refl there (place
       → account_place (x ∷ accounts) a < suc (length accounts)
   by_test true e is more = subst (λ n. n < suc (length accounts)) (sym (place-first a x accounts e)) (omega arith)
   by_test false e is more = subst (λ n. n < suc (length accounts)) (sym (place-next a x accounts e)) (omega (arith, more is))
+
+-- what is placed is of the accounts, and has some work
+pub placed-each : (accounts : List (List ℕ)) (parts : List Part) → PartsAmong accounts parts → AllByRecursion (IsKeptCredit (length accounts)) (placed accounts parts)
+placed-each accounts [] among = tt
+placed-each accounts (part ∷ parts) among = by_test (nat_lt 0 part.weight) refl (placed-each accounts parts among.1) where
+  by_test : (t : Bool) → nat_lt 0 part.weight ≡ t → AllByRecursion (IsKeptCredit (length accounts)) (placed accounts parts)
+      → AllByRecursion (IsKeptCredit (length accounts)) (cond t (record { place = account_place accounts part.account; part = part.weight } ∷ placed accounts parts) (placed accounts parts))
+  by_test true e more = (record { known = place-within part.account accounts among.0; some = omega (arith, ltb-true 0 part.weight e) }, more)
+  by_test false e more = more

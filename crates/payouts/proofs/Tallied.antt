@@ -1,5 +1,5 @@
 -- What holds of a tally's parts, over a push.
-use Rattle.std.proofs.Common.{◌≡◌, ℕ, ◌+◌, ◌<◌, ◌≤◌, suc, zero, Bool, true, false, cond, bytes_eq, Option, None, Some, List, [], ◌∷◌, ◌++◌, length, replicate, refl, sym, ap, ◌∙◌, subst, arith}
+use Rattle.std.proofs.Common.{◌≡◌, ℕ, ◌+◌, ◌<◌, ◌≤◌, suc, zero, Bool, true, false, cond, bytes_eq, Option, None, Some, List, [], ◌∷◌, ◌++◌, length, replicate, refl, sym, ap, ap₂, ◌∙◌, subst, arith}
 use Rattle.std.specs.List.{AllByRecursion, list_any}
 use Rattle.std.proofs.lemmas.List.{length-append, length-replicate}
 use Rattle.std.proofs.lemmas.List.Sums.{sum_by-cons}
@@ -8,7 +8,8 @@ use Rattle.pool_history.specs.Settling.{with_account}
 use Rattle.payouts.specs.declared.window.Kept.{Kept}
 use Rattle.payouts.specs.Settlements.{weights_behind}
 use Rattle.payouts.specs.Sums.{blocks_by}
-use Rattle.payouts.specs.Tallies.{IsFilled, KeepsCredits, account_place, with_newcomer}
+use Rattle.payouts.specs.Tallies.{AddsCredit, HasRoundsByRule, IsFilled, IsTallied, KeepsCredits, account_place, round_works_by, weights_by, with_newcomer}
+use Rattle.payouts.specs.Weights.{AreAtMost}
 use Rattle.payouts.specs.Window.{IsKeptCredit, IsCreditWindow, added, weights_sum, weights_of}
 use Rattle.payouts.proofs.Added.{length-weights_of}
 use Rattle.payouts.proofs.Placed.{place-most, place-within}
@@ -116,3 +117,36 @@ behind-keeps (Some window) kept weights weights' is keeps = subst (IsFilled wind
 pub few-pushed : (blocks blocks' pushes : ℕ) (unsettled : Bool) → blocks' ≡ blocks → blocks_by blocks unsettled ≤ pushes → blocks_by blocks' true ≤ pushes + 1
 few-pushed blocks blocks' pushes true same few = omega (arith, same, few)
 few-pushed blocks blocks' pushes false same few = omega (arith, same, few)
+
+-- the running weights are those that a tally shows
+pub weights-kept : (window : Option ℕ) (accounts : List (List ℕ)) (weights : List ℕ) (kept : List Kept) → length weights ≡ length accounts → KeepsCredits window kept weights
+    → weights ≡ weights_by window (length accounts) (round_works_by window weights) kept
+weights-kept None accounts weights kept long keeps = refl
+weights-kept (Some window) accounts weights kept long keeps = keeps.weighed.weighed ∙ ap (λ n. weights_of n kept) long
+
+pub weights-shown : (window : Option ℕ) (accounts : List (List ℕ)) (weights : List ℕ) (kept : List Kept) (sum pushes : ℕ) (unsettled : Bool)
+    → IsTallied window accounts weights kept sum pushes unsettled → weights ≡ weights_by window (length accounts) (round_works_by window weights) kept
+weights-shown window accounts weights kept sum pushes unsettled is = weights-kept window accounts weights kept is.same_length is.keeps
+
+pub rounds-shown : (window : Option ℕ) (weights : List ℕ) → HasRoundsByRule window (round_works_by window weights)
+rounds-shown None weights = tt
+rounds-shown (Some window) weights = refl
+
+-- so is what a push adds to them
+pub adds-shown : (window : Option ℕ) (kept kept' : List Kept) (before weights numbers' weights' : List ℕ) (place place' work : ℕ) → before ≡ weights → place ≡ place' → numbers' ≡ weights'
+    → AddsCredit window kept before (record { place = place; part = work }) kept' numbers' → AddsCredit window kept weights (record { place = place'; part = work }) kept' weights'
+adds-shown window kept kept' before weights numbers' weights' place place' work was at is adds =
+    subst (λ ws. AddsCredit window kept weights (record { place = place'; part = work }) kept' ws) is
+    (subst (λ p. AddsCredit window kept weights (record { place = p; part = work }) kept' numbers') at
+    (subst (λ ws. AddsCredit window kept ws (record { place = place; part = work }) kept' numbers') was adds))
+
+pub most-shown : (before weights numbers' weights' : List ℕ) (place place' work : ℕ) → before ≡ weights → place ≡ place' → numbers' ≡ weights' → AreAtMost numbers' (added before place work)
+    → AreAtMost weights' (added weights place' work)
+most-shown before weights numbers' weights' place place' work was at is most =
+    subst (λ ws. AreAtMost ws (added weights place' work)) is (subst (AreAtMost numbers') (ap₂ (λ ns p. added ns p work) was at) most)
+
+-- so is what a block leaves of them
+pub behind-shown : (window : Option ℕ) (weights weights' : List ℕ) → weights' ≡ weights_behind window weights
+    → round_works_by window weights' ≡ weights_behind window (round_works_by window weights)
+behind-shown None weights weights' is = is
+behind-shown (Some window) weights weights' is = refl

@@ -2,7 +2,7 @@
 use Rattle.std.proofs.Common.{◌≡◌, ℕ, ◌+◌, ◌-◌, ◌*◌, ◌/◌, ◌<◌, ◌≤◌, min, suc, Bool, true, false, cond, bytes_eq, is_some, map, nat_lt, Option, None, Some, List, [], ◌∷◌, ◌++◌, length, reverse, replicate, refl, sym, ap, ap₂, ◌∙◌, subst, arith}
 use Rattle.std.specs.List.{AllByRecursion}
 use Rattle.std.proofs.lemmas.Bool.{ltb-false, ltb-true}
-use Rattle.std.proofs.lemmas.List.{length-replicate, reverse-append, reverse-reverse}
+use Rattle.std.proofs.lemmas.List.{length-map, reverse-append, reverse-reverse}
 use Rattle.payout_laws.proofs.Conserved.{conserved}
 use Rattle.payout_laws.proofs.Members.{AreAmong, PartsAmong, among-accounts_of, among-with_account, distinct-accounts_of, distinct-with_account, last_work-among, since_block-among, weight-none}
 use Rattle.payout_laws.proofs.Sums.{sum_by-accounts, sum_by-map}
@@ -13,11 +13,11 @@ use Rattle.payouts.specs.declared.window.Kept.{Kept}
 use Rattle.payout_laws.specs.Conservation.{IsConserved}
 use Rattle.payouts.specs.Plans.{IsSettledPush}
 use Rattle.payouts.specs.Settlements.{EndsRound, IsSettlement, SettlesBlock, as_block, payments_by, settled_by, weights_behind}
-use Rattle.payouts.specs.Tallies.{AddsCredit, DiffersInRoom, IsPushed, Remembers, RemembersPush, RemembersWeights, Weighing, account_place, placed, with_newcomer}
+use Rattle.payouts.specs.Tallies.{AddsCredit, DiffersInRoom, IsPushed, Remembers, RemembersPush, RemembersWeights, HasRoundsByRule, Weighing, account_place, placed, weights_by, weights_in, with_newcomer}
 use Rattle.payouts.specs.Window.{IsKeptCredit, IsCreditWindow, added, weights_sum, weights_of, without_oldest}
 use Rattle.payouts.proofs.Added.{length-weights_of, total-added, total-none}
-use Rattle.payouts.proofs.Fitted.{cut-fits, fitted, fitted-left, last_work-left, left_of, parts_sum, parts_sum-append}
-use Rattle.payouts.proofs.Placed.{added-map, map-same, map-with_account, place-with_account, none-weighs, placed-stays, weight-more, weights-placed, weights_of-reverse}
+use Rattle.payouts.proofs.Fitted.{all-reverse, cut-fits, fitted, fitted-left, last_work-left, left_of, parts_sum, parts_sum-append}
+use Rattle.payouts.proofs.Placed.{added-map, map-same, map-with_account, place-with_account, none-weighs, placed-each, placed-stays, weight-more, weights-placed, weights_of-reverse}
 use Rattle.payouts.proofs.Tallied.{each-push, total-with_newcomer}
 
 -- the proportional rule: the work is added to the account's weight
@@ -115,21 +115,39 @@ told_window window work account accounts weights kept kept' credits some among i
     parts_among : PartsAmong accounts (left_of window credits)
     parts_among = subst (PartsAmong accounts) lefts (last_work-among window 0 accounts credits among)
 
+-- the credits in the window that a tally was told are of its accounts
+window_told : (window : ℕ) (accounts : List (List ℕ)) (kept : List Kept) (credits : List Booked) → AreAmong accounts credits → reverse kept ≡ placed accounts (last_work window 0 credits)
+    → IsCreditWindow kept (weights_of (length accounts) kept)
+window_told window accounts kept credits among was = record {
+  each = subst (λ n. AllByRecursion (IsKeptCredit n) kept) (sym (length-weights_of (length accounts) kept)) each;
+  weighed = ap (λ n. weights_of n kept) (sym (length-weights_of (length accounts) kept));
+} where
+  each : AllByRecursion (IsKeptCredit (length accounts)) kept
+  each = subst (AllByRecursion (IsKeptCredit (length accounts))) (reverse-reverse kept)
+      (all-reverse (length accounts) (reverse kept)
+      (subst (AllByRecursion (IsKeptCredit (length accounts))) (sym was) (placed-each accounts (last_work window 0 credits) (last_work-among window 0 accounts credits among))))
+
 -- a push, by either rule
-told_weights : (window : Option ℕ) (old new : Weighing) (account : List ℕ) (work : ℕ) (credits : List Booked) → 1 ≤ work
-    → length old.weights ≡ length old.accounts → new.accounts ≡ with_account account old.accounts
+told_weights : (window : Option ℕ) (old new : Weighing) (account : List ℕ) (work : ℕ) (credits : List Booked) → 1 ≤ work → new.accounts ≡ with_account account old.accounts
     → are_distinct old.accounts ≡ true → AreAmong old.accounts credits
     → RemembersWeights old window credits
-    → AddsCredit window old.kept (with_newcomer account old.accounts old.weights) (record { place = account_place old.accounts account; part = work }) new.kept new.weights
+    → AddsCredit window old.kept (with_newcomer account old.accounts (weights_by window (length old.accounts) old.round_works old.kept)) (record { place = account_place old.accounts account; part = work })
+    new.kept (weights_by window (length new.accounts) new.round_works new.kept)
+    → HasRoundsByRule window new.round_works
     → RemembersWeights new window (record { account = account; work = work; reward = None } ∷ credits)
-told_weights None old new account work credits some long is distinct among was adds =
-    told_share account work old.accounts old.weights new.weights (since_block credits) (distinct-with_account account old.accounts distinct) (since_block-among old.accounts credits among) was adds
-    ∙ ap (map (λ a. weight a (record { account = account; weight = work } ∷ since_block credits))) (sym is)
-told_weights (Some window) old new account work credits some long is distinct among was adds = (
-  adds.0,
-  told_window window work account old.accounts old.weights old.kept new.kept credits some among was.0 was.1 (each-push account work old.accounts old.weights old.kept some long was.0) adds.1
-      ∙ ap (λ accounts. placed accounts (last_work window 0 (record { account = account; work = work; reward = None } ∷ credits))) (sym is),
+told_weights None old new account work credits some is distinct among was adds rounds = (
+  told_share account work old.accounts old.round_works new.round_works (since_block credits) (distinct-with_account account old.accounts distinct) (since_block-among old.accounts credits among) was.0 adds.0
+      ∙ ap (map (λ a. weight a (record { account = account; weight = work } ∷ since_block credits))) (sym is),
+  adds.1 ∙ was.1,
 )
+told_weights (Some window) old new account work credits some is distinct among was adds rounds = (
+  rounds,
+  told_window window work account old.accounts (weights_of (length old.accounts) old.kept) old.kept new.kept credits some among windowed was.1
+      (each-push account work old.accounts (weights_of (length old.accounts) old.kept) old.kept some (length-weights_of (length old.accounts) old.kept) windowed) adds.1
+      ∙ ap (λ accounts. placed accounts (last_work window 0 (record { account = account; work = work; reward = None } ∷ credits))) (sym is),
+) where
+  windowed : IsCreditWindow old.kept (weights_of (length old.accounts) old.kept)
+  windowed = window_told window old.accounts old.kept credits among was.1
 
 pub among-told : (tally : Weighing) (credits : List Booked) → Remembers tally credits → AreAmong tally.accounts credits
 among-told tally credits was = subst (λ accounts. AreAmong accounts credits) (sym was.accounts_are) (among-accounts_of credits)
@@ -141,11 +159,15 @@ pub told_push : (old new : Weighing) (account : List ℕ) (work : ℕ) → 1 ≤
 told_push old new account work some is credits was = record {
   accounts_are = is.accounts_are ∙ ap (with_account account) was.accounts_are;
   weights_are = subst (λ window. RemembersWeights new window (record { account = account; work = work; reward = None } ∷ credits)) (sym is.window_stays)
-      (told_weights old.window old new account work credits some was.same_length is.accounts_are (distinct-told old credits was) (among-told old credits was) was.weights_are is.weighed);
+      (told_weights old.window old new account work credits some is.accounts_are (distinct-told old credits was) (among-told old credits was) was.weights_are adds is.rounds);
   pushes_are = is.pushes_are ∙ ap (λ n. n + 1) was.pushes_are ∙ more;
   unsettled_is = is.unsettled_is;
-  same_length = is.same_length;
 } where
+  adds : AddsCredit old.window old.kept (with_newcomer account old.accounts (weights_in old)) (record { place = account_place old.accounts account; part = work })
+      new.kept (weights_by old.window (length new.accounts) new.round_works new.kept)
+  adds = subst (λ window. AddsCredit old.window old.kept (with_newcomer account old.accounts (weights_in old)) (record { place = account_place old.accounts account; part = work })
+      new.kept (weights_by window (length new.accounts) new.round_works new.kept)) is.window_stays is.weighed
+
   more : length credits + 1 ≡ suc (length credits)
   more = omega arith
 
@@ -156,9 +178,8 @@ told_room old new credits same was = subst (λ tally. Remembers tally credits) (
   weights_are = by_window old.window was.weights_are;
   pushes_are = was.pushes_are;
   unsettled_is = was.unsettled_is;
-  same_length = was.same_length;
 }) where
-  by_window : (window : Option ℕ) → RemembersWeights old window credits → RemembersWeights (record { window = old.window; accounts = old.accounts; weights = old.weights; kept = old.kept; works = old.works; balances = old.balances; pool = old.pool; blocks = old.blocks; pushes = old.pushes; unsettled = old.unsettled; room = new.room }) window credits
+  by_window : (window : Option ℕ) → RemembersWeights old window credits → RemembersWeights (record { window = old.window; accounts = old.accounts; round_works = old.round_works; kept = old.kept; works = old.works; balances = old.balances; pool = old.pool; blocks = old.blocks; pushes = old.pushes; unsettled = old.unsettled; room = new.room }) window credits
   by_window None h = h
   by_window (Some window) h = h
 
@@ -174,17 +195,17 @@ parts_behind-among : (window : Option ℕ) (accounts : List (List ℕ)) (credits
 parts_behind-among None accounts credits among = since_block-among accounts credits among
 parts_behind-among (Some window) accounts credits among = last_work-among window 0 accounts credits among
 
-weights_by : (window : Option ℕ) (tally : Weighing) (credits : List Booked) → length tally.weights ≡ length tally.accounts → are_distinct tally.accounts ≡ true → AreAmong tally.accounts credits
-    → RemembersWeights tally window credits → tally.weights ≡ map (λ a. weight a (parts_behind window credits)) tally.accounts
-weights_by None tally credits long distinct among was = was
-weights_by (Some window) tally credits long distinct among was =
-    was.0.weighed ∙ ap₂ (λ n kept. weights_of n kept) long (sym (reverse-reverse tally.kept))
+weights_told : (window : Option ℕ) (tally : Weighing) (credits : List Booked) → are_distinct tally.accounts ≡ true → AreAmong tally.accounts credits
+    → RemembersWeights tally window credits → weights_by window (length tally.accounts) tally.round_works tally.kept ≡ map (λ a. weight a (parts_behind window credits)) tally.accounts
+weights_told None tally credits distinct among was = was.0
+weights_told (Some window) tally credits distinct among was =
+    ap (weights_of (length tally.accounts)) (sym (reverse-reverse tally.kept))
     ∙ ap (λ kept. weights_of (length tally.accounts) (reverse kept)) was.1
     ∙ weights_of-reverse (length tally.accounts) (placed tally.accounts (last_work window 0 credits))
     ∙ weights-placed tally.accounts (last_work window 0 credits) distinct (last_work-among window 0 tally.accounts credits among)
 
-pub told_by_parts : (tally : Weighing) (credits : List Booked) → Remembers tally credits → tally.weights ≡ map (λ a. weight a (parts_behind tally.window credits)) tally.accounts
-told_by_parts tally credits was = weights_by tally.window tally credits was.same_length (distinct-told tally credits was) (among-told tally credits was) was.weights_are
+pub told_by_parts : (tally : Weighing) (credits : List Booked) → Remembers tally credits → weights_in tally ≡ map (λ a. weight a (parts_behind tally.window credits)) tally.accounts
+told_by_parts tally credits was = weights_told tally.window tally credits (distinct-told tally credits was) (among-told tally credits was) was.weights_are
 
 -- the parts in the block are those
 pub block_parts : (window : Option ℕ) (reward : ℕ) (credit : Booked) (older : List Booked) → credit.reward ≡ None
@@ -216,7 +237,7 @@ settled-same tally reward basis_points credit older was none =
     parts : List Part
     parts = parts_behind tally.window (credit ∷ older)
 
-    weights : tally.weights ≡ map (λ a. weight a (parts_behind tally.window (credit ∷ older))) tally.accounts
+    weights : weights_in tally ≡ map (λ a. weight a (parts_behind tally.window (credit ∷ older))) tally.accounts
     weights = told_by_parts tally (credit ∷ older) was
 
     distinct : are_distinct tally.accounts ≡ true
@@ -229,33 +250,34 @@ settled-same tally reward basis_points credit older was none =
 zeros : (n : ℕ) (weights : List ℕ) (accounts : List (List ℕ)) → length weights ≡ length accounts → replicate (length weights) 0 ≡ map (λ a. weight a []) accounts
 zeros n weights accounts long = ap (λ m. replicate {A = ℕ} m 0) long ∙ none-weighs accounts
 
-told_round : (window : Option ℕ) (old new : Weighing) (reward : ℕ) (credit : Booked) (older : List Booked) → length old.weights ≡ length old.accounts → new.accounts ≡ old.accounts
-    → new.weights ≡ weights_behind window old.weights → new.kept ≡ old.kept → RemembersWeights old window (credit ∷ older)
+told_round : (window : Option ℕ) (old new : Weighing) (reward : ℕ) (credit : Booked) (older : List Booked) → new.accounts ≡ old.accounts
+    → new.round_works ≡ weights_behind window old.round_works → new.kept ≡ old.kept → RemembersWeights old window (credit ∷ older)
     → RemembersWeights new window (as_block reward credit ∷ older)
-told_round None old new reward credit older long accounts weights kept was =
-    weights ∙ zeros 0 old.weights old.accounts long ∙ ap (map (λ a. weight a [])) (sym accounts)
-told_round (Some window) old new reward credit older long accounts weights kept was = (
-  subst (λ ns. IsCreditWindow new.kept ns) (sym weights) (subst (λ ks. IsCreditWindow ks old.weights) (sym kept) was.0),
-  ap reverse kept ∙ was.1 ∙ ap (λ accounts. placed accounts (last_work window 0 (credit ∷ older))) (sym accounts),
-)
+told_round None old new reward credit older accounts works kept was =
+    (works ∙ zeros 0 old.round_works old.accounts long ∙ ap (map (λ a. weight a [])) (sym accounts), kept ∙ was.1)
+  where
+    long : length old.round_works ≡ length old.accounts
+    long = ap (λ (ns : List ℕ). length ns) was.0 ∙ length-map old.accounts (λ a. weight a (since_block (credit ∷ older)))
+told_round (Some window) old new reward credit older accounts works kept was =
+    (works ∙ was.0, ap reverse kept ∙ was.1 ∙ ap (λ accounts. placed accounts (last_work window 0 (credit ∷ older))) (sym accounts))
 
 -- the sum of the weights is that of the block's parts
 pub total-block : (tally : Weighing) (reward : ℕ) (credit : Booked) (older : List Booked) → Remembers tally (credit ∷ older) → credit.reward ≡ None
-    → weights_sum tally.weights ≡ all_weights (parts_in_block tally.window (as_block reward credit ∷ older))
+    → weights_sum (weights_in tally) ≡ all_weights (parts_in_block tally.window (as_block reward credit ∷ older))
 total-block tally reward credit older was none =
     ap weights_sum (told_by_parts tally (credit ∷ older) was)
     ∙ total-map (parts_behind tally.window (credit ∷ older)) tally.accounts (distinct-told tally (credit ∷ older) was)
     (parts_behind-among tally.window tally.accounts (credit ∷ older) (among-told tally (credit ∷ older) was))
     ∙ ap all_weights (block_parts tally.window reward credit older none)
 
-block-conserved : (tally : Weighing) (reward basis_points : ℕ) (settled : Settled) (credit : Booked) (older : List Booked) → basis_points ≤ 10000 → 1 ≤ weights_sum tally.weights
+block-conserved : (tally : Weighing) (reward basis_points : ℕ) (settled : Settled) (credit : Booked) (older : List Booked) → basis_points ≤ 10000 → 1 ≤ weights_sum (weights_in tally)
     → Remembers tally (credit ∷ older) → credit.reward ≡ None → settled ≡ settlement tally.window basis_points reward (as_block reward credit ∷ older)
     → IsConserved basis_points reward (parts_in_block tally.window (as_block reward credit ∷ older)) settled
 block-conserved tally reward basis_points settled credit older part some was none is =
     subst (IsConserved basis_points reward (parts_in_block tally.window (as_block reward credit ∷ older))) (sym is)
     (conserved tally.window basis_points reward (as_block reward credit ∷ older) part (omega (arith, some, total-block tally reward credit older was none)))
 
-pub told_settled : (old new : Weighing) (reward basis_points : ℕ) (settled : Settled) → basis_points ≤ 10000 → 1 ≤ weights_sum old.weights → settled ≡ settled_by old reward basis_points → EndsRound old new
+pub told_settled : (old new : Weighing) (reward basis_points : ℕ) (settled : Settled) → basis_points ≤ 10000 → 1 ≤ weights_sum (weights_in old) → settled ≡ settled_by old reward basis_points → EndsRound old new
     → SettlesBlock old new reward basis_points settled
 told_settled old new reward basis_points settled part some is ends credit older was none = record {
   conserved = block-conserved old reward basis_points settled credit older part some was none (is ∙ settled-same old reward basis_points credit older was none);
@@ -263,18 +285,14 @@ told_settled old new reward basis_points settled part some is ends credit older 
   remembers = record {
     accounts_are = ends.accounts_stay ∙ was.accounts_are;
     weights_are = subst (λ window. RemembersWeights new window (as_block reward credit ∷ older)) (sym ends.window_stays)
-        (told_round old.window old new reward credit older was.same_length ends.accounts_stay ends.weights_are ends.kept_stay was.weights_are);
+        (told_round old.window old new reward credit older ends.accounts_stay ends.round_works_are ends.kept_stay was.weights_are);
     pushes_are = ends.pushes_stay ∙ was.pushes_are;
     unsettled_is = ends.settled;
-    same_length = ap length ends.weights_are ∙ same_length old.window old.weights ∙ was.same_length ∙ ap length (sym ends.accounts_stay);
   };
-} where
-  same_length : (window : Option ℕ) (weights : List ℕ) → length (weights_behind window weights) ≡ length weights
-  same_length None weights = length-replicate (length weights) 0
-  same_length (Some window) weights = refl
+}
 
 -- a push that is settled at once
-pub told_settled_push : (old mid new : Weighing) (account : List ℕ) (work reward basis_points : ℕ) (settled : Settled) → 1 ≤ work → basis_points ≤ 10000 → 1 ≤ weights_sum mid.weights
+pub told_settled_push : (old mid new : Weighing) (account : List ℕ) (work reward basis_points : ℕ) (settled : Settled) → 1 ≤ work → basis_points ≤ 10000 → 1 ≤ weights_sum (weights_in mid)
     → IsPushed old mid account work → settled ≡ settled_by mid reward basis_points → EndsRound mid new
     → (credits : List Booked) → Remembers old credits
     → IsSettledPush old.window new reward basis_points settled (record { account = account; work = work; reward = Some reward }) credits

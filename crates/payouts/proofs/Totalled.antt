@@ -12,7 +12,7 @@ use Rattle.pool_history.specs.Crediting.{Booked}
 use Rattle.pool_history.specs.Settling.{Part, Settled, all_weights, balance, fee_of, paid_to, parts_in_block, settled_at, settlement, settlements, weight, with_account, work_for}
 use Rattle.payouts.specs.Settlements.{as_block, settled_by}
 use Rattle.payouts.specs.Sums.{with_amounts}
-use Rattle.payouts.specs.Tallies.{DiffersInRoom, IsPushed, Remembers, Weighing, with_newcomer}
+use Rattle.payouts.specs.Tallies.{DiffersInRoom, IsPushed, Remembers, Weighing, weights_in, with_newcomer}
 use Rattle.payouts.specs.Totals.{HasSums, PaysBlock, SumsBlock, SumsPush}
 use Rattle.payouts.specs.Window.{added, weights_sum}
 use Rattle.payouts.proofs.Placed.{added-map, map-same, map-with_account, place-with_account}
@@ -116,7 +116,7 @@ block-balances old new reward basis_points settled credit older window accounts 
     (λ a. paid_block old.window basis_points reward credit older (parts_behind old.window (credit ∷ older)) a (block_parts old.window reward credit older none))
     ∙ ap₂ (λ w them. map (λ a. balance a (settlements w basis_points (as_block reward credit ∷ older))) them) (sym window) (sym accounts)
   where
-    total : weights_sum old.weights ≡ all_weights (parts_behind old.window (credit ∷ older))
+    total : weights_sum (weights_in old) ≡ all_weights (parts_behind old.window (credit ∷ older))
     total = total-block old reward credit older was none ∙ ap all_weights (sym (block_parts old.window reward credit older none))
 
     before : old.balances ≡ map (λ a. balance a (settlements old.window basis_points older)) old.accounts

@@ -6,7 +6,7 @@ use Rattle.pool_history.specs.Crediting.{Booked}
 use Rattle.pool_history.specs.Settling.{Settled, parts_in_block, settlement, with_account}
 use Rattle.payouts.specs.declared.settlement.Listed.{Listed}
 use Rattle.payouts.specs.Sheets.{listed_accounts}
-use Rattle.payouts.specs.Tallies.{Remembers, RemembersPush, Weighing, account_place, with_newcomer}
+use Rattle.payouts.specs.Tallies.{Remembers, RemembersPush, Weighing, account_place, weights_in, with_newcomer}
 use Rattle.payouts.specs.Window.{added}
 
 -- a block that is planned: its reward, its fee and the accounts that it may pay
@@ -48,7 +48,7 @@ ListsAccounts tally account work None = Unit
 ListsAccounts tally account work (Some block) =
     block.listed
     ≡ listed_accounts (with_account account tally.accounts)
-    (added (with_newcomer account tally.accounts tally.weights)
+    (added (with_newcomer account tally.accounts (weights_in tally))
     (account_place tally.accounts account) work)
 
 -- a plan fits a tally that is as it was when the plan was made

@@ -4,7 +4,7 @@ use Rattle.std.specs.Prelude.{◌≡◌, ℕ, ◌-◌, ◌*◌, ◌/◌, false, 
 use Rattle.payout_laws.specs.Conservation.{IsConserved}
 use Rattle.pool_history.specs.Crediting.{Booked}
 use Rattle.pool_history.specs.Settling.{Payment, Settled, fee_of, parts_in_block, settled_with, settlement}
-use Rattle.payouts.specs.Tallies.{Remembers, Weighing}
+use Rattle.payouts.specs.Tallies.{Remembers, Weighing, weights_in}
 use Rattle.payouts.specs.Window.{weights_sum}
 
 -- the payouts of accounts with these weights; an account without one isn't listed
@@ -21,8 +21,8 @@ payments_by paid_out all (account ∷ accounts) (weight ∷ weights) =
 abbrev pub settled_by : Weighing → ℕ → ℕ → Settled
 settled_by tally reward basis_points =
     settled_with reward (fee_of reward basis_points)
-    (payments_by (reward - fee_of reward basis_points) (weights_sum tally.weights) tally.accounts
-    tally.weights)
+    (payments_by (reward - fee_of reward basis_points) (weights_sum (weights_in tally))
+    tally.accounts (weights_in tally))
 
 -- what a block leaves of the weights: by the proportional rule nothing, by PPLNS all
 abbrev pub weights_behind : Option ℕ → List ℕ → List ℕ
@@ -33,7 +33,7 @@ weights_behind (Some window) weights = weights
 pub record EndsRound (old new : Weighing) : Type 0 where
   pub window_stays : new.window ≡ old.window
   pub accounts_stay : new.accounts ≡ old.accounts
-  pub weights_are : new.weights ≡ weights_behind old.window old.weights
+  pub round_works_are : new.round_works ≡ weights_behind old.window old.round_works
   pub kept_stay : new.kept ≡ old.kept
   pub works_stay : new.works ≡ old.works
   pub pushes_stay : new.pushes ≡ old.pushes

@@ -9,7 +9,7 @@ use Rattle.payouts.specs.declared.tally.Rule.{Rule}
 use Rattle.payouts.specs.declared.tally.Rule.TheVariants as rule
 use Rattle.payouts.specs.declared.window.Kept.{Kept}
 use Rattle.payouts.specs.Weights.{AreAtMost}
-use Rattle.payouts.specs.Window.{IsCreditWindow, added, weights_sum, without_oldest}
+use Rattle.payouts.specs.Window.{IsCreditWindow, added, weights_of, weights_sum, without_oldest}
 
 -- the place of an account among others, or behind them
 abbrev pub account_place : List (List ℕ) → List ℕ → ℕ
@@ -23,10 +23,11 @@ with_newcomer account accounts numbers =
 -- what a tally knows
 pub record Weighing : Type 0 where
   pub window : Option ℕ
-  -- the accounts in the order of their first push, and their weights
+  -- the accounts in the order of their first push
   pub accounts : List (List ℕ)
-  pub weights : List ℕ
-  -- by PPLNS the credits in the window, the oldest first
+  -- by the proportional rule the work of each account since the last block, by PPLNS nothing
+  pub round_works : List ℕ
+  -- by PPLNS the credits in the window, the oldest first, by the proportional rule none
   pub kept : List Kept
   -- the work and the balance of each account, what stayed with the pool, and the blocks
   pub works : List ℕ
@@ -39,6 +40,21 @@ pub record Weighing : Type 0 where
   -- so many pushes need no memory
   pub room : ℕ
 
+-- what the credits of so many accounts count in a block by now: by the proportional rule the works
+-- since the last block, by PPLNS what is in the window
+abbrev pub weights_by : Option ℕ → ℕ → List ℕ → List Kept → List ℕ
+weights_by None accounts round_works kept = round_works
+weights_by (Some window) accounts round_works kept = weights_of accounts kept
+
+-- the weights of a tally's accounts
+abbrev pub weights_in : Weighing → List ℕ
+weights_in tally = weights_by tally.window (length tally.accounts) tally.round_works tally.kept
+
+-- of running weights what nothing else shows: by PPLNS the credits in the window show them
+abbrev pub round_works_by : Option ℕ → List ℕ → List ℕ
+round_works_by None weights = weights
+round_works_by (Some window) weights = []
+
 -- the credits that have some part, with the places of their accounts
 abbrev pub placed : List (List ℕ) → List Part → List Kept
 placed accounts [] = []
@@ -47,13 +63,14 @@ placed accounts (part ∷ parts) =
     then record { place = account_place accounts part.account; part = part.weight }
     ∷ placed accounts parts else placed accounts parts
 
--- the weights are those of the credits: by the proportional rule of those since the last block, by
--- PPLNS of those in the window
+-- what decides the weights is that of the credits, and nothing beside it is kept: by the
+-- proportional rule the works since the last block, by PPLNS the credits in the window
 abbrev pub RemembersWeights : Weighing → Option ℕ → List Booked → Type 0
 RemembersWeights tally None credits =
-    tally.weights ≡ map (λ account. weight account (since_block credits)) tally.accounts
+    (tally.round_works ≡ map (λ account. weight account (since_block credits)) tally.accounts)
+    × (tally.kept ≡ [])
 RemembersWeights tally (Some window) credits =
-    IsCreditWindow tally.kept tally.weights
+    (tally.round_works ≡ [])
     × (reverse tally.kept ≡ placed tally.accounts (last_work window 0 credits))
 
 -- the last credit is no block yet
@@ -67,29 +84,35 @@ pub record Remembers (tally : Weighing) (credits : List Booked) : Type 0 where
   pub weights_are : RemembersWeights tally tally.window credits
   pub pushes_are : tally.pushes ≡ length credits
   pub unsettled_is : tally.unsettled ≡ is_unsettled credits
-  pub same_length : length tally.weights ≡ length tally.accounts
 
 -- the work of a push is weighed: by the proportional rule it is added, by PPLNS it enters the
 -- window, and as much of the oldest work leaves it as the window is exceeded by
 abbrev pub AddsCredit : Option ℕ → List Kept → List ℕ → Kept → List Kept → List ℕ → Type 0
 AddsCredit None kept weights credit kept' weights' =
-    weights' ≡ added weights credit.place credit.part
+    (weights' ≡ added weights credit.place credit.part) × (kept' ≡ kept)
 AddsCredit (Some window) kept weights credit kept' weights' =
     IsCreditWindow kept' weights'
     × (kept' ≡ without_oldest (weights_sum weights + credit.part - window) (kept ++ credit ∷ []))
 
 abbrev pub AddsWork : Weighing → Weighing → List ℕ → ℕ → Type 0
 AddsWork old new account work =
-    AddsCredit old.window old.kept (with_newcomer account old.accounts old.weights)
-    (record { place = account_place old.accounts account; part = work }) new.kept new.weights
+    AddsCredit old.window old.kept (with_newcomer account old.accounts (weights_in old))
+    (record { place = account_place old.accounts account; part = work }) new.kept (weights_in new)
+
+-- the works of a round are summed by the proportional rule alone
+abbrev pub HasRoundsByRule : Option ℕ → List ℕ → Type 0
+HasRoundsByRule None round_works = Unit
+HasRoundsByRule (Some window) round_works = round_works ≡ []
 
 -- one push more
 pub record IsPushed (old new : Weighing) (account : List ℕ) (work : ℕ) : Type 0 where
   pub window_stays : new.window ≡ old.window
   pub accounts_are : new.accounts ≡ with_account account old.accounts
   pub weighed : AddsWork old new account work
-  pub most : AreAtMost new.weights
-      (added (with_newcomer account old.accounts old.weights) (account_place old.accounts account) work)
+  pub rounds : HasRoundsByRule old.window new.round_works
+  pub most : AreAtMost (weights_in new)
+      (added (with_newcomer account old.accounts (weights_in old))
+      (account_place old.accounts account) work)
   pub works_are : new.works
       ≡ added (with_newcomer account old.accounts old.works) (account_place old.accounts account) work
   pub balances_are : new.balances ≡ with_newcomer account old.accounts old.balances
@@ -97,7 +120,6 @@ pub record IsPushed (old new : Weighing) (account : List ℕ) (work : ℕ) : Typ
   pub blocks_stay : new.blocks ≡ old.blocks
   pub pushes_are : new.pushes ≡ old.pushes + 1
   pub unsettled_is : new.unsettled ≡ true
-  pub same_length : length new.weights ≡ length new.accounts
 
 -- by which rule, as a window
 abbrev pub window_of : Rule → Option ℕ
@@ -130,7 +152,7 @@ abbrev pub DiffersInRoom : Weighing → Weighing → Type 0
 DiffersInRoom old new = new ≡ record {
   window = old.window;
   accounts = old.accounts;
-  weights = old.weights;
+  round_works = old.round_works;
   kept = old.kept;
   works = old.works;
   balances = old.balances;

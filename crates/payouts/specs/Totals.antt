@@ -6,7 +6,7 @@ use Rattle.pool_history.specs.Settling.{Settled, balance, fee_of, settlements, w
 use Rattle.payouts.specs.Plans.{BlockPlan}
 use Rattle.payouts.specs.Settlements.{as_block}
 use Rattle.payouts.specs.Sums.{with_amounts}
-use Rattle.payouts.specs.Tallies.{Remembers, Weighing}
+use Rattle.payouts.specs.Tallies.{IsPushed, Remembers, Weighing, weights_in}
 use Rattle.payouts.specs.Window.{weights_sum}
 
 -- the sums are those of these credits, where each block was settled with this fee
@@ -44,7 +44,16 @@ SumsPlan old new account work (Some block) =
 pub record PaysBlock (old new : Weighing) (reward basis_points : ℕ) (settled : Settled)
     : Type 0 where
   pub balances_are : new.balances
-      ≡ with_amounts (reward - fee_of reward basis_points) (weights_sum old.weights) old.weights
-      old.balances
+      ≡ with_amounts (reward - fee_of reward basis_points) (weights_sum (weights_in old))
+      (weights_in old) old.balances
   pub pool_is : new.pool ≡ old.pool + settled.pool
   pub blocks_are : new.blocks ≡ old.blocks + 1
+
+-- a planned push, and what its block, if it is one, then adds to the sums
+abbrev pub PaysPlan :
+    Weighing → Weighing → List ℕ → ℕ → Option BlockPlan → Option Settled → Type 0
+PaysPlan old new account work None settled = IsPushed old new account work
+PaysPlan old new account work (Some block) None = ⊥
+PaysPlan old new account work (Some block) (Some settled) =
+    (pushed : Weighing) × IsPushed old pushed account work
+    × PaysBlock pushed new block.reward block.fee settled

@@ -7,9 +7,9 @@ ghost use Rattle.std.specs.VecDeque.{deque_len, deque_capacity};
 ghost use Rattle.pool_history.specs.Accounts.{is_window};
 ghost use Rattle.payouts.specs.Settlements.{EndsRound, SettlesBlock, settled_by, weights_behind};
 ghost use Rattle.payouts.specs.Plans.{Applies, Fits, IsPayable, IsPlanOf, IsRewarded};
-ghost use Rattle.payouts.specs.Tallies.{AddsCredit, DiffersInRoom, account_place, IsPushed, KeepsCredits, Remembers, RemembersPush, window_of};
+ghost use Rattle.payouts.specs.Tallies.{AddsCredit, DiffersInRoom, account_place, IsPushed, KeepsCredits, Remembers, RemembersPush, weights_in, window_of};
 ghost use Rattle.payouts.specs.Sheets.{ListsWeighed, listed_at};
-ghost use Rattle.payouts.specs.Totals.{HasSums, PaysBlock, SumsBlock, SumsPlan, SumsPush};
+ghost use Rattle.payouts.specs.Totals.{HasSums, PaysBlock, PaysPlan, SumsBlock, SumsPlan, SumsPush};
 ghost use Rattle.payouts.specs.Weights.{AreAtMost, IsRisingFrom, with_place};
 ghost use Rattle.payouts.specs.Window.{IsKeptCredit, added, weights_sum};
 
@@ -56,14 +56,14 @@ impl Model for Tally {
     ghost use Rattle.std.specs.VecDeque.{deque_len, deque_capacity};
     ghost use Rattle.indexmap.specs.IndexSet.{spare};
     ghost use Rattle.payouts.specs.Sums.{AreSums, rows_left};
-    ghost use Rattle.payouts.specs.Tallies.{IsTallied, Weighing, window_of};
+    ghost use Rattle.payouts.specs.Tallies.{IsTallied, Weighing, round_works_by, window_of};
 
     ghost Value = { Weighing };
 
     ghost view = { λ tally. record {
       window = window_of tally.rule;
       accounts = map string_bytes tally.names.keys;
-      weights = tally.weights.numbers;
+      round_works = round_works_by (window_of tally.rule) tally.weights.numbers;
       kept = tally.kept.items;
       works = tally.sums.works.items;
       balances = tally.sums.balances.items;
@@ -224,6 +224,7 @@ impl Tally {
         requires unsettled { IsTrue self.old.unsettled }
         ensures settled { IfOk result (SettlesBlock self.old self.new reward fee) }
         ensures summed { OnOk result (SumsBlock self.old self.new reward fee) }
+        ensures pays { IfOk result (PaysBlock self.old self.new reward fee) }
         ensures window { OnOk result (self.new.window ≡ self.old.window) }
         ensures whole { IfOk result (λ settled.
             sum_by (λ paid. paid.amount) settled.payments + settled.pool ≡ reward) }
@@ -273,6 +274,7 @@ impl Tally {
         requires fits { Fits self.old plan }
         ensures applied { Applies self.old self.new plan.account plan.work plan.block result }
         ensures summed { SumsPlan self.old self.new plan.account plan.work plan.block }
+        ensures pays { PaysPlan self.old self.new plan.account plan.work plan.block result }
         ensures window { self.new.window ≡ self.old.window }
     {
         let TallyPlan {
@@ -303,8 +305,8 @@ impl Tally {
         requires reward { reward < 2 ^ 40 }
         requires fee { basis_points ≤ 10000 }
         requires unsettled { IsTrue self.old.unsettled }
-        requires accounts { ListsWeighed self.old.accounts self.old.weights sheet }
-        ensures some { 1 ≤ weights_sum self.old.weights }
+        requires accounts { ListsWeighed self.old.accounts (weights_in self.old) sheet }
+        ensures some { 1 ≤ weights_sum (weights_in self.old) }
         ensures settled { result ≡ settled_by self.old reward basis_points }
         ensures ends { EndsRound self.old self.new }
         ensures pays { PaysBlock self.old self.new reward basis_points result }
