@@ -1,14 +1,18 @@
 //! A machine that many threads call: it keeps numbers, and answers how many it had.
 
-ghost use Rattle.std.specs.Prelude.{◌≡◌, ◌+◌, [], ◌∷◌, length, true};
+ghost use Rattle.std.specs.Prelude.{◌≡◌, ◌+◌, ◌<◌, ◌^◌, [], ◌∷◌, length, true};
 
 use desk::Machine;
 use std::alloc::{AllocError, Global};
+
+/// The most numbers that it takes.
+const MOST: usize = (1 << 62) - 1;
 
 /// The numbers so far.
 #[derive(Drop)]
 pub struct Counter {
     numbers: Vec<u64>,
+    ghost few: { length numbers.items < 2 ^ 62 },
 }
 
 impl Counter {
@@ -43,8 +47,11 @@ impl Machine for Counter {
     }
 
     fn act(&mut self, caller: u32, request: u64) -> Result<u64, AllocError> {
-        let before = self.numbers.len() as u64;
+        let before = self.numbers.len();
+        if before >= MOST {
+            return Err(AllocError);
+        }
         self.numbers.push(request)?;
-        Ok(before)
+        Ok(before as u64)
     }
 }

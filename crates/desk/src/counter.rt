@@ -1,8 +1,11 @@
 //! The machine of the tests: it adds numbers up, and fails at the calls that were listed.
 
-ghost use Rattle.std.specs.Prelude.{◌≡◌, ◌+◌, [], ◌∷◌, sum};
+ghost use Rattle.std.specs.Prelude.{◌≡◌, ◌+◌, ◌<◌, ◌^◌, [], ◌∷◌, length, sum};
 
 use crate::machine::Machine;
+
+/// The most numbers that it takes.
+const MOST: usize = (1 << 62) - 1;
 
 /// A call that failed: for want of room, or since it was listed.
 #[derive(Debug, Drop, PartialEq, Eq)]
@@ -18,6 +21,7 @@ pub struct Counter {
     pub listed: Vec<u64>,
     pub faults: u64,
     ghost summed: { total ≡ sum added.items },
+    ghost few: { length added.items < 2 ^ 62 },
 }
 
 impl Machine for Counter {
@@ -52,6 +56,9 @@ impl Machine for Counter {
         let Some(total) = self.total.checked_add(request) else {
             return Err(Broken { wants_room: true });
         };
+        if self.added.len() >= MOST {
+            return Err(Broken { wants_room: true });
+        }
         match self.added.push(request) {
             Ok(()) => {
                 self.total = total;

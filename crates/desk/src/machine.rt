@@ -1,6 +1,6 @@
 //! What can stand at a desk.
 
-ghost use Rattle.std.specs.Prelude.{◌≡◌, ℕ, ◌≤◌, List, Bool, length};
+ghost use Rattle.std.specs.Prelude.{◌≡◌, ℕ, ◌<◌, ◌≤◌, ◌^◌, List, Bool, length};
 ghost use Rattle.desk.specs.Machines.{MakesTurn};
 
 /// A machine that keeps a list of events, counts its faults, and answers one request after another.
@@ -25,9 +25,10 @@ pub trait Machine {
     // After these events, this caller's request adds these events and has this reply.
     ghost answers: { List Self.Event → ℕ → Self.Request → List Self.Event → Self.Reply → Type 0 };
 
-    /// How many events there are.
+    /// How many events there are: fewer than 2^62.
     fn length(&self) -> u64
-        ensures { result ≡ length (events self.now) };
+        ensures count { result ≡ length (events self.now) }
+        ensures few { result < 2 ^ 62 };
 
     /// Answers the caller's request. A reply adds the events that the machine answers with, a fault
     /// none; one that isn't want of memory comes only where the count of faults rose in this call.

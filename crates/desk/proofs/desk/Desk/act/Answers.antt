@@ -43,7 +43,7 @@ returns-clause-call g c =
     answered g.M.Machine.answers g.M.Machine.wants_memory _ _ _ _ _ c.length-front.result c.args.request c.answer-answered.result.0 c.match-answered.result
     c.pass.view_is
     (ap (λ m. progress_of c.pass.inside.worker c.put_back.new.seat.table_id m.0) (sym c.put_back.ensures.called))
-    c.length-front.ensures
+    c.length-front.ensures.count
     (elim c.match-answered.branch [ in-Ok w ↦ w.result-is ∙ ap (tagged c.length-front.result) (sym w.in-Ok.is) | in-Err w ↦ w.result-is ∙ ap (tagged c.length-front.result) (sym w.in-Err.is) ])
     (made g c)
 
