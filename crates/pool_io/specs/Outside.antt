@@ -1,6 +1,7 @@
 -- What one call does to what a source, a sink or a keeper tells, and to a count of failures (this
 -- project's own).
 use Rattle.std.specs.Prelude.{ℕ, ◌+◌, ◌-◌, ◌^◌, min, max, ◌≡◌, ◌<◌, ◌≤◌, Bool, true, false, List, [], ◌∷◌, ◌++◌, length, take, drop, Option, Some, IfSome, Result, Ok, Err}
+use Rattle.std.specs.Option.{option_map}
 use Rattle.pool_io.specs.declared.turn.Turn.{Turn}
 use Rattle.pool_io.specs.declared.turn.Turn.TheVariants as turn
 use Rattle.pool_io.specs.declared.source.Took.{Took}
@@ -55,9 +56,10 @@ TakesTurn old new took buffer = IfSome old (λ turns. (left : List Turn) × (new
 abbrev pub AddsBytes : Option (List ℕ) → Option (List ℕ) → List ℕ → Type 0
 AddsBytes old new bytes = IfSome old (λ held. new ≡ Some (held ++ bytes))
 
--- a keeper that tells its records keeps this one more, behind the others
+-- a keeper that tells its records keeps this one more, behind the others; one that told none tells
+-- none
 abbrev pub AddsRecord : Option (List (List ℕ)) → Option (List (List ℕ)) → List ℕ → Type 0
-AddsRecord old new record_bytes = IfSome old (λ records. new ≡ Some (records ++ record_bytes ∷ []))
+AddsRecord old new record_bytes = new ≡ option_map (λ records. records ++ record_bytes ∷ []) old
 
 -- the count after one more failure: it stands still at its type's end
 abbrev pub next_count : ℕ → ℕ
