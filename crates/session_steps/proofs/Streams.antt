@@ -10,8 +10,7 @@ use Rattle.pool_history.specs.declared.replies.Reply.{Reply}
 use Rattle.pool_history.specs.Calls.{PoolCall}
 use Rattle.sv2_frames.specs.Framing.{frame_bytes}
 use Rattle.sv2_frames.specs.Stream.{stream_of}
-use Rattle.session_steps.specs.declared.ends.SessionEnd.{SessionEnd}
-use Rattle.session_steps.specs.Laws.{OneEnd, TakenIsMet}
+use Rattle.session_steps.specs.Laws.{MetAreFrames, TakenIsMet}
 use Rattle.session_steps.specs.States.{State, Stage, Greeting, Reading, Refusing, Asking, Committing, Polling, Leaving, Over, Put, new_state}
 use Rattle.session_steps.specs.Steps.{Follows, SessionStep, Greeted, Took, Framed, Refused, Overran, Idled, Ended, Missed, Starved, Spent, Called, after_asking, after_booking, after_call, after_news, after_step, frames_in, turns_in}
 
@@ -65,14 +64,19 @@ pub taken_is_met : TakenIsMet
 taken_is_met worker idle_turns role rolling steps last follows =
     taken_from worker (new_state role rolling idle_turns) last steps follows
 
-one_last : (worker : ℕ) (s t u : State) (steps : List SessionStep) → Follows worker s steps t → Follows worker s steps u → t ≡ u
-one_last worker s t u [] first other = first ∙ sym other
-one_last worker s t u (x ∷ xs) first other = one_last worker (after_step s x) t u xs first.1 other.1
-
-over_once : (stage : Stage) (one other : SessionEnd) → stage ≡ Over one → stage ≡ Over other → one ≡ other
-over_once stage one other first then = cc
-
-pub one_end : OneEnd
-one_end worker idle_turns role rolling steps one other last last' first then over over' =
-    let same : last ≡ last' = one_last worker (new_state role rolling idle_turns) last last' steps first then in
-    over_once last'.stage one other (rw (← same) over) over'
+-- all that was met was frames within the limit
+pub met_are_frames : MetAreFrames
+met_are_frames worker s t [] follows = (tt, tt)
+met_are_frames worker s t (Framed met ∷ xs) follows =
+    let later = met_are_frames worker (after_step s (Framed met)) t xs follows.1 in
+    ((follows.0.fits, later.0), (follows.0.within, later.1))
+met_are_frames worker s t (Took bytes ∷ xs) follows = met_are_frames worker (after_step s (Took bytes)) t xs follows.1
+met_are_frames worker s t (Called call put ∷ xs) follows = met_are_frames worker (after_step s (Called call put)) t xs follows.1
+met_are_frames worker s t (Greeted put ∷ xs) follows = met_are_frames worker (after_step s (Greeted put)) t xs follows.1
+met_are_frames worker s t (Refused put ∷ xs) follows = met_are_frames worker (after_step s (Refused put)) t xs follows.1
+met_are_frames worker s t (Overran len ∷ xs) follows = met_are_frames worker (after_step s (Overran len)) t xs follows.1
+met_are_frames worker s t (Idled ∷ xs) follows = met_are_frames worker (after_step s Idled) t xs follows.1
+met_are_frames worker s t (Ended ∷ xs) follows = met_are_frames worker (after_step s Ended) t xs follows.1
+met_are_frames worker s t (Missed ∷ xs) follows = met_are_frames worker (after_step s Missed) t xs follows.1
+met_are_frames worker s t (Starved ∷ xs) follows = met_are_frames worker (after_step s Starved) t xs follows.1
+met_are_frames worker s t (Spent ∷ xs) follows = met_are_frames worker (after_step s Spent) t xs follows.1

@@ -8,7 +8,7 @@ use Rattle.pool_io.specs.Steps.{ReadStep}
 use Rattle.pool_io.specs.declared.sink.SinkFailed.{SinkFailed}
 use Rattle.pool_io.specs.declared.sink.SinkFailed.TheVariants as sink
 use Rattle.sv2_frames.specs.Framing.{FrameValue, IsFrame, frame_bytes, header_of}
-use Rattle.sv2_frames.specs.Holding.{IsCutWithin}
+use Rattle.sv2_frames.specs.Holding.{IsCut}
 use Rattle.pool_history.specs.declared.asking.Request.{Request}
 use Rattle.pool_history.specs.declared.asking.Request.TheVariants as request
 use Rattle.pool_history.specs.declared.refusals.BookError.{BookError}
@@ -53,10 +53,22 @@ pub data SessionStep : Type 0 where
 abbrev pub bytes_of_frames : List (List ℕ) → List ℕ
 bytes_of_frames frames = flat_map (λ frame. frame) frames
 
+-- bytes begin with a header that says this length, over the limit
+pub record BeginsOver (len : ℕ) (bytes : List ℕ) : Type 0 where
+  pub ext : ℕ
+  pub kind : ℕ
+  pub more : List ℕ
+  pub header : bytes ≡ header_of ext kind len ++ more
+  pub ext_fits : ext < 2 ^ 16
+  pub kind_fits : kind < 2 ^ 8
+  pub length_fits : len < 2 ^ 24
+  pub over : most_payload < len
+
 -- all frames that came are met, and more may come
 pub record IsWaiting (s : State) : Type 0 where
   pub reading : s.stage ≡ Reading
-  pub cut : IsCutWithin (record { held = s.unmet; limit = most_payload })
+  pub cut : IsCut s.unmet
+  pub not_over : (len : ℕ) → ¬ BeginsOver len s.unmet
 
 -- a turn may be taken
 pub record CanTake (s : State) : Type 0 where
@@ -78,17 +90,10 @@ pub record CanMeet (s : State) (met : Met) : Type 0 where
   pub within : length met.frame.payload ≤ most_payload
   pub meets : Meets s.talk met.frame met.step met.talk
 
--- the bytes begin with a header that says this length, over the limit
+-- the bytes that aren't met begin with a header over the limit
 pub record CanOverrun (s : State) (len : ℕ) : Type 0 where
   pub reading : s.stage ≡ Reading
-  pub ext : ℕ
-  pub kind : ℕ
-  pub more : List ℕ
-  pub header : s.unmet ≡ header_of ext kind len ++ more
-  pub ext_fits : ext < 2 ^ 16
-  pub kind_fits : kind < 2 ^ 8
-  pub length_fits : len < 2 ^ 24
-  pub over : most_payload < len
+  pub begins : BeginsOver len s.unmet
 
 -- memory is wanted for the first frames, or for a frame's request
 abbrev pub CanStarve : Stage → Type 0

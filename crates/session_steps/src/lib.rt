@@ -9,5 +9,5 @@ mod meeting;
 
 pub use about::About;
 pub use ends::SessionEnd;
-pub use laws::{sessions_have_one_end, taken_bytes_are_met};
+pub use laws::{bytes_decide, met_are_frames, taken_bytes_are_met};
 pub use meeting::{SetupCode, Step};
