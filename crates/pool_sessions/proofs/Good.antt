@@ -1,5 +1,5 @@
 -- Good input leads to no end that blames it.
-use Rattle.std.proofs.Common.{◌≡◌, ℕ, ◌<◌, ◌≤◌, ◌^◌, ◌%◌, ◌/◌, ◌++◌, Bool, true, false, List, [], ◌∷◌, Option, None, Some, length, map, refl, sym, ap, subst, ◌∙◌, append_assoc, append-nil, arith, inl, inr, suc, zero, ◌-◌}
+use Rattle.std.proofs.Common.{◌≡◌, ℕ, ◌<◌, ◌^◌, ◌%◌, ◌/◌, ◌++◌, Bool, true, false, List, [], ◌∷◌, Option, None, Some, length, map, refl, sym, ap, ◌∙◌, append_assoc, append-nil, arith, inl, inr, suc, zero, ◌-◌}
 use Rattle.std.proofs.lemmas.List.{append_cancel_left}
 use Rattle.std.proofs.Math.Dec.{eqb-suc-zero}
 use Rattle.std.specs.List.{flat_map}
@@ -10,11 +10,10 @@ use Rattle.pool_io.specs.declared.sink.SinkFailed.TheVariants as sink
 use Rattle.pool_io.specs.declared.turn.Turn.{Turn}
 use Rattle.pool_io.specs.Steps.{BringsSteps, bytes_in, steps_of}
 use Rattle.pool_io.proofs.Stepping.{bytes_in-append, bytes_in-map}
-use Rattle.sv2_frames.specs.Framing.{FrameFits, FrameValue, IsFrame, frame_bytes, header_of}
-use Rattle.sv2_frames.specs.Holding.{IsCut, IsCutWithin}
+use Rattle.sv2_frames.specs.Framing.{FrameValue, frame_bytes, header_of}
+use Rattle.sv2_frames.specs.Holding.{IsCut}
 use Rattle.sv2_frames.specs.Stream.{stream_of}
 use Rattle.sv2_frames.proofs.Fronts.{frames_agree}
-use Rattle.sv2_messages.specs.Messages.{Message}
 use Rattle.pool_history.specs.declared.events.Role.{Role}
 use Rattle.pool_history.specs.declared.refusals.BookError.{BookError}
 use Rattle.pool_history.specs.declared.refusals.BookError.TheVariants as fault
@@ -28,14 +27,13 @@ use Rattle.session_steps.specs.declared.ends.SessionEnd.{SessionEnd}
 use Rattle.session_steps.specs.declared.ends.SessionEnd.TheVariants as end
 use Rattle.session_steps.specs.declared.meeting.Step.{Step}
 use Rattle.session_steps.specs.declared.meeting.Step.TheVariants as step
-use Rattle.session_steps.specs.Meeting.{LeadsBy, Meets, SetsUp}
-use Rattle.session_steps.specs.Setups.{Setup, Accepted, setup_in}
+use Rattle.session_steps.specs.Meeting.{Meets}
 use Rattle.session_steps.specs.States.{State, Stage, Asking, Committing, Greeting, Leaving, Over, Polling, Reading, Refusing, Put, answered_stage, briefed_stage, end_stage, end_after_fault, fault_end, input_end, most_payload, new_state, news_stage, next_stage, put_stage}
 use Rattle.session_steps.specs.Steps as steps
 use Rattle.session_steps.specs.Steps.{CanOverrun, Follows, Met, SessionStep, Called, after_asking, after_booking, after_call, after_news, after_step, end_after, met_stage, turns_in}
 use Rattle.session_steps.specs.Taken.{is_taken}
-use Rattle.session_steps.specs.Talks.{Talk, heard}
-use Rattle.pool_sessions.specs.Good.{AreGood, IsGoodEnd, IsGoodInput, IsGoodSetup, IsIgnoredOrMessage, IsWithinLimit, talk_of}
+use Rattle.session_steps.specs.Talks.{Talk}
+use Rattle.pool_sessions.specs.Good.{AreGood, IsGoodEnd, IsGoodInput, IsWithinLimit, talk_of}
 use Rattle.pool_sessions.specs.Links.{Telling}
 use Rattle.pool_sessions.specs.Running.{TakesAll, has_ended}
 use Rattle.pool_sessions.specs.Sessions.{IsSession}
@@ -303,15 +301,15 @@ refuses_none (Over reason) put good refuses = refuses
 overran_none : (role : Role) (rolling : Bool) (flags : Option ℕ) (s : State) (len : ℕ) (frames : List FrameValue) (behind : List ℕ) → CanOverrun s len
     → s.unmet ++ behind ≡ flat_map frame_bytes frames → AreGood role rolling flags frames → ⊥
 overran_none role rolling flags s len [] behind can flow good =
-    let no_header : (header_of can.ext can.kind len ++ can.more) ++ behind ≡ [] = ap (λ l. l ++ behind) (sym can.header) ∙ flow in
+    let no_header : (header_of can.begins.ext can.begins.kind len ++ can.begins.more) ++ behind ≡ [] = ap (λ l. l ++ behind) (sym can.begins.header) ∙ flow in
     cc
 overran_none role rolling flags s len (f ∷ fs) behind can flow good =
     let within = head_within role rolling flags f fs good in
-    let same : header_of can.ext can.kind len ++ (can.more ++ behind) ≡ header_of f.ext f.kind (length f.payload) ++ (f.payload ++ flat_map frame_bytes fs) =
-    sym (append_assoc (header_of can.ext can.kind len) can.more behind) ∙ ap (λ l. l ++ behind) (sym can.header) ∙ flow
+    let same : header_of can.begins.ext can.begins.kind len ++ (can.begins.more ++ behind) ≡ header_of f.ext f.kind (length f.payload) ++ (f.payload ++ flat_map frame_bytes fs) =
+    sym (append_assoc (header_of can.begins.ext can.begins.kind len) can.begins.more behind) ∙ ap (λ l. l ++ behind) (sym can.begins.header) ∙ flow
     ∙ append_assoc (header_of f.ext f.kind (length f.payload)) f.payload (flat_map frame_bytes fs) in
-    let agree = header_agrees can.ext can.kind len f.ext f.kind (length f.payload) (can.more ++ behind) (f.payload ++ flat_map frame_bytes fs) can.length_fits within.0.length_fits same in
-    omega (arith, agree, can.over, within.1)
+    let agree = header_agrees can.begins.ext can.begins.kind len f.ext f.kind (length f.payload) (can.begins.more ++ behind) (f.payload ++ flat_map frame_bytes fs) can.begins.length_fits within.0.length_fits same in
+    omega (arith, agree, can.begins.over, within.1)
 
 abbrev frame_with : ℕ → ℕ → List ℕ → FrameValue
 frame_with ext kind payload = record { ext = ext; kind = kind; payload = payload }
@@ -357,7 +355,7 @@ module _ (worker : ℕ) (left : List ℕ) where
       let all : bytes_in (turns_in xs) ++ left ≡ [] = ap (λ l. bytes_in l ++ left) none ∙ ended refl in
       let whole : s.unmet ≡ flat_map frame_bytes frames = sym (append-nil s.unmet) ∙ ap (λ l. s.unmet ++ l) (sym all) ∙ flow in
       good_on (after_step s steps.Ended) t xs frames follows.1 flow (λ later. ended refl) good
-      (good_end s.entered (input_end s.unmet) (whole_end s.talk.role s.talk.rolling s.talk.flags s.unmet frames whole follows.0.waiting.cut.cut good))
+      (good_end s.entered (input_end s.unmet) (whole_end s.talk.role s.talk.rolling s.talk.flags s.unmet frames whole follows.0.waiting.cut good))
   good_on s t (steps.Missed ∷ xs) frames follows flow ended good stage =
       good_on (after_step s steps.Missed) t xs frames follows.1 flow ended good (good_end s.entered end.ReadFault tt)
   good_on s t (steps.Starved ∷ xs) frames follows flow ended good stage =

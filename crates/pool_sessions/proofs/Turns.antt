@@ -11,7 +11,8 @@ use Rattle.pool_io.specs.Outside.{CountsFailure, TakesTurn, is_failed_take}
 use Rattle.pool_io.specs.Steps.{BringsSteps, steps_of}
 use Rattle.pool_io.proofs.Stepping.{brought_bytes, brought_idle, brought_none, steps_of-ended}
 use Rattle.pool_turns.proofs.Puts.{Adds-none}
-use Rattle.sv2_frames.specs.Holding.{Holding, HoldsOver, IsCutWithin}
+use Rattle.sv2_frames.specs.Holding.{Holding, HoldsOver, IsCutWithin, frame_end}
+use Rattle.sv2_frames.proofs.Feeding.{present_after}
 use Rattle.pool_history.specs.declared.events.Role.{Role}
 use Rattle.pool_history.specs.Calls.{PoolCall}
 use Rattle.session_steps.specs.declared.ends.SessionEnd.{SessionEnd}
@@ -28,7 +29,8 @@ use Rattle.pool_sessions.specs.declared.listening.Listener.{Listener}
 use Rattle.pool_sessions.specs.Links.{Telling, PutsOut}
 use Rattle.pool_sessions.specs.Meeting.{MeetsHeld}
 use Rattle.pool_sessions.specs.Running.{Runs, TakesAll}
-use Rattle.pool_sessions.specs.Standing.{Intake, IsListening, idled, intake_of, intake_with, new_intake, put_end, refused_end, stage_or, state_at}
+use Rattle.session_steps.proofs.Deciding.{held_waits}
+use Rattle.pool_sessions.specs.Standing.{HoldsNoMore, Intake, IsListening, idled, intake_of, intake_with, new_intake, put_end, refused_end, stage_or, state_at}
 use Rattle.pool_sessions.proofs.Chains.{runs_on, runs_put, runs_quiet, runs_step}
 use Rattle.pool_sessions.specs.Sessions.{IdlesOn, ReadsOn}
 use Rattle.pool_sessions.proofs.Moves.{put_stage_or}
@@ -62,14 +64,16 @@ module _ {L A : Type 0} {telling : Telling L} {worker : A → ℕ} {does : A →
       runs_quiet (Overran len)
       (record {
         reading = refl;
-        ext = over.ext;
-        kind = over.kind;
-        more = rest;
-        header = ap (λ bytes. bytes ++ rest) over.header;
-        ext_fits = over.ext_fits;
-        kind_fits = over.kind_fits;
-        length_fits = over.length_fits;
-        over = rw limit at over.over;
+        begins = record {
+          ext = over.ext;
+          kind = over.kind;
+          more = rest;
+          header = ap (λ bytes. bytes ++ rest) over.header;
+          ext_fits = over.ext_fits;
+          kind_fits = over.kind_fits;
+          length_fits = over.length_fits;
+          over = rw limit at over.over;
+        };
       })
       refl refl refl refl refl (λ n. refl)
 
@@ -119,8 +123,14 @@ module _ (listener : Listener) (listening : IsListening listener) where
   cut_at_most : IsCutWithin (record { held = listener.splitter.held; limit = most_payload })
   cut_at_most = subst (λ n. IsCutWithin (record { held = listener.splitter.held; limit = n })) listening.limit listening.cut
 
+  held_at_most : length listener.splitter.held ≤ frame_end most_payload listener.splitter.held
+  held_at_most = subst (λ n. length listener.splitter.held ≤ frame_end n listener.splitter.held) listening.limit listening.no_more
+
   can_take : (c : Conversation) → CanTake (state_at Reading (intake_of listener) c)
-  can_take c = record { waiting = record { reading = refl; cut = cut_at_most }; some = listening.some }
+  can_take c = record {
+    waiting = record { reading = refl; cut = cut_at_most.cut; not_over = held_waits listener.splitter.held cut_at_most held_at_most };
+    some = listening.some;
+  }
 
   module _ {L A : Type 0} {telling : Telling L} {worker : A → ℕ} {does : A → PoolCall → A → Type 0} {l l' : L} {a : A} (c : Conversation) (buffer : List ℕ) where
     pub took_runs : (n : ℕ) → 0 < length (take n buffer) → length (take n buffer) ≤ 4096 → length (take n buffer) ≤ listener.bytes → TakesOf telling (took.Bytes n) buffer l l'
@@ -152,9 +162,10 @@ module _ (listener : Listener) (listening : IsListening listener) where
 
 -- as many bytes came as are taken
 pub spent_runs : {L A : Type 0} {telling : Telling L} {worker : A → ℕ} {does : A → PoolCall → A → Type 0} {l : L} {a : A} (intake : Intake) (c : Conversation)
-    → IsCutWithin (record { held = intake.unmet; limit = most_payload }) → intake.bytes ≡ 0
+    → IsCutWithin (record { held = intake.unmet; limit = most_payload }) → length intake.unmet ≤ frame_end most_payload intake.unmet → intake.bytes ≡ 0
     → Runs telling worker does (state_at Reading intake c) (state_at (end_stage c.entered end.BytesOut) intake c) l l a a
-spent_runs intake c cut none = runs_quiet steps.Spent (record { reading = refl; cut = cut }, none) refl refl refl refl refl (λ n. refl)
+spent_runs intake c cut no_more none =
+    runs_quiet steps.Spent (record { reading = refl; cut = cut.cut; not_over = held_waits intake.unmet cut no_more }, none) refl refl refl refl refl (λ n. refl)
 
 -- a step that leads on to more
 pub reads_first : {L A : Type 0} {telling : Telling L} {worker : A → ℕ} {does : A → PoolCall → A → Type 0} {l l' l'' : L} {a a' a'' : A} {before middle kept : Intake} {old new : Conversation} {result : Option SessionEnd}
@@ -182,6 +193,14 @@ fed_whole held held' rest count fed =
 -- what is held once all is fed is cut within the limit
 pub cut_held : (holding : Holding) (rest : List ℕ) → rest ≡ holding.held → holding.limit ≡ most_payload → IsCutWithin holding → IsCutWithin (record { held = rest; limit = most_payload })
 cut_held holding rest is limit cut = rw is (subst (λ n. IsCutWithin (record { held = holding.held; limit = n })) limit cut)
+
+-- and it is no more than that
+pub no_more_held : (holding : Holding) (rest : List ℕ) → rest ≡ holding.held → holding.limit ≡ most_payload → HoldsNoMore holding → length rest ≤ frame_end most_payload rest
+no_more_held holding rest is limit no_more = rw is (subst (λ n. length holding.held ≤ frame_end n holding.held) limit no_more)
+
+-- what a splitter was fed with is no more than that
+pub fed_no_more : (limit : ℕ) (all : List ℕ) (new : Holding) → new.held ≡ take (frame_end limit all) all → new.limit ≡ limit → HoldsNoMore new
+fed_no_more limit all new fed same = rw (fed, same) (present_after limit all)
 
 -- too many Idle turns came in a row
 pub next_idle_out : (entered : Bool) (idles : ℕ) → idles ≡ 0 → next_stage entered idles ≡ end_stage entered end.IdleOut

@@ -2,7 +2,7 @@
 use Rattle.std.specs.Prelude.{◌≡◌, ℕ, ◌+◌, ◌-◌, ◌*◌, ◌<◌, ◌≤◌, Bool, Option, None, Some, List, [], ◌++◌, length}
 use Rattle.pool_io.specs.declared.sink.SinkFailed.{SinkFailed}
 use Rattle.pool_io.specs.declared.sink.SinkFailed.TheVariants as sink
-use Rattle.sv2_frames.specs.Holding.{IsCutWithin}
+use Rattle.sv2_frames.specs.Holding.{Holding, IsCutWithin, frame_end}
 use Rattle.session_steps.specs.declared.ends.SessionEnd.{SessionEnd}
 use Rattle.session_steps.specs.declared.ends.SessionEnd.TheVariants as end
 use Rattle.session_steps.specs.States.{Stage, State, end_stage, most_bytes, most_payload}
@@ -78,9 +78,14 @@ abbrev pub refused_end : Option SinkFailed → SessionEnd
 refused_end None = end.BadSetup
 refused_end (Some cause) = failed_end cause
 
+-- a splitter holds nothing behind the end of its frame, or of a header over the limit
+abbrev pub HoldsNoMore : Holding → Type 0
+HoldsNoMore holding = length holding.held ≤ frame_end holding.limit holding.held
+
 -- a turn may be taken: all frames that came are met, and neither limit is reached
 pub record IsListening (listener : Listener) : Type 0 where
   pub cut : IsCutWithin listener.splitter
+  pub no_more : HoldsNoMore listener.splitter
   pub limit : listener.splitter.limit ≡ most_payload
   pub some : 0 < listener.bytes
   pub fits : listener.bytes ≤ most_bytes

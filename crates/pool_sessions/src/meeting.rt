@@ -29,7 +29,7 @@ pub(crate) enum Found {
 impl Conversation {
     ghost use Rattle.pool_sessions.specs.Meeting.{Finds, FindsNext, StepAsksAsTold};
     ghost use Rattle.pool_sessions.specs.Running.{Runs};
-    ghost use Rattle.pool_sessions.specs.Standing.{Intake, state_at, stage_or};
+    ghost use Rattle.pool_sessions.specs.Standing.{HoldsNoMore, Intake, state_at, stage_or};
 
     fn find(&mut self, splitter: &Splitter) -> Found
         ensures { Finds splitter.now self.old result self.new }
@@ -98,9 +98,11 @@ impl Conversation {
     ) -> Option<SessionEnd>
         requires ready { A.ready acting.old }
         requires limit { splitter.old.limit ≡ most_payload }
+        requires no_more { HoldsNoMore splitter.old }
         ensures ready { A.ready acting.new }
         ensures limit { splitter.new.limit ≡ splitter.old.limit }
         ensures cut { IfNone result (IsCutWithin splitter.new) }
+        ensures no_more { IfNone result (HoldsNoMore splitter.new) }
         ensures runs { (intake : Intake) (rest : List ℕ) → 0 < intake.idles → Runs (record {
           left = L.left;
           held = L.held;
@@ -131,9 +133,11 @@ impl Conversation {
         requires ready { A.ready acting.old }
         requires limit { splitter.old.limit ≡ most_payload }
         requires cut { IsCutWithin splitter.old }
+        requires no_more { HoldsNoMore splitter.old }
         ensures ready { A.ready acting.new }
         ensures limit { splitter.new.limit ≡ splitter.old.limit }
         ensures cut { IfNone result (IsCutWithin splitter.new) }
+        ensures no_more { IfNone result (HoldsNoMore splitter.new) }
         ensures runs { (intake : Intake) → 0 < intake.idles → (rest : List ℕ)
             × IfNone result (rest ≡ splitter.new.held) × Runs (record {
               left = L.left;

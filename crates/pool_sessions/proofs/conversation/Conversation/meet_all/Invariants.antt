@@ -2,7 +2,7 @@ use Rattle.std.proofs.Common.{◌≡◌, ◌<◌, ◌++◌, length}
 use Rattle.sv2_frames.specs.Holding.{IsCutWithin}
 use Rattle.session_steps.specs.States.{Reading}
 use Rattle.pool_sessions.specs.Running.{Runs}
-use Rattle.pool_sessions.specs.Standing.{Intake, state_at}
+use Rattle.pool_sessions.specs.Standing.{HoldsNoMore, Intake, state_at}
 use Rattle.pool_sessions.proofs.conversation.Conversation.meet_all.Given as goal
 
 abbrev pub invariant-loop-rest : goal.invariant-loop-rest
@@ -10,6 +10,7 @@ invariant-loop-rest g l = record {
   ready : g.A.Acting.ready l.acting;
   limit : l.splitter.limit ≡ l.initial.splitter.limit;
   cut : IsCutWithin l.splitter;
+  no_more : HoldsNoMore l.splitter;
   runs : (intake : Intake) → 0 < intake.idles
       → Runs (record { left = g.L.Link.left; held = g.L.Link.held; read_faults = g.L.Link.read_faults; write_faults = g.L.Link.write_faults }) g.A.Acting.worker g.A.Acting.does
       (state_at Reading (record intake { unmet = l.initial.splitter.held ++ l.piece }) l.initial.self)
