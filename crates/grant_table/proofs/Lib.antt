@@ -1,2 +1,3 @@
 mod Holding
 mod Showing
+pub mod RefusedJobs

@@ -6,6 +6,7 @@
 mod lines;
 mod writing;
 
+pub use lines::put_line;
 pub use writing::write_summary;
 
 #[cfg(test)]

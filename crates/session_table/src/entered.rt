@@ -28,3 +28,36 @@ impl Model for Entered {
       flags = entrance.flags;
     } };
 }
+
+impl Entered {
+    ghost use Rattle.std.specs.Prelude.{◌≡◌};
+    ghost use Rattle.pool_history.specs.Legal as legal;
+
+    /// Whether it may send templates and tips.
+    pub fn may_feed(&self) -> bool
+        ensures { result ≡ legal.may_feed self.now }
+    {
+        match self.role {
+            Role::Miner => false,
+            Role::Feed | Role::Solo => true,
+        }
+    }
+
+    /// Whether it may open channels and submit shares.
+    pub fn may_mine(&self) -> bool
+        ensures { result ≡ legal.may_mine self.now }
+    {
+        match self.role {
+            Role::Feed => false,
+            Role::Miner | Role::Solo => true,
+        }
+    }
+
+    /// Whether it may bring jobs of its own: it mines, and its setup asked for it by
+    /// REQUIRES_WORK_SELECTION (Stratum V2, "SetupConnection").
+    pub fn may_select_work(&self) -> bool
+        ensures { result ≡ legal.may_select_work self.now }
+    {
+        self.may_mine() && (self.flags >> 1) % 2 == 1
+    }
+}

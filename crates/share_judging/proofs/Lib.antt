@@ -1,3 +1,4 @@
 mod Admitting
 mod Found
 mod Kept
+pub mod Ranges

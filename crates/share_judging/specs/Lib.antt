@@ -1,3 +1,4 @@
 pub mod Admission
 pub mod Headers
 pub mod Conditions
+pub mod Passing

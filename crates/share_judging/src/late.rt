@@ -1,6 +1,6 @@
 //! The last three conditions of a share, by its header.
 
-ghost use Rattle.std.specs.Prelude.{◌≡◌, List, None};
+ghost use Rattle.std.specs.Prelude.{◌≡◌, ◌<◌, List, None};
 ghost use Rattle.block_header.specs.Hash.{dsha};
 ghost use Rattle.pool_history.specs.declared.events.Event.{Event};
 ghost use Rattle.pool_history.specs.Conditions.{first_false};
@@ -26,9 +26,11 @@ pub fn late_refusal(
     credits: u32,
 ) -> Option<Failed>
     requires { hash.now ≡ dsha header.now }
-    ensures { (past : List Event) (with : Admitted) → class ≡ admitted_class with
+    ensures first { (past : List Event) (with : Admitted) → class ≡ admitted_class with
         → ShowsHeaders headers.now (crediting.headers past) → credits ≡ sessions.credits past
         → result ≡ first_false (last_conditions rules.now past with header.now) None }
+    // Whatever the history is: fewer shares than the limit were credited.
+    ensures few { result ≡ None → credits < rules.now.credit_limit }
 {
     if !meets_class(hash, class.value()) {
         return Some(Failed::Difficulty);

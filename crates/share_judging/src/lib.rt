@@ -8,10 +8,12 @@ mod conditions;
 mod headers;
 mod late;
 mod mined;
+mod passing;
 
 pub use admission::{Admission, admit};
 pub use headers::Headers;
 pub use late::late_refusal;
+pub use passing::Passed;
 
 #[cfg(test)]
 mod tests;
