@@ -5,12 +5,14 @@ use Rattle.std.specs.Option.{option_to_list}
 use Rattle.std.specs.Prelude.{IfOk, IfSome, OnErr, OnOk, Result, Ok, Err}
 use Rattle.pool_history.specs.declared.asking.Request.{Request}
 use Rattle.pool_history.specs.declared.events.Event.{Event}
+use Rattle.pool_history.specs.declared.events.Event.TheVariants as event
 use Rattle.pool_history.specs.declared.replies.Reply.{Reply}
 use Rattle.pool_history.specs.Answering.{Answer, Effect, step, with_event, without_event}
 use Rattle.std.specs.Int.{w32, to_le_bytes}
 use Rattle.std.proofs.lemmas.List.{length-take}
-use Rattle.pool_history.specs.Ledger.{HasRecord, chain, chained, kept_records, ledger_text, magic_2, record_body, record_kind, record_of}
+use Rattle.pool_history.specs.Ledger.{HasRecord, chain, kept_records, ledger_text, magic_2, record_body, record_kind, record_of}
 use Rattle.pool_history.specs.Sessions.{past_of}
+use Rattle.history_laws.specs.Legality.{Starts}
 use Rattle.ledger_laws.specs.Growing.{PiecesGrow, LedgersGrow, hash_after}
 use Rattle.ledger_laws.specs.Keeping.{AnswersCanBeKept, IsKept, KeepsOn}
 use Rattle.ledger_laws.specs.OneLedger.{AllCanBeKept}
@@ -23,7 +25,7 @@ use Rattle.share_ledger.specs.declared.planning.Step.{Step}
 use Rattle.share_ledger.specs.declared.planning.Step.TheVariants as planned_step
 use Rattle.share_ledger.specs.Planning.{IsReady, IsStep, MakesStep, past_in}
 use Rattle.share_ledger.specs.Tables.{LedgerTables}
-use Rattle.share_ledger.specs.Books.{AddsPieces, IsReplied, KeepsFirst}
+use Rattle.share_ledger.specs.Books.{IsReplied, IsUnused, KeepsInstead, KeepsLedger}
 
 module _ (history : List Event) (worker : ℕ) (asked : Request) where
   pub answer-moved : (e : Event) (answer : Reply) → step (past_of history) worker asked ≡ with_event e answer → Answer history worker asked (e ∷ []) answer
@@ -52,32 +54,46 @@ module _ (history : List Event) (worker : ℕ) (asked : Request) where
       → new ≡ history → IsReplied history new worker asked answer
   replied-still new answer h same = ([], same ∙ sym (append-nil history), answer-still answer h)
 
--- a keeper is told the piece of the one event that was added
-pub adds-one : (before after : Option (List (List ℕ))) (hash : List ℕ) (old new : List Event) (e : Event) → hash ≡ hash_after old
-    → new ≡ old ++ e ∷ [] → AddsRecord before after (piece_behind hash e) → AddsPieces before after old new
-adds-one before after hash old new e hashed grows adds added is =
-    let one : added ≡ e ∷ [] = append_cancel_left old added (e ∷ []) (sym is ∙ grows) in
-    subst (λ (l : List Event). IfSome before (λ records. after ≡ Some (records ++ chained (hash_after old) l))) (sym one)
-    (subst (λ h. IfSome before (λ records. after ≡ Some (records ++ piece_behind h e ∷ []))) hashed adds)
+-- a ledger with one event more has the event's piece behind the others
+pub piece-more : PiecesGrow → LedgersGrow → (old : List Event) (e : Event) → Starts old
+    → kept_records (old ++ e ∷ []) ≡ kept_records old ++ piece_behind (hash_after old) e ∷ []
+piece-more pieces ledgers old e s =
+    subst (λ (l : List Event). kept_records (l ++ e ∷ []) ≡ kept_records l ++ piece_behind (hash_after l) e ∷ []) (sym s.first)
+    ((pieces (event.Start s.rules) s.more e).goes_on
+    ∙ ap (λ (hash : List ℕ). kept_records (event.Start s.rules ∷ s.more) ++ (record_of e ++ hash) ∷ [])
+    (ledgers (event.Start s.rules ∷ s.more) e).hash)
 
--- it is told nothing where nothing was added
-pub adds-none : (before after : Option (List (List ℕ))) (old new : List Event) → new ≡ old → after ≡ before → AddsPieces before after old new
-adds-none before after old new same still added is =
-    let none : added ≡ [] = append_cancel_left old added [] (sym is ∙ same ∙ sym (append-nil old)) in
-    subst (λ (l : List Event). IfSome before (λ records. after ≡ Some (records ++ chained (hash_after old) l))) (sym none) (by before still) where
-      by : (b : Option (List (List ℕ))) → after ≡ b → IfSome b (λ records. after ≡ Some (records ++ []))
-      by None h = tt
-      by (Some records) h = h ∙ ap Some (sym (append-nil records))
+-- a keeper that has the ledger, and is told nothing where nothing was added, has it still
+pub keeps-still : (before after : Option (List (List ℕ))) (old new : List Event) → KeepsLedger before old → new ≡ old → after ≡ before
+    → KeepsInstead before after new
+keeps-still None after old new keeps same still = still
+keeps-still (Some records) after old new keeps same still = still ∙ ap Some (keeps ∙ ap kept_records (sym same))
+
+-- told the piece of the event that was added, it has the ledger with that event
+pub keeps-one : (before after : Option (List (List ℕ))) (hash : List ℕ) (old new : List Event) (e : Event) → KeepsLedger before old
+    → hash ≡ hash_after old → new ≡ old ++ e ∷ [] → kept_records (old ++ e ∷ []) ≡ kept_records old ++ piece_behind (hash_after old) e ∷ []
+    → AddsRecord before after (piece_behind hash e) → KeepsInstead before after new
+keeps-one None after hash old new e keeps hashed grows more adds = adds
+keeps-one (Some records) after hash old new e keeps hashed grows more adds =
+    adds ∙ ap (λ (l : List (List ℕ)). Some (l ++ piece_behind hash e ∷ [])) keeps
+    ∙ ap (λ (h : List ℕ). Some (kept_records old ++ piece_behind h e ∷ [])) hashed ∙ ap Some (sym more) ∙ ap (λ (l : List Event). Some (kept_records l)) (sym grows)
 
 -- it is told the event's piece where the event was committed, and nothing where it wasn't
-pub adds-as : {A E : Type 0} (result : Result A E) (before after : Option (List (List ℕ))) (hash : List ℕ) (old new : LedgerTables) (e : Event)
-    → hash ≡ hash_after old.history.events → OnOk result (new.history.events ≡ old.history.events ++ e ∷ [])
+pub keeps-as : {A E : Type 0} (result : Result A E) (before after : Option (List (List ℕ))) (hash : List ℕ) (old new : LedgerTables) (e : Event)
+    → KeepsLedger before old.history.events → hash ≡ hash_after old.history.events
+    → kept_records (old.history.events ++ e ∷ []) ≡ kept_records old.history.events ++ piece_behind (hash_after old.history.events) e ∷ []
+    → OnOk result (new.history.events ≡ old.history.events ++ e ∷ [])
     → OnOk result (AddsRecord before after (piece_behind hash e)) → OnErr result (new ≡ old) → OnErr result (after ≡ before)
-    → AddsPieces before after old.history.events new.history.events
-adds-as (Ok a) before after hash old new e hashed grows adds same still =
-    adds-one before after hash old.history.events new.history.events e hashed grows adds
-adds-as (Err error) before after hash old new e hashed grows adds same still =
-    adds-none before after old.history.events new.history.events (ap (λ (t : LedgerTables). t.history.events) same) still
+    → KeepsInstead before after new.history.events
+keeps-as (Ok a) before after hash old new e keeps hashed more grows adds same still =
+    keeps-one before after hash old.history.events new.history.events e keeps hashed grows more adds
+keeps-as (Err error) before after hash old new e keeps hashed more grows adds same still =
+    keeps-still before after old.history.events new.history.events keeps (ap (λ (t : LedgerTables). t.history.events) same) still
+
+-- what it has instead is the ledger
+pub keeps-instead : (before after : Option (List (List ℕ))) (history : List Event) → KeepsInstead before after history → KeepsLedger after history
+keeps-instead None after history is = subst (λ (o : Option (List (List ℕ))). KeepsLedger o history) (sym is) tt
+keeps-instead (Some records) after history is = subst (λ (o : Option (List (List ℕ))). KeepsLedger o history) (sym is) refl
 
 -- how long a piece is
 pub piece-length : (hash : List ℕ) (e : Event) (next : List ℕ) → next ≡ chain hash (record_of e) → length next ≡ 32 → length (record_body e) ≤ 300000
@@ -97,13 +113,12 @@ piece-length hash e next is long short =
 pub first-record : (events : List Event) (e : Event) → events ≡ e ∷ [] → IsKept events → HasRecord e
 first-record events e is kept = (subst (λ (l : List Event). AllCanBeKept l) is kept.has_ledger).0.has_record
 
-pub keeps-first : (before after : Option (List (List ℕ))) (e : Event) (events : List Event) → events ≡ e ∷ []
-    → AddsRecord before after (ledger_text (e ∷ [])) → KeepsFirst before after events
-keeps-first before after e events is adds =
-    subst (λ (l : List Event). KeepsFirst before after l) (sym is) (by before adds) where
-      by : (b : Option (List (List ℕ))) → AddsRecord b after (ledger_text (e ∷ [])) → KeepsFirst b after (e ∷ [])
-      by None h = tt
-      by (Some records) h = h ∙ ap (λ (piece : List ℕ). Some (records ++ piece ∷ [])) (append-nil _)
+pub keeps-first : (before after : Option (List (List ℕ))) (e : Event) (events : List Event) → events ≡ e ∷ [] → IsUnused before
+    → AddsRecord before after (ledger_text (e ∷ [])) → KeepsInstead before after events
+keeps-first None after e events is unused adds = adds
+keeps-first (Some records) after e events is unused adds =
+    adds ∙ ap (λ (l : List (List ℕ)). Some (l ++ ledger_text (e ∷ []) ∷ [])) unused
+    ∙ ap (λ (piece : List ℕ). Some (piece ∷ [])) (append-nil _) ∙ ap (λ (l : List Event). Some (kept_records l)) (sym is)
 
 -- a planned step, by the history before room was made
 pub prepared_step : {E : Type 0} (old mid new : LedgerTables) (worker : ℕ) (asked : Request) (made : Result Step E)
@@ -139,10 +154,3 @@ acted history old new tables worker asked (Ok (planned_step.Move planned)) (Ok a
     subst (λ (r : Reply). IsReplied history new worker asked r) (sym did.0)
     (replied-moved history worker asked new planned.event planned.reply h.0
     (did.1 ∙ ap (λ (l : List Event). l ++ planned.event ∷ []) same))
-
--- pieces that were added behind a history are so by its name
-pub adds-behind : (one other : Option (List (List ℕ))) (after : Option (List (List ℕ))) (old history new : List Event) → one ≡ other → old ≡ history
-    → AddsPieces one after old new → AddsPieces other after history new
-adds-behind one other after old history new same events adds =
-    subst (λ (o : Option (List (List ℕ))). AddsPieces o after history new) same
-    (subst (λ (l : List Event). AddsPieces one after l new) events adds)

@@ -2,7 +2,6 @@ mod Answering
 mod Applied
 mod ChannelSteps
 mod JobSteps
-mod Ranges
 mod SessionSteps
 mod ShareSteps
 mod Started

@@ -1,7 +1,7 @@
 -- Shares are judged, briefed and booked as the history answers.
 use Rattle.std.proofs.Common.{◌≡◌, ◌↔◌, ℕ, ◌+◌, ◌≤◌, ◌<◌, ◌^◌, Bool, true, false, cond, None, Some, Option, Result, Ok, Err, List, [], ◌∷◌, ◌++◌, length, take, refl, ap, sym, subst, ◌∙◌, arith}
 use Rattle.std.specs.Option.{option_map, option_map_or}
-use Rattle.std.specs.Prelude.{is_some, IsTrue}
+use Rattle.std.specs.Prelude.{is_some, IfErr, IfOk, IsTrue}
 use Rattle.block_header.specs.Hash.{dsha}
 use Rattle.block_header.specs.Target.{is_at_most}
 use Rattle.pool_history.specs.declared.asking.Request.TheVariants as request
@@ -26,13 +26,15 @@ use Rattle.history_laws.proofs.Ranges.{legal-rules}
 use Rattle.payout_laws.proofs.Ranges.{pays_from}
 use Rattle.channels.specs.Histories.{TablesShowHistories}
 use Rattle.pool_history.specs.Channels.{OpenChannel, channel_in}
-use Rattle.share_ledger.proofs.Ranges.{window_and_limit}
+use Rattle.share_judging.proofs.Ranges.{window_and_limit}
 use Rattle.event_history.specs.Blocks.{is_block_event}
 use Rattle.payouts.specs.Plans.{BlockPlan, IsPlanOf, Planning}
 use Rattle.payouts.specs.Plans as tallies
 use Rattle.payouts.specs.Tallies.{Weighing}
 use Rattle.share_check.specs.Submitted.{SubmittedIsRebuilt, submitted_header}
 use Rattle.share_judging.specs.Headers.{HeaderSet}
+use Rattle.share_judging.specs.Passing as passing
+use Rattle.share_judging.specs.declared.passing.Passed.{Passed}
 use Rattle.share_ledger.specs.declared.planning.Change.TheVariants as change
 use Rattle.share_ledger.specs.declared.planning.Crediting.{Crediting}
 use Rattle.share_ledger.specs.declared.planning.Step.TheVariants as step
@@ -83,6 +85,15 @@ pub commit-refused : (past : List Event) (session : ℕ) (checked : Checked) (co
     → Some code ≡ failed_within (rules_of past) past session (share_of checked.sub)
     → step_within (rules_of past) past session (request.Commit checked) ≡ without_event (reply.Refused code)
 commit-refused past session checked code h = commit_within (rules_of past) past session checked code h
+
+-- what passed by the rules that were read passed by the tables as they are shown
+pub as_passed : (old shown : LedgerTables) → old ≡ shown → (session : ℕ) (share : Share) (rules : Rules) → rules_of (past_in old) ≡ Some rules
+    → (r : Result Passed Failed) → IfOk r (λ p. Passes rules (past_in old) session share p.header p.is_block p.work p.reward)
+    → IfOk r (λ p. IsPassed (past_in shown) session share p.header p.is_block p.work p.reward)
+as_passed old shown same session share rules are (Err code) passes = tt
+as_passed old shown same session share rules are (Ok p) passes =
+    subst (λ (t : LedgerTables). IsPassed (past_in t) session share p.header p.is_block p.work p.reward) same
+    (record { rules = rules; are = are; passes = passes })
 
 module _ (old : LedgerTables) (is : AreTables old) (session : ℕ) (rules : Rules) (are : rules_of (past_in old) ≡ Some rules) where
   -- what passed by the tables as they are shown passed by the rules that were read
@@ -147,6 +158,22 @@ module _ (old : LedgerTables) (is : AreTables old) (session : ℕ) (rules : Rule
     work_is = worked;
     reward_is = rewarded;
   }
+
+  -- whatever was found of a share by its header
+  pub passed_all : (share : Share) (with : Admitted) (header : List ℕ) (r : Result Passed Failed) → admission rules (past_in old) session share ≡ Ok with
+      → header ≡ rebuilt_header rules.pool_script with share → passing.Passes rules (past_in old) with header r
+      → IfOk r (λ p. Passes rules (past_in old) session share p.header p.is_block p.work p.reward)
+  passed_all share with header (Err code) admitted rebuilt passes = tt
+  passed_all share with header (Ok p) admitted rebuilt passes =
+      subst (λ h. Passes rules (past_in old) session share h p.is_block p.work p.reward) (sym passes.1.header_is)
+      (passed share with header p.is_block p.work p.reward admitted rebuilt (sym passes.0) passes.1.block_is passes.1.work_is passes.1.reward_is)
+
+  pub failed_all : (share : Share) (with : Admitted) (header : List ℕ) (r : Result Passed Failed) → admission rules (past_in old) session share ≡ Ok with
+      → header ≡ rebuilt_header rules.pool_script with share → passing.Passes rules (past_in old) with header r
+      → IfErr r (λ code. Some code ≡ failed_within (rules_of (past_in old)) (past_in old) session share)
+  failed_all share with header (Ok p) admitted rebuilt passes = tt
+  failed_all share with header (Err code) admitted rebuilt passes =
+      failed_by share (Some code) (judged share with header (Some code) admitted rebuilt (sym passes))
 
   -- its account has room in the tally
   pub few_pushes : (share : Share) (header : List ℕ) (block : Bool) (work reward : ℕ) → Passes rules (past_in old) session share header block work reward

@@ -21,16 +21,19 @@ use Rattle.share_judging.specs.Headers.{ShowsHeaders}
 use Rattle.template_jobs.specs.Tables.{HasCoinbases, kept_jobs}
 use Rattle.share_ledger.specs.Tables.{AreTables, LedgerTables, WereTold}
 
--- it is there
-pub first-there : (old : LedgerTables) → AreTables old → None ≡ slice_get old.history.events 0 → ⊥
-first-there old is none = by (legal_starts old.history.events is.kept.legal) where
-  by : (old.history.events ≡ []) ⊎ Starts old.history.events → ⊥
+-- the events begin with it
+pub begins : (old : LedgerTables) → AreTables old → Starts old.history.events
+begins old is = by (legal_starts old.history.events is.kept.legal) where
+  by : (old.history.events ≡ []) ⊎ Starts old.history.events → Starts old.history.events
   by (inl empty) =
       let are : None ≡ Some is.rules = sym (ap (λ (h : List Event). rules_of (past_of h)) empty) ∙ is.told.are_rules in
       cc
-  by (inr s) =
-      let there : slice_get old.history.events 0 ≡ Some (event.Start s.rules) = ap (λ (h : List Event). slice_get h 0) s.first in
-      some-none (sym (none ∙ there))
+  by (inr s) = s
+
+pub first-there : (old : LedgerTables) → AreTables old → None ≡ slice_get old.history.events 0 → ⊥
+first-there old is none =
+    let s : Starts old.history.events = begins old is in
+    some-none (sym (none ∙ ap (λ (h : List Event). slice_get h 0) s.first))
 
 -- tables that were told nothing are those of a pool that starts
 pub started : (rules : Rules) (tables : LedgerTables) → StartsAreKept → OtherEventsLeaveSessions → OtherEventsLeaveGrants → IsTrue (are_in_range rules)

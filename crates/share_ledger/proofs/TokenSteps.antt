@@ -33,6 +33,8 @@ use Rattle.history_laws.proofs.Answering.{code-none}
 use Rattle.channels.specs.Histories.{TablesShowHistories}
 use Rattle.channels.specs.declared.channel.Channel.{Channel}
 use Rattle.channels.specs.Tables.{kept_channel, kept_of}
+use Rattle.grant_table.specs.OwnJobs.{refusal_before_coinbase}
+use Rattle.grant_table.proofs.RefusedJobs.{channel-none, channel-some, coinbase_made, coinbase_refused}
 use Rattle.grant_table.specs.Tables.{GrantTable, HasOneToSpend, MaySpend, grant_refusal_after, granted_count, unspent_in}
 use Rattle.template_jobs.specs.Plans.{IsPlannedAs, PlannedJob}
 use Rattle.template_jobs.specs.Tables.{Fits, JobTable}
@@ -41,43 +43,8 @@ use Rattle.share_ledger.specs.declared.planning.Change.TheVariants as change
 use Rattle.share_ledger.specs.declared.planning.Step.TheVariants as step
 use Rattle.share_ledger.specs.Planning.{BringsJob, IsStepWithin, past_in}
 use Rattle.share_ledger.specs.Tables.{AreTables, LedgerTables}
-use Rattle.share_ledger.specs.Tokens.{IsFixedPath, refusal_before_coinbase, tip_refusal, token_refusal}
+use Rattle.share_ledger.specs.Tokens.{IsFixedPath}
 use Rattle.share_ledger.proofs.Within.{counted_jobs, script_same, tip_same, within_by}
-
--- what comes after conditions that hold
-pub after_all : {C : Type 0} (conditions : List (Bool × C)) (after : Option C) → first_false conditions None ≡ None → first_false conditions after ≡ after
-after_all [] after h = refl
-after_all ((true, code) ∷ more) after h = after_all more after h
-after_all ((false, code) ∷ more) after h = absurd cc
-
-pub before_all : {C : Type 0} (conditions : List (Bool × C)) (after : Option C) (code : C) → first_false conditions None ≡ Some code
-    → first_false conditions after ≡ Some code
-before_all [] after code h = absurd cc
-before_all ((true, c) ∷ more) after code h = before_all more after code h
-before_all ((false, c) ∷ more) after code h = h
-
--- what a job needs over a tip
-abbrev tip_conditions : Granted → TipData → CustomData → List (Bool × CustomError)
-tip_conditions g tip offer =
-    (not (is_other_tip tip offer), custom_error.StaleTip)
-    ∷ (nat_le tip.header_timestamp offer.min_ntime, custom_error.EarlyTime tip.header_timestamp)
-    ∷ (not (is_bad_path g offer.merkle_path), custom_error.BadPath (length offer.merkle_path))
-    ∷ []
-
--- a job's refusal, where it isn't want of memory
-pub coinbase_refused : (error : OutputsError) (told : Result (Parts × ℕ) OutputsError) → error ≢ outputs_error.Memory → RefusesOutputs error told
-    → outputs_refusal told ≡ Some (custom_error.Coinbase error)
-coinbase_refused outputs_error.Memory told not is = absurd (not refl)
-coinbase_refused (outputs_error.ScriptTooLong n) told not is = ap outputs_refusal is
-coinbase_refused (outputs_error.TooLong n) told not is = ap outputs_refusal is
-coinbase_refused (outputs_error.BadOutputs at) told not is = ap outputs_refusal is
-coinbase_refused outputs_error.NoOutputs told not is = ap outputs_refusal is
-coinbase_refused (outputs_error.ForeignOutput index) told not is = ap outputs_refusal is
-coinbase_refused (outputs_error.RewardTooLarge sum) told not is = ap outputs_refusal is
-
-pub coinbase_made : (told : Result (Parts × ℕ) OutputsError) → IsOk told → outputs_refusal told ≡ None
-coinbase_made (Ok parts) is = refl
-coinbase_made (Err error) is = absurd cc
 
 module _ (old : LedgerTables) (is : AreTables old) (session : ℕ) (rules : Rules) (are : rules_of (past_in old) ≡ Some rules) where
   -- grants
@@ -168,81 +135,6 @@ module _ (old : LedgerTables) (is : AreTables old) (session : ℕ) (rules : Rule
       (subst (λ p. MadeAs table identity asked fixed path number script (account_of identity) (account_of identity) p) (sym copy_is)
       (grant-made table identity asked fixed path number script said told numbered scripted room same)))
 
-  -- the grant that a channel's account has still to spend
-  spent-or : (spent : Bool) (account : List ℕ) (g : Option Granted) → granted_to account (cond spent None g) ≡ cond spent None (granted_to account g)
-  spent-or true account g = refl
-  spent-or false account g = refl
-
-  unspent_same : (token : List ℕ) (c : OpenChannel) (account : List ℕ) → account ≡ c.account
-      → unspent_in old.grants token account ≡ unspent (past_in old) token c
-  unspent_same token c account paid =
-      ap (granted_to account) (is.told.grants_are.held_are token)
-      ∙ spent-or (is_spent (past_in old) token) account (grant_of (past_in old) token)
-      ∙ ap (λ a. cond (is_spent (past_in old) token) None (granted_to a (grant_of (past_in old) token))) paid
-
-  -- what is refused before the coinbase is refused, and what isn't has its coinbase looked at
-  tip-none : (g : Granted) (seen : Option TipData) (offer : CustomData) → tip_refusal g seen offer ≡ None
-      → over_tip rules.pool_script g offer seen ≡ outputs_refusal (custom_assembly (custom_terms offer) rules.pool_script)
-  tip-none g None offer h = absurd cc
-  tip-none g (Some tip) offer h = after_all (tip_conditions g tip offer) (outputs_refusal (custom_assembly (custom_terms offer) rules.pool_script)) h
-
-  tip-some : (g : Granted) (seen : Option TipData) (offer : CustomData) (error : CustomError) → tip_refusal g seen offer ≡ Some error
-      → over_tip rules.pool_script g offer seen ≡ Some error
-  tip-some g None offer error h = h
-  tip-some g (Some tip) offer error h = before_all (tip_conditions g tip offer) (outputs_refusal (custom_assembly (custom_terms offer) rules.pool_script)) error h
-
-  token-none : (offer : CustomData) (o : Option Granted) → token_refusal o (jobs_of (past_in old)).tip offer ≡ None
-      → with_token rules.pool_script (past_in old) offer o ≡ outputs_refusal (custom_assembly (custom_terms offer) rules.pool_script)
-  token-none offer None h = absurd cc
-  token-none offer (Some g) h = tip-none g (jobs_of (past_in old)).tip offer h
-
-  token-some : (offer : CustomData) (o : Option Granted) (error : CustomError) → token_refusal o (jobs_of (past_in old)).tip offer ≡ Some error
-      → with_token rules.pool_script (past_in old) offer o ≡ Some error
-  token-some offer None error h = h
-  token-some offer (Some g) error h = tip-some g (jobs_of (past_in old)).tip offer error h
-
-  extended-none : (offer : CustomData) (b : Bool) (r s : Option CustomError) (after : Option CustomError) → (r ≡ None → s ≡ after)
-      → cond b r (Some custom_error.NotOpen) ≡ None → cond b s (Some custom_error.NotOpen) ≡ after
-  extended-none offer true r s after f h = f h
-  extended-none offer false r s after f h = absurd cc
-
-  extended-some : (b : Bool) (r s : Option CustomError) (error : CustomError) → (r ≡ Some error → s ≡ Some error)
-      → cond b r (Some custom_error.NotOpen) ≡ Some error → cond b s (Some custom_error.NotOpen) ≡ Some error
-  extended-some true r s error f h = f h
-  extended-some false r s error f h = h
-
-  by_kept : (offer : CustomData) (c : OpenChannel) (k : Channel) → kept_of k ≡ kept_channel c
-      → refusal_before_coinbase (Some k) old.grants old.jobs.tip offer
-      ≡ cond (is_extended c.kind) (token_refusal (unspent (past_in old) offer.token c) (jobs_of (past_in old)).tip offer) (Some custom_error.NotOpen)
-  by_kept offer c k same =
-      ap (λ kind. cond (is_extended kind) (token_refusal (unspent_in old.grants offer.token k.account) old.jobs.tip offer) (Some custom_error.NotOpen))
-      (ap (λ (x : Rattle.channels.specs.Tables.KeptChannel). x.kind) same)
-      ∙ ap (λ g. cond (is_extended c.kind) (token_refusal g old.jobs.tip offer) (Some custom_error.NotOpen))
-      (unspent_same offer.token c k.account (ap (λ (x : Rattle.channels.specs.Tables.KeptChannel). x.account) same))
-      ∙ ap (λ t. cond (is_extended c.kind) (token_refusal (unspent (past_in old) offer.token c) t offer) (Some custom_error.NotOpen)) (tip_same old is)
-
-  channel-none : (offer : CustomData) (o : Option OpenChannel) (k : Option Channel) → option_map kept_of k ≡ option_map kept_channel o
-      → refusal_before_coinbase k old.grants old.jobs.tip offer ≡ None
-      → on_channel rules.pool_script (past_in old) offer o ≡ outputs_refusal (custom_assembly (custom_terms offer) rules.pool_script)
-  channel-none offer None None same h = absurd cc
-  channel-none offer None (Some k) same h = absurd cc
-  channel-none offer (Some c) None same h = absurd cc
-  channel-none offer (Some c) (Some k) same h =
-      extended-none offer (is_extended c.kind) _ _ _ (token-none offer (unspent (past_in old) offer.token c)) (sym (by_kept offer c k kept) ∙ h) where
-        kept : kept_of k ≡ kept_channel c
-        kept = cc
-
-  channel-some : (offer : CustomData) (o : Option OpenChannel) (k : Option Channel) (error : CustomError) → option_map kept_of k ≡ option_map kept_channel o
-      → refusal_before_coinbase k old.grants old.jobs.tip offer ≡ Some error
-      → on_channel rules.pool_script (past_in old) offer o ≡ Some error
-  channel-some offer None None error same h = h
-  channel-some offer None (Some k) error same h = absurd cc
-  channel-some offer (Some c) None error same h = absurd cc
-  channel-some offer (Some c) (Some k) error same h =
-      extended-some (is_extended c.kind) _ _ error (token-some offer (unspent (past_in old) offer.token c) error) (sym (by_kept offer c k kept) ∙ h) where
-        kept : kept_of k ≡ kept_channel c
-        kept = cc
-
   -- miners' own jobs
   abbrev custom_effect : CustomData → Option CustomError → Effect
   custom_effect custom refusal =
@@ -263,14 +155,14 @@ module _ (old : LedgerTables) (is : AreTables old) (session : ℕ) (rules : Rule
       within_by old is rules are session (request.Custom custom) new (step.Answer (reply.CustomRefused error))
       (ap (custom_effect custom)
       (ap (on_channel rules.pool_script (past_in old) custom) (custom_refused shown custom _ refl)
-      ∙ channel-some custom _ k error same (sym told)))
+      ∙ channel-some old.grants (past_in old) is.told.grants_are rules.pool_script old.jobs.tip (tip_same old is) custom _ k error same (sym told)))
 
   after_token : TablesShowHistories → (custom : CustomData) (k : Option Channel)
       → option_map kept_of k ≡ option_map kept_channel (channel_in (channels_in old.channels.open_channels session) custom.channel_id)
       → None ≡ refusal_before_coinbase k old.grants old.jobs.tip custom
       → custom_refusal rules.pool_script (past_in old) session custom ≡ outputs_refusal (custom_assembly (custom_terms custom) rules.pool_script)
   after_token shown custom k same told =
-      ap (on_channel rules.pool_script (past_in old) custom) (custom_refused shown custom _ refl) ∙ channel-none custom _ k same (sym told)
+      ap (on_channel rules.pool_script (past_in old) custom) (custom_refused shown custom _ refl) ∙ channel-none old.grants (past_in old) is.told.grants_are rules.pool_script old.jobs.tip (tip_same old is) custom _ k same (sym told)
 
   pub custom-unmade : TablesShowHistories → (new : LedgerTables) (custom : CustomData) (k : Option Channel) (error : OutputsError) (script : List ℕ)
       → option_map kept_of k ≡ option_map kept_channel (channel_in (channels_in old.channels.open_channels session) custom.channel_id)

@@ -119,7 +119,6 @@ remembers_same old new credits same told =
       weights_are = told.weights_are;
       pushes_are = told.pushes_are;
       unsettled_is = told.unsettled_is;
-      same_length = told.same_length;
     })
 
 pub sums_same : (old new : Weighing) (fee : ℕ) (credits : List Booked) → DiffersInRoom old new → HasSums old fee credits → HasSums new fee credits

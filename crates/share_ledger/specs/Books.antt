@@ -1,5 +1,6 @@
 -- What a book answers, and what its keeper is told (this project's own).
 use Rattle.std.specs.Prelude.{◌≡◌, ℕ, Bool, true, false, Option, None, Some, IfSome, Result, Ok, Err, List, [], ◌∷◌, ◌++◌}
+use Rattle.std.specs.Option.{option_map}
 use Rattle.pool_history.specs.declared.asking.Request.{Request}
 use Rattle.pool_history.specs.declared.events.Event.{Event}
 use Rattle.pool_history.specs.declared.refusals.BookError.{BookError}
@@ -10,9 +11,8 @@ use Rattle.pool_history.specs.declared.settings.Rules.{Rules}
 use Rattle.pool_history.specs.Answering.{Answer}
 use Rattle.pool_history.specs.Crediting.{first_failed}
 use Rattle.pool_history.specs.Judging.{Share}
-use Rattle.pool_history.specs.Ledger.{chained, kept_records}
+use Rattle.pool_history.specs.Ledger.{kept_records}
 use Rattle.pool_history.specs.Sessions.{past_of, present, rules_of}
-use Rattle.ledger_laws.specs.Growing.{hash_after}
 
 -- the events, and the keeper of their records
 pub record BookSeen (K : Type 0) : Type 0 where
@@ -24,17 +24,17 @@ abbrev pub IsReplied : List Event → List Event → ℕ → Request → Reply �
 IsReplied old new worker asked answer =
     (added : List Event) × (new ≡ old ++ added) × Answer old worker asked added answer
 
--- a keeper that tells its records was given the pieces of the events that were added, and no other
-abbrev pub AddsPieces :
-    Option (List (List ℕ)) → Option (List (List ℕ)) → List Event → List Event → Type 0
-AddsPieces before after old new =
-    (added : List Event) → new ≡ old ++ added
-    → IfSome before (λ records. after ≡ Some (records ++ chained (hash_after old) added))
+-- what a keeper tells, if it does, is this history's ledger in its pieces
+abbrev pub KeepsLedger : Option (List (List ℕ)) → List Event → Type 0
+KeepsLedger told history = IfSome told (λ records. records ≡ kept_records history)
 
--- it was given the ledger of the first events, in its pieces
-abbrev pub KeepsFirst : Option (List (List ℕ)) → Option (List (List ℕ)) → List Event → Type 0
-KeepsFirst before after events =
-    IfSome before (λ records. after ≡ Some (records ++ kept_records events))
+-- a keeper that told its records tells then this history's ledger, and one that told none tells none
+abbrev pub KeepsInstead : Option (List (List ℕ)) → Option (List (List ℕ)) → List Event → Type 0
+KeepsInstead before after history = after ≡ option_map (λ records. kept_records history) before
+
+-- a keeper that tells its records has none yet
+abbrev pub IsUnused : Option (List (List ℕ)) → Type 0
+IsUnused told = IfSome told (λ records. records ≡ [])
 
 -- the keeper's fault; want of memory is none
 abbrev pub is_start_fault : BookError → Bool

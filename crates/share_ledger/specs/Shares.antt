@@ -1,5 +1,5 @@
 -- The judging of a share by the rules of a history (this project's own).
-use Rattle.std.specs.Prelude.{◌≡◌, ℕ, ◌<◌, ◌≤◌, ◌^◌, Bool, Option, None, Some, Ok, List, length}
+use Rattle.std.specs.Prelude.{◌≡◌, ℕ, Bool, Option, None, Some, Ok, List}
 use Rattle.pool_history.specs.declared.events.Event.{Event}
 use Rattle.pool_history.specs.declared.refusals.Failed.{Failed}
 use Rattle.pool_history.specs.declared.settings.Rules.{Rules}
@@ -31,12 +31,6 @@ pub record IsPassed (past : List Event) (session : ℕ) (share : Share) (header 
   pub rules : Rules
   pub are : rules_of past ≡ Some rules
   pub passes : Passes rules past session share header is_block work reward
-
--- a work and a reward that a tally takes
-pub record IsPayable (work reward : ℕ) : Type 0 where
-  pub some : 1 ≤ work
-  pub small : work ≤ 2 ^ 60
-  pub payable : reward < 2 ^ 40
 
 -- a channel is there
 pub record HasAccount (there : Option OpenChannel) : Type 0 where

@@ -22,7 +22,7 @@ pub struct Book<K: Keeper> {
 impl<K: Keeper> Model for Book<K> {
     ghost use Rattle.std.specs.Prelude.{◌≡◌};
     ghost use Rattle.ledger_laws.specs.Growing.{hash_after};
-    ghost use Rattle.share_ledger.specs.Books.{BookSeen};
+    ghost use Rattle.share_ledger.specs.Books.{BookSeen, KeepsLedger};
 
     ghost Value = { BookSeen K };
 
@@ -31,27 +31,29 @@ impl<K: Keeper> Model for Book<K> {
       keeper = book.keeper;
     } };
 
-    ghost invariant = { λ book. book.hash ≡ hash_after book.tables.history.events };
+    ghost invariant = { λ book. (book.hash ≡ hash_after book.tables.history.events)
+        × KeepsLedger (K.records book.keeper) book.tables.history.events };
 }
 
 impl<K: Keeper> Book<K> {
-    ghost use Rattle.std.specs.Prelude.{◌≡◌, ◌++◌, Some, [], ◌∷◌, length, IfErr, IfOk, IfSome, IsSome, IsTrue, OnErr, OnOk};
+    ghost use Rattle.std.specs.Prelude.{◌≡◌, ◌++◌, ◌<◌, ◌^◌, Some, [], ◌∷◌, length, IfErr, IfOk, IsSome, IsTrue, OnErr, OnOk};
     ghost use Rattle.pool_history.specs.declared.events.Event.TheVariants as event;
     ghost use Rattle.pool_history.specs.Accounts.{are_in_range};
     ghost use Rattle.pool_history.specs.Judging.{share_of};
-    ghost use Rattle.pool_history.specs.Ledger.{kept_records};
     ghost use Rattle.pool_history.specs.Sessions.{past_of, present};
     ghost use Rattle.pool_history.specs.Summary.{summary_of, summary_text};
     ghost use Rattle.ledger_laws.specs.Keeping.{IsKept};
     ghost use Rattle.pool_io.specs.Outside.{CountsFailure};
-    ghost use Rattle.share_ledger.specs.Books.{AddsPieces, IsFirstFailed, IsReplied, KeepsFirst, is_keeper_fault, is_start_fault};
+    ghost use Rattle.share_ledger.specs.Books.{IsFirstFailed, IsReplied, IsUnused, KeepsInstead, KeepsLedger, is_keeper_fault, is_start_fault};
 
-    /// The book of a pool that starts: the magic and the Start record are kept as one piece.
+    /// The book of a pool that starts, with a keeper that keeps nothing yet: the magic and the Start
+    /// record are kept as one piece.
     pub fn new(alloc: Global, rules: Rules, keeper: K) -> Result<Book<K>, (K, BookError)>
-        requires { IsTrue (are_in_range rules) }
+        requires rules { IsTrue (are_in_range rules) }
+        requires unused { IsUnused (K.records keeper) }
         ensures ok { IfOk result (λ book. book.events ≡ event.Start rules ∷ []) }
         ensures kept { IfOk result (λ book.
-            KeepsFirst (K.records keeper) (K.records book.keeper) book.events) }
+            KeepsInstead (K.records keeper) (K.records book.keeper) book.events) }
         ensures counts { IfOk result (λ book. K.faults book.keeper ≡ K.faults keeper) }
         ensures refused { IfErr result (λ failed. K.records failed.0 ≡ K.records keeper) }
         ensures fault { IfErr result (λ failed. CountsFailure (is_start_fault failed.1)
@@ -80,8 +82,8 @@ impl<K: Keeper> Book<K> {
         ensures answer { IfOk result
             (IsReplied self.old.events self.new.events worker request) }
         ensures refused { OnErr result (self.new.events ≡ self.old.events) }
-        ensures kept { AddsPieces (K.records self.old.keeper) (K.records self.new.keeper)
-            self.old.events self.new.events }
+        ensures kept { KeepsInstead (K.records self.old.keeper) (K.records self.new.keeper)
+            self.new.events }
         ensures counts { CountsFailure (is_keeper_fault result) (K.faults self.old.keeper)
             (K.faults self.new.keeper) }
     {
@@ -124,14 +126,17 @@ impl<K: Keeper> Book<K> {
 
     /// How many events there are.
     pub fn len(&self) -> u64
-        ensures { result ≡ length self.now.events }
+        ensures value { result ≡ length self.now.events }
+        ensures few { result < 2 ^ 62 }
     {
         self.tables.history.len()
     }
 
-    /// That the history is legal and has a ledger.
+    /// That the history is legal and has a ledger, and that the keeper has just that ledger, where it
+    /// tells its records.
     pub fn history_is_kept(&self)
-        ensures { IsKept self.now.events }
+        ensures history { IsKept self.now.events }
+        ensures ledger { KeepsLedger (K.records self.now.keeper) self.now.events }
     {
         self.tables.are_kept()
     }

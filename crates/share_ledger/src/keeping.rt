@@ -6,11 +6,12 @@ ghost use Rattle.pool_history.specs.Ledger.{HasRecord, kept_records, ledger_text
 ghost use Rattle.ledger_laws.specs.Growing.{hash_after};
 ghost use Rattle.ledger_records.specs.Pieces.{piece_behind};
 ghost use Rattle.pool_io.specs.Outside.{AddsRecord, CountsFailure};
-ghost use Rattle.share_ledger.specs.Books.{AddsPieces, is_keeper_fault, is_start_fault};
+ghost use Rattle.share_ledger.specs.Books.{KeepsInstead, KeepsLedger, is_keeper_fault};
 ghost use Rattle.share_ledger.specs.Planning.{Changes, IsNext, IsReady, MakesStep};
 
 use crate::planning::{Planned, Step};
 use crate::tables::Tables;
+use ledger_laws::{ledgers_grow, pieces_grow};
 use ledger_records::{write_first_piece, write_piece};
 use pool_history::{BookError, Event, Reply};
 use pool_io::{Keeper, KeeperFailed};
@@ -29,15 +30,19 @@ pub(crate) fn carry_out<K: Keeper>(
 ) -> Result<Reply, BookError>
     requires ready { IfOk step (IsReady tables.old) }
     requires hashed { hash.old ≡ hash_after tables.old.history.events }
+    requires kept { KeepsLedger (K.records keeper.old) tables.old.history.events }
     ensures made { IfOk result
         (MakesStep step tables.old.history.events tables.new.history.events) }
     ensures same { OnErr result (tables.new.history.events ≡ tables.old.history.events) }
     ensures hash { hash.new ≡ hash_after tables.new.history.events }
-    ensures kept { AddsPieces (K.records keeper.old) (K.records keeper.new)
-        tables.old.history.events tables.new.history.events }
+    ensures kept { KeepsInstead (K.records keeper.old) (K.records keeper.new)
+        tables.new.history.events }
     ensures counts { CountsFailure (is_keeper_fault result) (K.faults keeper.old)
         (K.faults keeper.new) }
 {
+    pieces_grow();
+    ledgers_grow();
+    tables.are_kept();
     match step {
         Ok(Step::Answer(reply)) => Ok(reply),
         Ok(Step::Move(planned)) => commit(alloc, keeper, hash, tables, planned),

@@ -96,8 +96,6 @@ impl Tables {
 
 ghost use Rattle.std.specs.Prelude.{◌≡◌, if◌then◌else◌};
 ghost use Rattle.pool_history.specs.Answering.{permits};
-ghost use Rattle.pool_history.specs.Legal.{selects_work};
-ghost use Rattle.pool_history.specs.Sessions.{feeds, mines};
 
 /// The flags of a setup that are acceptable (Stratum V2, "SetupConnection").
 fn allowed_flags(version_rolling: bool) -> u32
@@ -112,40 +110,13 @@ fn may_ask(request: &Request, entered: Entered) -> bool
 {
     match request {
         Request::Enter(..) | Request::Leave | Request::Poll(_) => true,
-        Request::Template(_) | Request::Tip(_) => is_feeding(entered.role),
+        Request::Template(_) | Request::Tip(_) => entered.may_feed(),
         Request::Open(_)
         | Request::Name(..)
         | Request::Update(..)
         | Request::Close(_)
         | Request::Brief(_)
-        | Request::Commit(_) => is_mining(entered.role),
-        Request::Grant(..) | Request::Custom(_) => {
-            is_mining(entered.role) && is_work_selected(entered.flags)
-        }
-    }
-}
-
-/// Whether a session's flags ask to select work (Stratum V2, "SetupConnection").
-fn is_work_selected(flags: u32) -> bool
-    ensures { result ≡ selects_work flags }
-{
-    (flags >> 1) % 2 == 1
-}
-
-fn is_feeding(role: Role) -> bool
-    ensures { result ≡ feeds role }
-{
-    match role {
-        Role::Miner => false,
-        Role::Feed | Role::Solo => true,
-    }
-}
-
-fn is_mining(role: Role) -> bool
-    ensures { result ≡ mines role }
-{
-    match role {
-        Role::Feed => false,
-        Role::Miner | Role::Solo => true,
+        | Request::Commit(_) => entered.may_mine(),
+        Request::Grant(..) | Request::Custom(_) => entered.may_select_work(),
     }
 }

@@ -2,14 +2,13 @@
 
 use crate::planning::{Change, Crediting, Planned, Step};
 use crate::tables::Tables;
-use block_header::meets_target;
 use channels::{Channels, tables_show_histories};
 use payouts::{Tally, TallyPlan};
-use pool_history::{Checked, Class, Event, Failed, Reply, Submission};
+use pool_history::{Checked, Event, Failed, Reply, Submission};
 use share_check::{brief_of, checked_headers_are_rebuilt, header_by_parts, header_of};
-use share_judging::{admit, late_refusal};
+use share_judging::{Passed, admit, late_refusal};
 use std::alloc::{AllocError, Global};
-use sv2_types::{Blob, U256};
+use sv2_types::Blob;
 
 impl Tables {
     ghost use Rattle.std.specs.Prelude.{◌≡◌, IfErr, IfOk, Some};
@@ -17,7 +16,8 @@ impl Tables {
     ghost use Rattle.pool_history.specs.Judging.{share_of};
     ghost use Rattle.pool_history.specs.Sessions.{rules_of};
     ghost use Rattle.share_ledger.specs.Planning.{IsStepWithin, past_in};
-    ghost use Rattle.share_ledger.specs.Shares.{IsPassed, IsPayable, failed_within};
+    ghost use Rattle.share_judging.specs.Passing.{IsPayable};
+    ghost use Rattle.share_ledger.specs.Shares.{IsPassed, failed_within};
     ghost use Rattle.share_ledger.specs.Booking.{BooksPassed};
 
     /// The first of the nine conditions that fails for a session's share. It takes no memory.
@@ -93,15 +93,7 @@ impl Tables {
         };
         let (header, hash) = header_by_parts(checked, &found.parts());
         let credits = self.tally.pushes();
-        match late_refusal(rules, found.class, &header, &hash, &self.headers, credits) {
-            Some(code) => Err(code),
-            None => Ok(Passed {
-                header,
-                is_block: is_at_most_target(&hash, &found.tip.target),
-                work: work_of(found.class),
-                reward: found.job.reward(),
-            }),
-        }
+        found.pass(rules, header, &hash, &self.headers, credits)
     }
 
     /// Books a share that passed.
@@ -134,16 +126,6 @@ impl Tables {
     }
 }
 
-/// What is booked of a share.
-#[derive(Clone, Copy)]
-pub(crate) struct Passed {
-    header: [u8; 80],
-    is_block: bool,
-    work: u64,
-    /// Of its job, in satoshis.
-    reward: u64,
-}
-
 ghost use Rattle.std.specs.Prelude.{◌≡◌, IfOk};
 ghost use Rattle.history_laws.specs.Answered.{credit_of};
 ghost use Rattle.pool_history.specs.Judging.{share_of};
@@ -165,28 +147,12 @@ fn credit_event(alloc: Global, session: u32, sub: &Submission) -> Result<Event, 
 }
 
 ghost use Rattle.std.specs.Prelude.{ℕ, ◌+◌, ◌<◌, ◌≤◌, ◌^◌, if◌then◌else◌, List, None, Some};
+ghost use Rattle.share_judging.specs.Passing.{IsPayable};
 ghost use Rattle.std.specs.Option.{option_map};
-ghost use Rattle.block_header.specs.Target.{is_at_most};
 ghost use Rattle.pool_history.specs.Channels.{channel_in};
 ghost use Rattle.payouts.specs.Plans.{Fits, IsPlanOf};
 ghost use Rattle.payouts.specs.Tallies.{DiffersInRoom};
-ghost use Rattle.share_ledger.specs.Shares.{HasAccount, IsPayable};
-
-/// Whether a hash, as a number, is at most a target.
-fn is_at_most_target(hash: &[u8; 32], target: &U256) -> bool
-    ensures { result ≡ is_at_most hash.now target.now }
-{
-    meets_target(hash, target)
-}
-
-/// The work of a share of a class.
-fn work_of(class: Class) -> u64
-    ensures value { result ≡ 2 ^ class }
-    ensures some { 1 ≤ result }
-    ensures small { result ≤ 2 ^ 60 }
-{
-    1 << class.value()
-}
+ghost use Rattle.share_ledger.specs.Shares.{HasAccount};
 
 /// Plans the push of a share's work for its channel's account, and its block where it is one.
 fn plan_push(
@@ -211,10 +177,5 @@ fn plan_push(
     let Some(channel) = channels.channel(channel) else {
         unreachable!();
     };
-    let block = if passed.is_block {
-        Some((passed.reward, fee))
-    } else {
-        None
-    };
-    tally.plan(channel.account.text(), passed.work, block)
+    tally.plan(channel.account.text(), passed.work, passed.block(fee))
 }

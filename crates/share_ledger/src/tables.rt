@@ -55,6 +55,7 @@ impl Tables {
     ghost use Rattle.pool_history.specs.declared.events.Event.{Event};
     ghost use Rattle.pool_history.specs.declared.events.Event.TheVariants as event;
     ghost use Rattle.pool_history.specs.Accounts.{are_in_range};
+    ghost use Rattle.history_laws.specs.Legality.{Starts};
     ghost use Rattle.ledger_laws.specs.Keeping.{IsKept};
 
     /// The tables of a pool that starts.
@@ -104,9 +105,10 @@ impl Tables {
         }
     }
 
-    /// That the events are legal and have a ledger.
+    /// That the events are legal and have a ledger, and begin with a Start.
     pub(crate) fn are_kept(&self)
-        ensures { IsKept self.now.history.events }
+        ensures kept { IsKept self.now.history.events }
+        ensures begin { Starts self.now.history.events }
     {
         let _ = &self.history;
     }

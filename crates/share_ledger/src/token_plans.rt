@@ -2,10 +2,10 @@
 
 use crate::planning::{Change, Planned, Step};
 use crate::tables::Tables;
-use channels::{Channel, account_in, tables_show_histories};
+use channels::{account_in, tables_show_histories};
 use coinbase::OutputsError;
-use grant_table::{Granted, Grants, grant_refusal_of};
-use pool_history::{CustomData, CustomError, Event, Kind, Reply, Script, TipData};
+use grant_table::{grant_refusal_of, own_job_refusal};
+use pool_history::{CustomData, CustomError, Event, Reply, Script};
 use std::alloc::{AllocError, Global};
 use sv2_types::{Blob, Hashes, Str255};
 use template_jobs::histories_are_read;
@@ -66,7 +66,7 @@ impl Tables {
         tables_show_histories();
         histories_are_read();
         let there = self.channels.own(session, custom.channel_id);
-        if let Some(refusal) = custom_refusal(there, &self.grants, self.jobs.tip(), &custom) {
+        if let Some(refusal) = own_job_refusal(there, &self.grants, self.jobs.tip(), &custom) {
             return Ok(Step::Answer(Reply::CustomRefused(refusal)));
         }
         let at = self.history.len();
@@ -85,11 +85,8 @@ impl Tables {
     }
 }
 
-ghost use Rattle.std.specs.Prelude.{◌≡◌, None, Some, [], IsTrue, IfSome, is_some};
-ghost use Rattle.std.specs.Option.{option_copied};
-ghost use Rattle.grant_table.specs.Tables.{HasOneToSpend, MaySpend};
-ghost use Rattle.pool_history.specs.Refusing.{is_bad_path, is_extended, is_other_tip};
-ghost use Rattle.share_ledger.specs.Tokens.{IsFixedPath, refusal_before_coinbase, tip_refusal};
+ghost use Rattle.std.specs.Prelude.{◌≡◌};
+ghost use Rattle.share_ledger.specs.Tokens.{IsFixedPath};
 
 /// A path that is fixed, or none.
 fn fixed_path(alloc: Global, path: Option<Hashes>) -> (bool, Hashes)
@@ -99,70 +96,4 @@ fn fixed_path(alloc: Global, path: Option<Hashes>) -> (bool, Hashes)
         Some(path) => (true, path),
         None => (false, Hashes::from_vec(Vec::new(alloc))),
     }
-}
-
-/// Why a job is refused before its coinbase is looked at, by its channel, its token and the tip.
-fn custom_refusal(
-    there: Option<&Channel>,
-    grants: &Grants,
-    tip: Option<&TipData>,
-    custom: &CustomData,
-) -> Option<CustomError>
-    ensures refusal { result
-        ≡ refusal_before_coinbase (option_copied there.entry) grants.now
-        (option_copied tip.entry) custom.now }
-    ensures ready { result ≡ None → MaySpend grants.now custom.now.token }
-    ensures few { result ≡ None → HasOneToSpend grants.now }
-{
-    let Some(channel) = there else {
-        return Some(CustomError::NotOpen);
-    };
-    if channel.kind != Kind::Extended {
-        return Some(CustomError::NotOpen);
-    }
-    let Some(granted) = grants.unspent(custom.token.bytes(), channel.account.text()) else {
-        return Some(CustomError::BadToken);
-    };
-    over_tip(granted, tip, custom)
-}
-
-/// The same by the tip, the token being good.
-fn over_tip(granted: &Granted, tip: Option<&TipData>, custom: &CustomData) -> Option<CustomError>
-    ensures { result ≡ tip_refusal granted.now (option_copied tip.entry) custom.now }
-{
-    let Some(tip) = tip else {
-        return Some(CustomError::StaleTip);
-    };
-    if is_of_other_block(tip, custom) {
-        return Some(CustomError::StaleTip);
-    }
-    if custom.min_ntime < tip.header_timestamp {
-        return Some(CustomError::EarlyTime(tip.header_timestamp));
-    }
-    if breaks_path(granted, custom.merkle_path.items()) {
-        return Some(CustomError::BadPath(custom.merkle_path.items().len()));
-    }
-    None
-}
-
-/// Whether a job is for another block than the tip's.
-fn is_of_other_block(tip: &TipData, custom: &CustomData) -> bool
-    ensures { result ≡ is_other_tip tip.now custom.now }
-{
-    tip.prev_hash.bytes() != custom.prev_hash.bytes() || tip.nbits != custom.nbits
-}
-
-/// Whether a path is too long, or another than the one that was fixed.
-fn breaks_path(granted: &Granted, path: &[[u8; 32]]) -> bool
-    ensures { result ≡ is_bad_path granted.now path.now }
-{
-    32 < path.len() || (granted.fixed && !is_same_path(path, granted.path.items()))
-}
-
-ghost use Rattle.pool_history.specs.Refusing.{same_path};
-
-fn is_same_path(path: &[[u8; 32]], other: &[[u8; 32]]) -> bool
-    ensures { result ≡ same_path path.now other.now }
-{
-    path == other
 }

@@ -8,7 +8,7 @@ use Rattle.share_ledger.specs.Tables.{LedgerTables}
 use Rattle.std.specs.Option.{option_copied}
 use Rattle.coinbase.specs.declared.error.OutputsError.TheVariants as outputs_error
 use Rattle.pool_history.specs.declared.refusals.CustomError.TheVariants as custom_error
-use Rattle.share_ledger.specs.Tokens.{refusal_before_coinbase}
+use Rattle.grant_table.specs.OwnJobs.{refusal_before_coinbase}
 use Rattle.share_ledger.proofs.TokenSteps.{custom-made, custom-unmade, own_few}
 use Rattle.share_ledger.proofs.Within.{moved, not_some, script_short, script_some, still}
 use Rattle.share_ledger.proofs.tables.Tables.plan_custom.Goals as goal
@@ -24,13 +24,13 @@ plan_custom-requires-clause-short c =
 pub plan_custom-requires-clause-few : goal.plan_custom-requires-clause-few
 plan_custom-requires-clause-few c =
     own_few (the_view c.self.inside) c.self.invariant c.args.session c.rules.result.now c.rules.ensures
-    (c.custom_refusal.ensures.few (not_some c.custom_refusal.result c.in_default.not-Some))
+    (c.own_job_refusal.ensures.few (not_some c.own_job_refusal.result c.in_default.not-Some))
 
 pub returns-in-Ok-clause-step : goal.returns-in-Ok-clause-step
 returns-in-Ok-clause-step c =
-    let none : c.custom_refusal.result ≡ None = not_some c.custom_refusal.result c.in_default.not-Some in
+    let none : c.own_job_refusal.result ≡ None = not_some c.own_job_refusal.result c.in_default.not-Some in
     let told : None ≡ refusal_before_coinbase (option_copied c.own-there.result) c.self.inside.grants c.self.inside.jobs.tip c.args.custom =
-    sym none ∙ c.custom_refusal.ensures.refusal
+    sym none ∙ c.own_job_refusal.ensures.refusal
     ∙ ap (λ t. refusal_before_coinbase (option_copied c.own-there.result) c.self.inside.grants t c.args.custom) c.tip.ensures in
     moved (the_view c.self.inside) c.args.self.now _ c.args.session (request.Custom c.args.custom) (event.Custom c.args.session c.args.custom)
     (change.Custom c.in-Ok.plan c.in_ok-token.token) (reply.CustomJob (c.count-number.result + 1)) c.self.view_is
@@ -38,14 +38,14 @@ returns-in-Ok-clause-step c =
     c.plan_custom.new.self c.args.custom (option_copied c.own-there.result) c.in-Ok.plan (c.count-number.result + 1) c.len-at.result
     c.bytes-script.result.now c.in_ok-token.token c.len-at.ensures.value (c.in_ok-token.ensures ∙ c.bytes.ensures) c.own-there.ensures told
     c.bytes-script.ensures c.in-Ok.ensures.refusal (ap (λ n. n + 1) c.count-number.ensures.value) c.in-Ok.ensures.planned c.in-Ok.ensures.fits
-    (c.custom_refusal.ensures.ready none))
+    (c.own_job_refusal.ensures.ready none))
 
 pub returns : goal.returns
 returns c =
     let other : c.in-Err.error ≢ outputs_error.Memory = search rules in
-    let none : c.custom_refusal.result ≡ None = not_some c.custom_refusal.result c.in_default.not-Some in
+    let none : c.own_job_refusal.result ≡ None = not_some c.own_job_refusal.result c.in_default.not-Some in
     let told : None ≡ refusal_before_coinbase (option_copied c.own-there.result) c.self.inside.grants c.self.inside.jobs.tip c.args.custom =
-    sym none ∙ c.custom_refusal.ensures.refusal
+    sym none ∙ c.own_job_refusal.ensures.refusal
     ∙ ap (λ t. refusal_before_coinbase (option_copied c.own-there.result) c.self.inside.grants t c.args.custom) c.tip.ensures in
     record {
       same = ap (λ (t : LedgerTables). t.history) c.self.view_is;

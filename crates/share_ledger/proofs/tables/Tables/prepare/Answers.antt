@@ -10,6 +10,6 @@ returns c =
       step = prepared_step c.args.self.now c.reserve.new.self c.plan.new.self c.args.worker c.args.request c.plan.result c.reserve.ensures.same
           c.plan.ensures.step;
       ready = prepared_ready c.args.self.now c.reserve.new.self c.plan.new.self c.args.worker c.args.request c.plan.result
-          c.answers_can_be_kept.ensures c.are_kept.ensures c.ranges.worker.fits c.request_fits.ensures c.reserve.ensures.same
+          c.answers_can_be_kept.ensures c.are_kept.ensures.kept c.ranges.worker.fits c.request_fits.ensures c.reserve.ensures.same
           c.in_ok-reserve.ensures.room c.plan.ensures.same c.plan.ensures.step;
     }
