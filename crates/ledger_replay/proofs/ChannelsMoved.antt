@@ -12,6 +12,7 @@ use Rattle.pool_history.specs.declared.events.Event.TheVariants as event
 use Rattle.pool_history.specs.declared.settings.Rules.{Rules}
 use Rattle.pool_history.specs.Channels.{Closes, Names, OpenChannel, Sets, channel_in, channel_moves, channels_in, present_class}
 use Rattle.pool_history.specs.Conditions.{or_code}
+use Rattle.pool_history.specs.Crediting.{bookings_of, headers}
 use Rattle.pool_history.specs.Jobs.{job_moves}
 use Rattle.pool_history.specs.Legal.{cause_of, is_class, may_become, may_get, may_mine, within}
 use Rattle.pool_history.specs.Refusing.{own_channel}
@@ -20,6 +21,7 @@ use Rattle.session_table.specs.Tables.{OtherEventsLeaveSessions, moves_sessions}
 use Rattle.template_jobs.specs.Told.{WasTold}
 use Rattle.ledger_replay.specs.Kept.{may_become_kept, may_get_kept}
 use Rattle.ledger_replay.specs.Replays.{HasCause, ReplayTables, WereReplayed}
+use Rattle.ledger_replay.specs.Shares.{WereBooked}
 use Rattle.ledger_replay.proofs.Caused.{by_own, one-longer}
 
 -- a session's open channel among those that the table shows
@@ -33,9 +35,10 @@ own-told t past session channel was = ap (λ channels. channel_in (channels_in c
 channel-moved : (t : ReplayTables) (new : ChannelTable) (past : List Event) (one : Event)
     → OtherEventsLeaveSessions → OtherEventsLeaveGrants → moves_sessions one ≡ false → moves_grants one ≡ false
     → rules_of (one ∷ past) ≡ rules_of past → job_moves (one ∷ past) ≡ job_moves past
+    → bookings_of (one ∷ past) ≡ bookings_of past → headers (one ∷ past) ≡ headers past
     → WereReplayed t past → cause_of past one ≡ None → IsTold new (channel_moves (one ∷ past))
     → WereReplayed (record t { channels = new; events = t.events + 1 }) (one ∷ past)
-channel-moved t new past one other_sessions other_grants no_session no_grant same_rules same_jobs was none told = record {
+channel-moved t new past one other_sessions other_grants no_session no_grant same_rules same_jobs same_credits same_headers was none told = record {
   legal = (was.legal, none);
   rules_are = same_rules ∙ was.rules_are;
   events_are = one-longer t.events one past was.events_are;
@@ -44,6 +47,8 @@ channel-moved t new past one other_sessions other_grants no_session no_grant sam
   jobs_are = subst (λ moves. WasTold t.jobs moves) (sym same_jobs) was.jobs_are;
   coinbases = was.coinbases;
   grants_are = other_grants t.grants past one no_grant was.grants_are;
+  booked = subst (λ seen. WereBooked t.rules t.tally t.headers (bookings_of (one ∷ past)) seen) (sym same_headers)
+      (subst (λ credits. WereBooked t.rules t.tally t.headers credits (headers past)) (sym same_credits) was.booked);
 }
 
 -- channels that are the same but for room
@@ -61,6 +66,7 @@ channels-same t new past was same = record {
   jobs_are = was.jobs_are;
   coinbases = was.coinbases;
   grants_are = was.grants_are;
+  booked = was.booked;
 }
 
 is-there : (there : Option OpenChannel) → (there ≡ None → ⊥) → or_code (is_some there) cause.NotOpen None ≡ None
@@ -73,7 +79,7 @@ pub close-taken : (t : ReplayTables) (new : ChannelTable) (past : List Event) (s
     → (own_in t session channel ≡ None → ⊥) → IsTold new (Closes channel ∷ channel_moves past)
     → WereReplayed (record t { channels = new; events = t.events + 1 }) (event.Close session channel ∷ past)
 close-taken t new past session channel other_sessions other_grants was may there told =
-    channel-moved t new past (event.Close session channel) other_sessions other_grants refl refl refl refl was
+    channel-moved t new past (event.Close session channel) other_sessions other_grants refl refl refl refl refl refl was
     (by_own t past (event.Close session channel) may_mine session _ was refl may
     ∙ is-there (own_channel past session channel) (λ none. there (own-told t past session channel was ∙ none))) told
 
@@ -103,7 +109,7 @@ pub name-taken : (t : ReplayTables) (new : ChannelTable) (past : List Event) (se
     → may_get t.rules account (own_channel past session channel) ≡ true → IsTold new (Names channel account ∷ channel_moves past)
     → WereReplayed (record t { channels = new; events = t.events + 1 }) (event.Name session channel account ∷ past)
 name-taken t new past session channel account other_sessions other_grants was may is told =
-    channel-moved t new past (event.Name session channel account) other_sessions other_grants refl refl refl refl was
+    channel-moved t new past (event.Name session channel account) other_sessions other_grants refl refl refl refl refl refl was
     (by_own t past (event.Name session channel account) may_mine session _ was refl may ∙ ap (λ b. or_code b cause.BadName None) is) told
 
 pub name-refused : (t : ReplayTables) (past : List Event) (session channel : ℕ) (account : List ℕ)
@@ -136,7 +142,7 @@ pub class-taken : (t : ReplayTables) (new : ChannelTable) (past : List Event) (s
     → may_become t.rules class (own_channel past session channel) ≡ true → IsTold new (Sets t.events channel class ∷ channel_moves past)
     → WereReplayed (record t { channels = new; events = t.events + 1 }) (event.Class session channel class ∷ past)
 class-taken t new past session channel class other_sessions other_grants was may is told =
-    channel-moved t new past (event.Class session channel class) other_sessions other_grants refl refl refl refl was
+    channel-moved t new past (event.Class session channel class) other_sessions other_grants refl refl refl refl refl refl was
     (by_own t past (event.Class session channel class) may_mine session _ was refl may ∙ ap (λ b. or_code b cause.BadClass None) is)
     (subst (λ at. IsTold new (Sets at channel class ∷ channel_moves past)) was.events_are told)
 

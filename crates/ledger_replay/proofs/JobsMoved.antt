@@ -51,6 +51,7 @@ template-taken t new past session template script other_sessions other_grants mo
   coinbases = subst (λ s. AllByRecursion (HasCoinbase s) (held_jobs new)) is
       (takes.coinbases (subst (λ s. AllByRecursion (HasCoinbase s) (held_jobs t.jobs)) (sym is) was.coinbases));
   grants_are = other_grants t.grants past one refl was.grants_are;
+  booked = was.booked;
 } where
   one : Event
   one = event.Template session template
@@ -67,6 +68,7 @@ jobs-same t new past was same = record {
   jobs_are = ap kept_jobs same ∙ was.jobs_are;
   coinbases = subst (λ jobs. AllByRecursion (HasCoinbase t.rules.pool_script) (held_jobs jobs)) (sym same) was.coinbases;
   grants_are = was.grants_are;
+  booked = was.booked;
 }
 
 -- a template that is refused
@@ -130,6 +132,7 @@ tip-taken t new past session number tip other_sessions other_grants moves was ma
       (moves t.rules.pool_script (Tipped t.events tip) (job_moves past) t.jobs new (takes t.rules.pool_script) was.jobs_are);
   coinbases = (takes t.rules.pool_script).coinbases was.coinbases;
   grants_are = other_grants t.grants past one refl was.grants_are;
+  booked = was.booked;
 } where
   one : Event
   one = event.Tip session tip

@@ -4,3 +4,7 @@ mod JobsMoved
 mod TokensMoved
 mod OpeningsMoved
 mod Probing
+mod SharesJudged
+mod SharesPushed
+mod CreditsMoved
+mod CustomsMoved

@@ -1,10 +1,8 @@
 -- What openings do to the tables.
-use Rattle.std.proofs.Common.{◌≡◌, ℕ, ◌+◌, ◌≤◌, ◌&&◌, Bool, true, false, not, Option, None, Some, Result, Ok, Err, List, [], ◌∷◌, length, map, refl, ap, subst, sym, ◌∙◌, ◌⊎◌, ⊎_elim}
-use Rattle.std.proofs.Math.Dec.{eqb}
+use Rattle.std.proofs.Common.{◌≡◌, ℕ, ◌+◌, ◌&&◌, Bool, true, false, not, Option, None, Some, Result, Ok, Err, List, [], ◌∷◌, length, map, refl, ap, subst, sym, ◌∙◌, ◌⊎◌, ⊎_elim}
 use Rattle.std.proofs.lemmas.Bool.{eqb-true, false≢true}
 use Rattle.std.proofs.lemmas.Slice.Eq.{bytes_eq-Decides}
 use Rattle.std.specs.Str.{bytes_eq}
-use Rattle.channels.specs.Plans.{MayOpenNext}
 use Rattle.channels.specs.Tables.{ChannelTable, IsTold, ShowsSameChannels}
 use Rattle.grant_table.specs.Tables.{OtherEventsLeaveGrants}
 use Rattle.history_laws.proofs.Stepping.{opened-opens}
@@ -16,9 +14,8 @@ use Rattle.pool_history.specs.declared.events.Kind.{Kind}
 use Rattle.pool_history.specs.declared.events.Kind.TheVariants as kinds
 use Rattle.pool_history.specs.declared.refusals.OpenError.{OpenError}
 use Rattle.pool_history.specs.declared.refusals.OpenError.TheVariants as open_error
-use Rattle.pool_history.specs.declared.replies.Opened.{Opened}
 use Rattle.pool_history.specs.Channels.{Opens, channel_moves, channels_of}
-use Rattle.pool_history.specs.Conditions.{first_false, found, or_code}
+use Rattle.pool_history.specs.Conditions.{first_false, or_code}
 use Rattle.pool_history.specs.Legal.{cause_of, is_class, is_just, is_lead_length, is_next_lead, is_opening_account, may_mine, within}
 use Rattle.pool_history.specs.Refusing.{count_among, has_too_many, has_too_many_among, held_leads, lead_unless}
 use Rattle.pool_history.specs.Spaces.{lowest}
@@ -184,6 +181,7 @@ open-taken t same new past session kind account class said len lead given other_
   jobs_are = c.was.jobs_are;
   coinbases = c.was.coinbases;
   grants_are = other_grants t.grants past one refl c.was.grants_are;
+  booked = c.was.booked;
 } where
   one : Event
   one = event.Open session kind account class said

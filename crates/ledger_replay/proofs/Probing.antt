@@ -1,5 +1,5 @@
 -- What a V1 opening tells of the next lead.
-use Rattle.std.proofs.Common.{◌≡◌, ℕ, ◌+◌, ◌-◌, ◌≤◌, Bool, true, not, Option, None, Some, Result, Ok, Err, List, [], ◌∷◌, map, min, arith, refl, ap, subst, sym, ◌∙◌}
+use Rattle.std.proofs.Common.{◌≡◌, ℕ, ◌+◌, ◌-◌, ◌≤◌, Bool, true, not, None, Result, Ok, Err, List, [], ◌∷◌, map, min, arith, refl, ap, sym, ◌∙◌}
 use Rattle.std.proofs.lemmas.Bool.{le-leb}
 use Rattle.std.specs.Prelude.{nat_le, replicate}
 use Rattle.block_header.specs.Target as target

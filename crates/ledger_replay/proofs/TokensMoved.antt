@@ -39,4 +39,5 @@ grant-taken t new past session count account fixed path other_sessions was may c
   jobs_are = was.jobs_are;
   coinbases = was.coinbases;
   grants_are = shown;
+  booked = was.booked;
 }

@@ -1,4 +1,5 @@
 pub mod Kept
 pub mod Rights
 pub mod Openings
+pub mod Shares
 pub mod Replays

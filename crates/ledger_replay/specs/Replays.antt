@@ -2,6 +2,8 @@
 use Rattle.std.specs.Prelude.{◌≡◌, ℕ, true, None, Some, Result, Ok, Err, List, [], ◌∷◌, length}
 use Rattle.channels.specs.Tables.{ChannelTable, IsTold}
 use Rattle.grant_table.specs.Tables.{GrantTable, ShowsGrants}
+use Rattle.coinbase.specs.declared.error.OutputsError.{OutputsError}
+use Rattle.coinbase.specs.declared.error.OutputsError.TheVariants as outputs
 use Rattle.pool_history.specs.declared.causes.Cause.{Cause}
 use Rattle.pool_history.specs.declared.causes.Cause.TheVariants as cause
 use Rattle.pool_history.specs.declared.events.Event.{Event}
@@ -15,12 +17,15 @@ use Rattle.pool_history.specs.Channels.{channel_moves}
 use Rattle.pool_history.specs.Jobs.{job_moves}
 use Rattle.pool_history.specs.Legal.{LegalPast, cause_of, is_class, is_opening_account, may_mine, within}
 use Rattle.pool_history.specs.Sessions.{rules_of}
+use Rattle.payouts.specs.Tallies.{Weighing}
 use Rattle.session_table.specs.Tables.{SessionTable, ShowsSessions}
+use Rattle.share_judging.specs.Headers.{HeaderSet}
 use Rattle.template_jobs.specs.Tables.{HasCoinbases, JobTable}
 use Rattle.template_jobs.specs.Told.{WasTold}
 use Rattle.ledger_replay.specs.declared.error.ReplayError.{ReplayError}
 use Rattle.ledger_replay.specs.declared.error.ReplayError.TheVariants as error
 use Rattle.ledger_replay.specs.declared.replay.Replay.{Replay}
+use Rattle.ledger_replay.specs.Shares.{WereBookedBy}
 
 -- the rules, how many events were told, and the tables that were told them
 pub record ReplayTables : Type 0 where
@@ -30,6 +35,8 @@ pub record ReplayTables : Type 0 where
   pub channels : ChannelTable
   pub jobs : JobTable
   pub grants : GrantTable
+  pub tally : Weighing
+  pub headers : HeaderSet
 
 -- those of a replay
 abbrev pub tables_of : Replay → ReplayTables
@@ -41,6 +48,8 @@ tables_of replay =
       channels = replay.channels;
       jobs = replay.jobs;
       grants = replay.grants;
+      tally = replay.tally;
+      headers = replay.headers;
     }
 
 -- tables were told these events, the last of which stands first, and they are legal
@@ -53,6 +62,7 @@ pub record WereReplayed (tables : ReplayTables) (past : List Event) : Type 0 whe
   pub jobs_are : WasTold tables.jobs (job_moves past)
   pub coinbases : HasCoinbases tables.rules.pool_script tables.jobs
   pub grants_are : ShowsGrants tables.grants past
+  pub booked : WereBookedBy tables.rules tables.tally tables.headers past
 
 -- a replay was told legal events
 abbrev pub WasReplayed : Replay → List Event → Type 0
@@ -92,6 +102,16 @@ template_error_of (job.TemplateKnown id) = error.Illegal cause.BadTemplate
 template_error_of job.NoTip = error.Illegal cause.BadTemplate
 template_error_of (job.UnknownTemplate id) = error.Illegal cause.BadTemplate
 template_error_of (job.Coinbase refusal) = error.Illegal cause.BadTemplate
+
+-- what a refusal of the coinbase of a miner's own job is called
+abbrev pub coinbase_error_of : OutputsError → ReplayError
+coinbase_error_of outputs.Memory = error.Memory
+coinbase_error_of (outputs.ScriptTooLong len) = error.Illegal cause.BadCoinbase
+coinbase_error_of (outputs.TooLong len) = error.Illegal cause.BadCoinbase
+coinbase_error_of (outputs.BadOutputs at) = error.Illegal cause.BadCoinbase
+coinbase_error_of outputs.NoOutputs = error.Illegal cause.BadCoinbase
+coinbase_error_of (outputs.ForeignOutput index) = error.Illegal cause.BadCoinbase
+coinbase_error_of (outputs.RewardTooLarge sum) = error.Illegal cause.BadCoinbase
 
 -- what an opening's refusal is called
 abbrev pub opening_error_of : OpenError → ReplayError

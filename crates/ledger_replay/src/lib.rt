@@ -6,10 +6,15 @@ mod channel_events;
 mod error;
 mod job_events;
 mod opening_events;
+mod own_job_events;
 mod replay;
 mod session_events;
 mod sessions_by;
+mod share_events;
+mod summing;
+mod taking;
 mod token_events;
 
 pub use error::ReplayError;
 pub use replay::Replay;
+pub use share_events::Credited;

@@ -6,9 +6,11 @@ ghost use Rattle.pool_history.specs.Accounts.{are_in_range};
 use crate::error::ReplayError;
 use channels::Channels;
 use grant_table::{Grants, other_events_leave_grants};
+use payouts::{Rule, Tally};
 use pool_history::{Cause, Event, Rules};
 use pool_settings::are_rules_in_range;
 use session_table::{Sessions, other_events_leave_sessions};
+use share_judging::Headers;
 use std::alloc::{AllocError, Global};
 use template_jobs::Jobs;
 
@@ -23,6 +25,8 @@ pub struct Replay {
     pub(crate) channels: Channels,
     pub(crate) jobs: Jobs,
     pub(crate) grants: Grants,
+    pub(crate) tally: Tally,
+    pub(crate) headers: Headers,
     pub(crate) ghost in_range: { IsTrue (are_in_range rules) },
 }
 
@@ -62,6 +66,8 @@ impl Replay {
         other_events_leave_sessions();
         other_events_leave_grants();
         let channels = Channels::new(alloc)?;
+        let rule = rule_of(rules.window);
+        let tally = Tally::new(alloc, rule)?;
         Ok(Replay {
             alloc,
             rules,
@@ -70,6 +76,21 @@ impl Replay {
             channels,
             jobs: Jobs::new(alloc),
             grants: Grants::new(alloc),
+            tally,
+            headers: Headers::new(alloc),
         })
+    }
+}
+
+ghost use Rattle.std.specs.Prelude.{◌≡◌};
+ghost use Rattle.payouts.specs.Tallies.{window_of};
+
+/// The rule by which a window weighs credits.
+fn rule_of(window: Option<u64>) -> Rule
+    ensures { window_of result ≡ window }
+{
+    match window {
+        Some(window) => Rule::Pplns(window),
+        None => Rule::Proportional,
     }
 }

@@ -2,12 +2,12 @@
 
 ghost use Rattle.std.specs.Prelude.{◌≡◌, List, None};
 ghost use Rattle.pool_history.specs.declared.events.Event.{Event};
-ghost use Rattle.pool_history.specs.Legal.{selects_work, within};
-ghost use Rattle.pool_history.specs.Sessions.{feeds, is_number, mines};
+ghost use Rattle.pool_history.specs.Legal.{within};
+ghost use Rattle.pool_history.specs.Sessions.{is_number};
 ghost use Rattle.session_table.specs.Tables.{ShowsSessions, present_in};
 ghost use Rattle.ledger_replay.specs.Rights.{right_test};
 
-use pool_history::{Cause, Role};
+use pool_history::Cause;
 use session_table::{Entered, Sessions};
 
 /// What a session has to be entered with.
@@ -57,33 +57,8 @@ fn has_right(entered: Entered, right: Right) -> bool
 {
     match right {
         Right::Present => true,
-        Right::Feed => is_feed_role(entered.role),
-        Right::Mine => is_miner_role(entered.role),
-        Right::SelectWork => is_miner_role(entered.role) && is_work_selected(entered.flags),
+        Right::Feed => entered.may_feed(),
+        Right::Mine => entered.may_mine(),
+        Right::SelectWork => entered.may_select_work(),
     }
-}
-
-fn is_feed_role(role: Role) -> bool
-    ensures { result ≡ feeds role }
-{
-    match role {
-        Role::Miner => false,
-        Role::Feed | Role::Solo => true,
-    }
-}
-
-fn is_miner_role(role: Role) -> bool
-    ensures { result ≡ mines role }
-{
-    match role {
-        Role::Feed => false,
-        Role::Miner | Role::Solo => true,
-    }
-}
-
-/// REQUIRES_WORK_SELECTION (Stratum V2, "SetupConnection").
-fn is_work_selected(flags: u32) -> bool
-    ensures { result ≡ selects_work flags }
-{
-    (flags >> 1) % 2 == 1
 }

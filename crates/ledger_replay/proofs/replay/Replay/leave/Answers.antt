@@ -25,4 +25,5 @@ returns c past was = record {
   jobs_are = was.jobs_are;
   coinbases = was.coinbases;
   grants_are = c.other_events_leave_grants.ensures c.args.self.now.grants past (event.Leave c.args.session) refl was.grants_are;
+  booked = was.booked;
 }

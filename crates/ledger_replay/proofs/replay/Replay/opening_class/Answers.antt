@@ -1,10 +1,8 @@
-use Rattle.std.proofs.Common.{None, refl, ap, sym, ◌∙◌}
-use Rattle.pool_history.specs.declared.causes.Cause.TheVariants as cause
+use Rattle.std.proofs.Common.{refl}
 use Rattle.pool_history.specs.declared.events.Event.TheVariants as event
-use Rattle.pool_history.specs.Conditions.{or_code}
-use Rattle.pool_history.specs.Legal.{is_class, may_mine}
+use Rattle.pool_history.specs.Legal.{may_mine}
 use Rattle.ledger_replay.specs.Replays.{tables_of}
-use Rattle.ledger_replay.proofs.Caused.{by_own, by_session}
+use Rattle.ledger_replay.proofs.Caused.{by_session}
 use Rattle.ledger_replay.proofs.replay.Replay.opening_class.Goals as goal
 
 pub returns-in-Some-clause-refused : goal.returns-in-Some-clause-refused
