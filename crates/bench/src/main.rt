@@ -2,6 +2,7 @@
 //! It measures no time: the scripts that call it do.
 #![tactic(auto)]
 
+mod books;
 mod bytes;
 mod counter;
 mod frames;
@@ -23,8 +24,8 @@ use std::fs;
 /// What each first word wants behind it.
 const USAGE: &str =
     "want: hash COUNT, bytes LENGTH COUNT, shares SIBLINGS COUNT, channels OPEN COUNT, \
-        payouts WINDOW COUNT, jobs COUNT, desk THREADS COUNT, lock THREADS COUNT, frames or \
-        messages";
+        payouts WINDOW COUNT, jobs COUNT, book HELD COUNT, desk THREADS COUNT, lock THREADS COUNT, \
+        frames or messages";
 
 fn main(rt: HostRuntime) -> Result<()> {
     let alloc = rt.alloc();
@@ -44,6 +45,12 @@ fn main(rt: HostRuntime) -> Result<()> {
             format!(in alloc; "{newest} {}", jobs::greatest_memory(status.as_str()))?
         }
         "channels" => openings::report(
+            alloc,
+            number(&mut words)?,
+            number(&mut words)?,
+            &mut rt.stdout(),
+        )?,
+        "book" => books::report(
             alloc,
             number(&mut words)?,
             number(&mut words)?,
