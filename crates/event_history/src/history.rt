@@ -2,7 +2,7 @@
 
 use crate::index::{Index, put};
 use crate::telling::Teller;
-use pool_history::{Event, Note, Notes, Rules};
+use pool_history::{Boxed, Event, Note, Notes, Rules};
 use std::alloc::{AllocError, Global};
 use std::marker::Model;
 
@@ -57,7 +57,10 @@ impl History {
         let mut details = Vec::new(alloc);
         details.push(0)?;
         let mut events = Vec::new(alloc);
-        if events.push(Event::Start(rules)).is_err() {
+        if events
+            .push(Event::Start(Boxed::new(alloc, rules)?))
+            .is_err()
+        {
             return Err(AllocError);
         }
         Ok(History {
@@ -88,7 +91,7 @@ impl History {
         ensures { rules_of (past_of self.now.events) ≡ Some result.now }
     {
         match &self.events[0] {
-            Event::Start(rules) => rules,
+            Event::Start(rules) => rules.get(),
             _ => unreachable!(),
         }
     }

@@ -99,8 +99,8 @@ impl Index {
         match event {
             Event::Enter { flags, .. } => self.enter(at, *flags),
             Event::Leave { session } => self.leave(at, *session),
-            Event::Template { template, .. } => return self.add_template(at, template),
-            Event::Tip { tip, .. } => return self.set_tip(at, tip),
+            Event::Template { template, .. } => return self.add_template(at, template.get()),
+            Event::Tip { tip, .. } => return self.set_tip(at, tip.get()),
             Event::Custom { .. } => self.add_custom(at),
             Event::Open {
                 session,

@@ -25,7 +25,7 @@ fn event_template(events: &[Event], at: u64) -> Option<&TemplateData>
     ensures { option_copied result ≡ told.event_template (slice_get events.now at) }
 {
     match events.get(at as usize) {
-        Some(Event::Template { template, .. }) => Some(template),
+        Some(Event::Template { template, .. }) => Some(template.get()),
         _ => None,
     }
 }
@@ -35,7 +35,7 @@ fn event_tip(events: &[Event], at: u64) -> Option<&TipData>
     ensures { option_copied result ≡ told.event_tip (slice_get events.now at) }
 {
     match events.get(at as usize) {
-        Some(Event::Tip { tip, .. }) => Some(tip),
+        Some(Event::Tip { tip, .. }) => Some(tip.get()),
         _ => None,
     }
 }
@@ -80,8 +80,10 @@ impl Teller<'_> {
             Event::Open { session, .. } if *session == self.session => {
                 self.tell_opening(detail, notes)
             }
-            Event::Template { template, .. } => self.tell_template(place, detail, template, notes),
-            Event::Tip { tip, .. } => self.tell_tip(place, detail, tip, notes),
+            Event::Template { template, .. } => {
+                self.tell_template(place, detail, template.get(), notes)
+            },
+            Event::Tip { tip, .. } => self.tell_tip(place, detail, tip.get(), notes),
             Event::Credit {
                 channel,
                 job,

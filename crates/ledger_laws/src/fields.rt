@@ -15,18 +15,18 @@ pub fn fields_fit(event: &Event)
     ensures { IsWellFormed event.now }
 {
     match event {
-        Event::Start(rules) => rules_fit(rules),
+        Event::Start(rules) => rules_fit(rules.get()),
         Event::Enter { worker, flags, .. } => {
             u32_fits(*worker);
             u32_fits(*flags)
         }
         Event::Template { session, template } => {
             u32_fits(*session);
-            template_fits(template)
+            template_fits(template.get())
         }
         Event::Tip { session, tip } => {
             u32_fits(*session);
-            tip_fits(tip)
+            tip_fits(tip.get())
         }
         Event::Open {
             session,
@@ -89,7 +89,7 @@ pub fn fields_fit(event: &Event)
         }
         Event::Custom { session, custom } => {
             u32_fits(*session);
-            custom_fits(custom)
+            custom_fits(custom.get())
         }
     }
 }
@@ -100,7 +100,7 @@ pub fn texts_are_utf8(event: &Event)
     ensures { TextsFit event.now }
 {
     match event {
-        Event::Start(rules) => accounts_are_utf8(rules.users.accounts()),
+        Event::Start(rules) => accounts_are_utf8(rules.get().users.accounts()),
         Event::Open { account, .. } => text_is_utf8(account),
         Event::Name { account, .. } => text_is_utf8(account),
         Event::Grant { account, .. } => text_is_utf8(account),

@@ -9,7 +9,7 @@ ghost use Rattle.ledger_records.specs.Bodies.{ReadsBody};
 ghost use Rattle.ledger_records.specs.Fields.{truth_byte};
 
 use crate::error::RecordError;
-use pool_history::{CustomData, Event, Kind, Role, TemplateData, TipData};
+use pool_history::{Boxed, CustomData, Event, Kind, Role, TemplateData, TipData};
 use std::alloc::Global;
 use sv2_messages::FieldReader;
 use sv2_types::{Blob, Hashes, Str255};
@@ -114,11 +114,14 @@ pub(crate) fn read_template(alloc: Global, body: &[u8]) -> Result<Event, RecordE
         coinbase_tx_locktime,
         merkle_path: Hashes::of(alloc, path.items())?,
     };
-    Ok(Event::Template { session, template })
+    Ok(Event::Template {
+        session,
+        template: Boxed::new(alloc, template)?,
+    })
 }
 
 #[tactic(auto, unfolding(sv2_messages::specs::Reading::values_of))]
-pub(crate) fn read_tip(body: &[u8]) -> Result<Event, RecordError>
+pub(crate) fn read_tip(alloc: Global, body: &[u8]) -> Result<Event, RecordError>
     ensures { ReadsBody 3 body.now result }
 {
     let mut fields = FieldReader::new(body);
@@ -131,7 +134,10 @@ pub(crate) fn read_tip(body: &[u8]) -> Result<Event, RecordError>
         target: fields.u256()?,
     };
     fields.end()?;
-    Ok(Event::Tip { session, tip })
+    Ok(Event::Tip {
+        session,
+        tip: Boxed::new(alloc, tip)?,
+    })
 }
 
 #[tactic(auto, unfolding(sv2_messages::specs::Reading::values_of))]
@@ -300,5 +306,8 @@ pub(crate) fn read_custom(alloc: Global, body: &[u8]) -> Result<Event, RecordErr
         coinbase_tx_locktime,
         merkle_path: Hashes::of(alloc, path.items())?,
     };
-    Ok(Event::Custom { session, custom })
+    Ok(Event::Custom {
+        session,
+        custom: Boxed::new(alloc, custom)?,
+    })
 }

@@ -31,7 +31,7 @@ fn read_later(alloc: Global, kind: u8, body: &[u8]) -> Result<Event, RecordError
     match kind {
         1 => read_enter(body),
         2 => read_template(alloc, body),
-        3 => read_tip(body),
+        3 => read_tip(alloc, body),
         4 => read_open(alloc, body),
         5 => read_name(alloc, body),
         6 => read_class(body),

@@ -8,7 +8,7 @@ use crate::error::RecordError;
 use crate::events::truth_of;
 use crate::users::read_users;
 use ledger_laws::{fields_fit, texts_are_utf8};
-use pool_history::{Event, Rules};
+use pool_history::{Boxed, Event, Rules};
 use std::alloc::Global;
 use sv2_messages::FieldReader;
 use sv2_types::Blob;
@@ -82,7 +82,7 @@ pub(crate) fn read_start(alloc: Global, body: &[u8]) -> Result<Event, RecordErro
     let (head, accounts) = body.split_at(len);
     match read_rules(alloc, head, accounts) {
         Ok(rules) => {
-            let start = Event::Start(rules);
+            let start = Event::Start(Boxed::new(alloc, rules)?);
             fields_fit(&start);
             texts_are_utf8(&start);
             Ok(start)

@@ -61,7 +61,7 @@ fn put_body(event: &Event, body: &mut Vec<u8>) -> Result<(), AllocError>
     ensures { OnOk result (body.new.items ≡ record_body event.now) }
 {
     match event {
-        Event::Start(rules) => put_rules(body, rules),
+        Event::Start(rules) => put_rules(body, rules.get()),
         Event::Enter {
             worker,
             role,
@@ -73,11 +73,11 @@ fn put_body(event: &Event, body: &mut Vec<u8>) -> Result<(), AllocError>
         }
         Event::Template { session, template } => {
             put_u32(body, *session)?;
-            put_template(body, template)
+            put_template(body, template.get())
         }
         Event::Tip { session, tip } => {
             put_u32(body, *session)?;
-            put_tip(body, tip)
+            put_tip(body, tip.get())
         }
         Event::Open {
             session,
@@ -139,7 +139,7 @@ fn put_body(event: &Event, body: &mut Vec<u8>) -> Result<(), AllocError>
         }
         Event::Custom { session, custom } => {
             put_u32(body, *session)?;
-            put_custom(body, custom)
+            put_custom(body, custom.get())
         }
     }
 }

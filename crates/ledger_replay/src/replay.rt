@@ -42,6 +42,7 @@ impl Replay {
         let Event::Start(rules) = first else {
             return Err(ReplayError::Illegal(Cause::BadStart));
         };
+        let rules = rules.into_inner();
         if !are_rules_in_range(&rules) {
             return Err(ReplayError::Illegal(Cause::BadStart));
         }

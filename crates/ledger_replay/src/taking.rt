@@ -23,8 +23,8 @@ impl Replay {
                 role,
                 flags,
             } => self.enter(worker, role, flags),
-            Event::Template { session, template } => self.add_template(session, &template),
-            Event::Tip { session, tip } => self.set_tip(session, &tip),
+            Event::Template { session, template } => self.add_template(session, template.get()),
+            Event::Tip { session, tip } => self.set_tip(session, tip.get()),
             Event::Open {
                 session,
                 kind,
@@ -69,7 +69,7 @@ impl Replay {
                 fixed,
                 path,
             } => self.grant(session, account, fixed, path),
-            Event::Custom { session, custom } => self.custom(session, &custom),
+            Event::Custom { session, custom } => self.custom(session, custom.get()),
         }
     }
 }

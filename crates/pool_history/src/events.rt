@@ -1,5 +1,6 @@
 //! The twelve kinds of event.
 
+use crate::boxed::Boxed;
 use crate::settings::Rules;
 use crate::templates::{CustomData, TemplateData, TipData};
 use sv2_types::{Blob, Hashes, Str255};
@@ -39,7 +40,7 @@ pub enum JobState {
 #[derive(Debug, Drop)]
 pub enum Event {
     /// The rules of the pool, which stand first and once.
-    Start(Rules),
+    Start(Boxed<Rules>),
     /// A worker's session begins.
     Enter {
         worker: u32,
@@ -48,11 +49,11 @@ pub enum Event {
     },
     Template {
         session: u32,
-        template: TemplateData,
+        template: Boxed<TemplateData>,
     },
     Tip {
         session: u32,
-        tip: TipData,
+        tip: Boxed<TipData>,
     },
     /// A channel is opened; its account is empty for V1.
     Open {
@@ -99,6 +100,6 @@ pub enum Event {
     },
     Custom {
         session: u32,
-        custom: CustomData,
+        custom: Boxed<CustomData>,
     },
 }

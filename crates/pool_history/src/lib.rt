@@ -3,6 +3,7 @@
 #![tactic(auto)]
 
 mod asking;
+mod boxed;
 mod causes;
 mod codes;
 mod events;
@@ -16,6 +17,7 @@ mod telling;
 mod templates;
 
 pub use asking::{OpenAsk, Request};
+pub use boxed::Boxed;
 pub use causes::Cause;
 pub use events::{Event, JobState, Kind, Role};
 pub use laws::{classes_by_places, jobs_by_places, states_by_places};

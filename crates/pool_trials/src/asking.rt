@@ -103,7 +103,7 @@ fn own_job(alloc: Global, text: &str) -> Option<Request> {
     let bytes = hex::decode(alloc, text).ok()?;
     let (event, _) = read_record(alloc, bytes.as_slice()).ok()?;
     match event {
-        Event::Custom { custom, .. } => Some(Request::Custom(custom)),
+        Event::Custom { custom, .. } => Some(Request::Custom(custom.into_inner())),
         _ => None,
     }
 }
@@ -135,7 +135,7 @@ fn target(zeros: usize) -> U256 {
 }
 
 /// The request for anything but a share.
-fn request(alloc: Global, ask: Ask) -> Option<Request> {
+pub(crate) fn request(alloc: Global, ask: Ask) -> Option<Request> {
     match ask {
         Ask::Enter(role, flags) => Some(Request::Enter(role, flags)),
         Ask::Leave => Some(Request::Leave),
@@ -185,7 +185,7 @@ fn share_with(changed: Changed) -> Share {
 }
 
 /// Its submission, whose extranonce is zeros.
-fn submission(changed: Changed) -> Submission {
+pub(crate) fn submission(changed: Changed) -> Submission {
     let share = share_with(changed);
     Submission {
         kind: Kind::Extended,
@@ -214,7 +214,7 @@ fn submit<K: Keeper>(book: &mut Book<K>, worker: u32, sub: Submission) -> Result
 }
 
 /// What a reply says.
-fn words(alloc: Global, reply: &Reply) -> Result<String, AllocError> {
+pub(crate) fn words(alloc: Global, reply: &Reply) -> Result<String, AllocError> {
     match reply {
         Reply::Entered(number) => format!(in alloc; "session {}", number.value()),
         Reply::Job(number) => format!(in alloc; "job {number}"),

@@ -57,8 +57,8 @@ impl Tables {
         match request {
             Request::Enter(..) => Ok(Step::Answer(Reply::NoSession)),
             Request::Leave => Ok(self.plan_leave(session)),
-            Request::Template(template) => self.plan_template(session, template),
-            Request::Tip(tip) => Ok(self.plan_tip(session, tip)),
+            Request::Template(template) => self.plan_template(alloc, session, template),
+            Request::Tip(tip) => self.plan_tip(alloc, session, tip),
             Request::Open(ask) => self.plan_open(alloc, session, ask),
             Request::Name(channel, identity) => self.plan_name(alloc, session, channel, identity),
             Request::Update(channel, target) => self.plan_update(session, channel, target),

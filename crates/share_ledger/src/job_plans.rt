@@ -2,8 +2,8 @@
 
 use crate::planning::{Change, Planned, Step};
 use crate::tables::Tables;
-use pool_history::{Event, JobError, Reply, TemplateData, TipData};
-use std::alloc::AllocError;
+use pool_history::{Boxed, Event, JobError, Reply, TemplateData, TipData};
+use std::alloc::{AllocError, Global};
 use template_jobs::histories_are_read;
 
 impl Tables {
@@ -14,6 +14,7 @@ impl Tables {
     /// A template that comes.
     pub(crate) fn plan_template(
         &mut self,
+        alloc: Global,
         session: u32,
         template: TemplateData,
     ) -> Result<Step, AllocError>
@@ -27,7 +28,10 @@ impl Tables {
         let script = self.history.rules().pool_script.bytes();
         match self.jobs.plan_template(session, at, &template, script) {
             Ok(plan) => Ok(Step::Move(Planned {
-                event: Event::Template { session, template },
+                event: Event::Template {
+                    session,
+                    template: Boxed::new(alloc, template)?,
+                },
                 change: Change::Template(plan),
                 reply: Reply::Job(number),
             })),
@@ -37,21 +41,26 @@ impl Tables {
     }
 
     /// A tip that comes.
-    pub(crate) fn plan_tip(&self, session: u32, tip: TipData) -> Step
-        ensures { IsStepWithin self.now self.now session (request.Tip tip) result }
+    pub(crate) fn plan_tip(
+        &self,
+        alloc: Global,
+        session: u32,
+        tip: TipData,
+    ) -> Result<Step, AllocError>
+        ensures { IfOk result (IsStepWithin self.now self.now session (request.Tip tip)) }
     {
         match self.jobs.future_of(tip.template_id) {
-            Some(number) => Step::Move(Planned {
+            Some(number) => Ok(Step::Move(Planned {
                 event: Event::Tip {
                     session,
-                    tip: copy_of(&tip),
+                    tip: Boxed::new(alloc, copy_of(&tip))?,
                 },
                 change: Change::Tip(tip),
                 reply: Reply::Job(number),
-            }),
-            None => Step::Answer(Reply::TemplateRefused(JobError::UnknownTemplate(
+            })),
+            None => Ok(Step::Answer(Reply::TemplateRefused(JobError::UnknownTemplate(
                 tip.template_id,
-            ))),
+            )))),
         }
     }
 }

@@ -5,7 +5,7 @@ use crate::tables::Tables;
 use channels::{account_in, tables_show_histories};
 use coinbase::OutputsError;
 use grant_table::{grant_refusal_of, own_job_refusal};
-use pool_history::{CustomData, CustomError, Event, Reply, Script};
+use pool_history::{Boxed, CustomData, CustomError, Event, Reply, Script};
 use std::alloc::{AllocError, Global};
 use sv2_types::{Blob, Hashes, Str255};
 use template_jobs::histories_are_read;
@@ -75,7 +75,10 @@ impl Tables {
         let script = self.history.rules().pool_script.bytes();
         match self.jobs.plan_custom(at, &custom, script) {
             Ok(plan) => Ok(Step::Move(Planned {
-                event: Event::Custom { session, custom },
+                event: Event::Custom {
+                    session,
+                    custom: Boxed::new(alloc, custom)?,
+                },
                 change: Change::Custom { plan, token },
                 reply: Reply::CustomJob(number),
             })),

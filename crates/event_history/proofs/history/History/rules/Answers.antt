@@ -13,4 +13,4 @@ returns c =
     let s : IsStart c.self.inside.events.items c.index.result.now = first-start c.self.inside.events.items c.index.result.now c.self.invariant.legal c.self.invariant.started c.index.ensures in
     let same : event.Start c.in-Start.rules ≡ event.Start s.rules = sym c.in-Start.is ∙ s.start in
     let rules : s.rules ≡ c.in-Start.rules = cc in
-    rw (← c.self.view_is) (s.are_rules ∙ ap Some rules)
+    rw (c.get.ensures, ← c.self.view_is) (s.are_rules ∙ ap Some rules)

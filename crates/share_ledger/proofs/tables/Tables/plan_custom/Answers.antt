@@ -32,13 +32,14 @@ returns-in-Ok-clause-step c =
     let told : None ≡ refusal_before_coinbase (option_copied c.own-there.result) c.self.inside.grants c.self.inside.jobs.tip c.args.custom =
     sym none ∙ c.own_job_refusal.ensures.refusal
     ∙ ap (λ t. refusal_before_coinbase (option_copied c.own-there.result) c.self.inside.grants t c.args.custom) c.tip.ensures in
-    moved (the_view c.self.inside) c.args.self.now _ c.args.session (request.Custom c.args.custom) (event.Custom c.args.session c.args.custom)
+    rw c.in_ok-new-in-Ok.ensures
+    (moved (the_view c.self.inside) c.args.self.now _ c.args.session (request.Custom c.args.custom) (event.Custom c.args.session c.args.custom)
     (change.Custom c.in-Ok.plan c.in_ok-token.token) (reply.CustomJob (c.count-number.result + 1)) c.self.view_is
     (custom-made (the_view c.self.inside) c.self.invariant c.args.session c.rules.result.now c.rules.ensures c.tables_show_histories.ensures
     c.plan_custom.new.self c.args.custom (option_copied c.own-there.result) c.in-Ok.plan (c.count-number.result + 1) c.len-at.result
     c.bytes-script.result.now c.in_ok-token.token c.len-at.ensures.value (c.in_ok-token.ensures ∙ c.bytes.ensures) c.own-there.ensures told
     c.bytes-script.ensures c.in-Ok.ensures.refusal (ap (λ n. n + 1) c.count-number.ensures.value) c.in-Ok.ensures.planned c.in-Ok.ensures.fits
-    (c.own_job_refusal.ensures.ready none))
+    (c.own_job_refusal.ensures.ready none)))
 
 pub returns : goal.returns
 returns c =

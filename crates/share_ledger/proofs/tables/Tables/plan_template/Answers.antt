@@ -20,11 +20,12 @@ plan_template-requires-clause-short c =
 
 pub returns-in-Ok-clause-step : goal.returns-in-Ok-clause-step
 returns-in-Ok-clause-step c =
-    moved (the_view c.self.inside) c.args.self.now _ c.args.session (request.Template c.args.template) (event.Template c.args.session c.args.template)
+    rw c.in_ok-new-in-Ok.ensures
+    (moved (the_view c.self.inside) c.args.self.now _ c.args.session (request.Template c.args.template) (event.Template c.args.session c.args.template)
     (change.Template c.in-Ok.plan) (reply.Job (c.count-number.result + 1)) c.self.view_is
     (template-made (the_view c.self.inside) c.self.invariant c.args.session c.histories_are_read.ensures c.rules.result.now c.rules.ensures
     c.bytes-script.result.now c.bytes-script.ensures c.plan_template.new.self c.args.template c.in-Ok.plan (c.count-number.result + 1)
-    c.len-at.result c.len-at.ensures.value c.in-Ok.ensures.refusal (ap (λ n. n + 1) c.count-number.ensures.value) c.in-Ok.ensures.planned c.in-Ok.ensures.fits)
+    c.len-at.result c.len-at.ensures.value c.in-Ok.ensures.refusal (ap (λ n. n + 1) c.count-number.ensures.value) c.in-Ok.ensures.planned c.in-Ok.ensures.fits))
 
 pub returns : goal.returns
 returns c =
