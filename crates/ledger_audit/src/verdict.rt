@@ -23,8 +23,23 @@ pub enum Verdict {
     NotALedger(u64),
 }
 
-/// Appends the line of a verdict.
+/// Appends the line of a verdict, or nothing.
 pub fn write_verdict(verdict: Verdict, out: &mut Vec<u8>) -> Result<(), AllocError>
+    ensures ok { OnOk result (out.new.items ≡ out.old.items ++ verdict_line verdict) }
+    ensures err { OnErr result (out.new.items ≡ out.old.items) }
+{
+    let start = out.len();
+    match put_verdict(verdict, out) {
+        Ok(()) => Ok(()),
+        Err(error) => {
+            out.truncate(start);
+            Err(error)
+        }
+    }
+}
+
+/// Appends the line of a verdict, or a front of it.
+fn put_verdict(verdict: Verdict, out: &mut Vec<u8>) -> Result<(), AllocError>
     ensures ok { OnOk result (out.new.items ≡ out.old.items ++ verdict_line verdict) }
     ensures err { OnErr result (Begins out.old.items out.new.items) }
 {

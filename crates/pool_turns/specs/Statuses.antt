@@ -14,8 +14,10 @@ status_code status.Usage = 2
 status_code status.Refused = 3
 status_code status.ReadFault = 4
 status_code status.WriteFault = 5
+status_code status.KeeperFault = 6
 status_code status.HostFault = 7
 status_code status.Memory = 8
+status_code status.BadSettings = 9
 status_code status.Limit = 10
 
 -- the status of a run over a source and a sink

@@ -16,7 +16,7 @@ pub use driver::drive;
 pub use end::End;
 pub use hosting::run_on_host;
 pub use putting::put_all;
-pub use status::Status;
+pub use status::{Status, refusal_status};
 
 /// The most Idle answers in a row: an hour of a source that waits a tenth of a second.
 pub const IDLE_TURNS: u64 = 36_000;

@@ -19,10 +19,14 @@ pub enum Status {
     ReadFault,
     /// A write failed.
     WriteFault,
-    /// The host gave no input or no output.
+    /// A record wasn't kept.
+    KeeperFault,
+    /// The host didn't give what it was asked for.
     HostFault,
     /// There was no memory.
     Memory,
+    /// The settings file is no settings.
+    BadSettings,
     /// No byte came for too long, or too many came.
     Limit,
 }
@@ -38,8 +42,10 @@ impl Status {
             Status::Refused => 3,
             Status::ReadFault => 4,
             Status::WriteFault => 5,
+            Status::KeeperFault => 6,
             Status::HostFault => 7,
             Status::Memory => 8,
+            Status::BadSettings => 9,
             Status::Limit => 10,
         }
     }

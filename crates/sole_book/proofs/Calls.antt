@@ -41,7 +41,7 @@ module _ {K : Type 0} (records : K → Option (List (List ℕ))) (faults : K →
     refl,
     refl,
     refl,
-    record { at_end = at_end; grows = replied.1; ended = replied.2; kept = kept; count_before = refl; count_after = refl },
+    record { at_end = at_end; grows = replied.1; ended = replied.2; kept = kept; count_before = refl; count_after = refl; counts = counts },
   )
   called (Err cause) replied refused counts = (
     record { worker = worker; number = 0; front = front; faults_before = faults old.keeper; faults_after = faults new.keeper; asked = asked; outcome = Faulted cause; added = [] },
@@ -56,6 +56,7 @@ module _ {K : Type 0} (records : K → Option (List (List ℕ))) (faults : K →
       kept = kept;
       count_before = refl;
       count_after = refl;
+      counts = counts;
     },
   )
 

@@ -17,7 +17,7 @@ use Rattle.session_steps.specs.Steps.{SessionStep, Follows, bytes_in_steps, call
 use Rattle.pool_sessions.specs.Causes.{is_read_end, is_write_end}
 use Rattle.pool_sessions.specs.Good.{IsGoodEnd}
 use Rattle.pool_sessions.specs.Running.{TakesAll, has_ended}
-use Rattle.sole_book.specs.Calling.{StandInTurn, added_in}
+use Rattle.sole_book.specs.Calling.{StandInTurn, added_in, is_faulted}
 use Rattle.solo_session.specs.declared.serving.SoloEnd.{SoloEnd}
 use Rattle.solo_session.specs.declared.serving.SoloEnd.TheVariants as solo
 
@@ -40,11 +40,14 @@ pub record Accounts (S T K : Type 0) : Type 0 where
 abbrev pub sole_worker : ℕ
 sole_worker = 0
 
--- the keeper's counts round the calls go from the one to the other
+-- the keeper's counts round the calls go from the one to the other: each rises just where its call
+-- is answered by the keeper's fault, by one
 abbrev pub CountsCalls : ℕ → List PoolCall → ℕ → Type 0
 CountsCalls before [] now = now ≡ before
 CountsCalls before (call ∷ calls) now =
-    (call.faults_before ≡ before) × CountsCalls call.faults_after calls now
+    (call.faults_before ≡ before)
+    × CountsFailure (is_faulted call.outcome) before call.faults_after
+    × CountsCalls call.faults_after calls now
 
 -- Steps that begin a session of both roles and come to this end. They took what the source brought
 -- and put what the sink got; their calls stand each at the whole history before it, are answered by
