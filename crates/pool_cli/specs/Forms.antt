@@ -4,7 +4,7 @@ use Rattle.std.specs.Int.{w32, to_le_bytes}
 use Rattle.hex.specs.Hex.{decode_sized}
 use Rattle.fixed_job.specs.declared.judge.Job.{Job}
 use Rattle.pool_cli.specs.declared.words.Form.{Form}
-use Rattle.pool_cli.specs.declared.words.Form.TheVariants.{SoloFixed, Frames}
+use Rattle.pool_cli.specs.declared.words.Form.TheVariants.{SoloFixed, Frames, Solo}
 use Rattle.pool_cli.specs.Numbers.{IsNumber}
 
 -- the bytes are the job's previous hash, merkle root and nbits, as they stand in a header
@@ -29,10 +29,17 @@ pub record IsSoloFixed (words : List (List ℕ)) (class : ℕ) (job : Job) : Typ
 abbrev pub IsFrames : List (List ℕ) → Type 0
 IsFrames words = words ≡ codes "frames" ∷ []
 
+-- `solo SETTINGS LEDGER`: the names of two files
+pub record IsSolo (words : List (List ℕ)) : Type 0 where
+  pub settings : List ℕ
+  pub ledger : List ℕ
+  pub spelled : words ≡ codes "solo" ∷ settings ∷ ledger ∷ []
+
 -- the words are of this form
 abbrev pub IsForm : List (List ℕ) → Form → Type 0
 IsForm words (SoloFixed class job) = IsSoloFixed words class job
 IsForm words Frames = IsFrames words
+IsForm words Solo = IsSolo words
 
 -- the words are none of the forms
 abbrev pub HasNoForm : List (List ℕ) → Type 0

@@ -4,15 +4,18 @@ ghost use Rattle.std.specs.Prelude.{◌≡◌, ◌==◌, ◌↔◌, ◌⊎◌};
 ghost use Rattle.pool_io.specs.Outside.{CountsFailure};
 ghost use Rattle.pool_turns.specs.declared.status.Status.{Status as Answer};
 ghost use Rattle.pool_turns.specs.Statuses.{status_code};
+ghost use Rattle.settings_file.specs.Views.{IsHandedBack, view_of};
+ghost use Rattle.solo_command.specs.Row.{SoloRow, accounts_of};
 ghost use Rattle.pool_cli.specs.declared.words.Form.{Form as Asked};
-ghost use Rattle.pool_cli.specs.Forms.{IsForm, HasNoForm};
-ghost use Rattle.pool_cli.specs.Running.{CallsForForm, DoesForm, OwesCalls, OwesRow, IsWithinLimits, IsHandedBack};
+ghost use Rattle.pool_cli.specs.Forms.{IsForm, IsSolo, HasNoForm};
+ghost use Rattle.pool_cli.specs.Running.{DoesForm, OwesRow, IsWithinLimits};
 
-use crate::words::{Form, Word, form_of};
+use crate::words::{Form, Word, form_of, solo_names};
 use fixed_job::judge_shares;
 use frame_listing::list_frames;
 use pool_io::Host;
 use pool_turns::Status;
+use solo_command::serve_by_settings;
 use std::alloc::Global;
 
 /// Does what the words ask for, and answers the status of the process.
@@ -23,61 +26,69 @@ pub fn run<H: Host>(alloc: Global, host: &mut H, words: &[Word]) -> u8
     ensures uncalled { result ≡ 2 → H.openings host.new ≡ H.openings host.old }
 
     // What the words ask for was done: the answer is a status, and what the command owes at it
-    // stands.
+    // stands. Where the host tells its opening calls, they are those that the words ask for, in
+    // their order, up to the first that was refused or to the step at which the command ended.
     ensures does { (form : Asked) → IsForm words.now form → DoesForm
-        (record {
-          left = H.S.left;
-          read_faults = H.S.faults;
-          held = H.T.held;
-          write_faults =
-              H.T.faults;
-        })
-        form (H.seen host.old) (H.seen host.new) result }
-
-    // Where the host tells its opening calls, they are those that the words ask for, in their order,
-    // up to the first that was refused.
-    ensures calls { (form : Asked) → IsForm words.now form → CallsForForm form
-        (H.openings host.old) (H.openings host.new) result }
+        (accounts_of H.S.left H.T.held H.K.records H.S.faults H.T.faults H.K.faults)
+        words.now form (view_of H.seen H.openings host.old)
+        (view_of H.seen H.openings host.new) result }
 
     // So for each words: 2, or a form that they have was done.
     ensures formed { (result ≡ 2) ⊎ ((form : Asked) × IsForm words.now form × DoesForm
-        (record {
-          left = H.S.left;
-          read_faults = H.S.faults;
-          held = H.T.held;
-          write_faults =
-              H.T.faults;
-        })
-        form (H.seen host.old) (H.seen host.new) result) }
+        (accounts_of H.S.left H.T.held H.K.records H.S.faults H.T.faults H.K.faults)
+        words.now form (view_of H.seen H.openings host.old)
+        (view_of H.seen H.openings host.new) result) }
 
     // Whatever the words: there are no other statuses, everything that the host gave has come back,
     // and 7 is answered exactly where the host's count rose, by one.
     ensures statuses { (status : Answer) × (result ≡ status_code status) }
-    ensures back { IsHandedBack (H.seen host.old) (H.seen host.new) }
+    ensures back { IsHandedBack (view_of H.seen H.openings host.old)
+        (view_of H.seen H.openings host.new) }
     ensures counts { CountsFailure (result == 7) (H.seen host.old).faults (H.seen host.new).faults }
 {
     match form_of(words) {
         None => Status::Usage.code(),
-        Some(form) => perform(alloc, host, form).code(),
+        Some(form) => perform(alloc, host, words, form).code(),
     }
 }
 
 /// Does what a form asks for.
-fn perform<H: Host>(alloc: Global, host: &mut H, form: Form) -> Status
-    requires { IsWithinLimits form }
-    ensures row { OwesRow
-        (record {
-          left = H.S.left;
-          read_faults = H.S.faults;
-          held = H.T.held;
-          write_faults =
-              H.T.faults;
-        })
-        form (H.seen host.old) (H.seen host.new) result }
-    ensures calls { OwesCalls form (H.openings host.old) (H.openings host.new) result }
+fn perform<H: Host>(alloc: Global, host: &mut H, words: &[Word], form: Form) -> Status
+    requires limits { IsWithinLimits form }
+    requires names { IsForm words.now form }
+    ensures row { OwesRow (accounts_of H.S.left H.T.held H.K.records H.S.faults H.T.faults H.K.faults)
+        words.now form (view_of H.seen H.openings host.old)
+        (view_of H.seen H.openings host.new) result }
+    ensures back { IsHandedBack (view_of H.seen H.openings host.old)
+        (view_of H.seen H.openings host.new) }
+    ensures counts { CountsFailure (status_code result == 7) (H.seen host.old).faults
+        (H.seen host.new).faults }
 {
     match form {
         Form::SoloFixed { class, job } => judge_shares(alloc, host, class, &job),
         Form::Frames => list_frames(alloc, host),
+        Form::Solo => serve_named(alloc, host, words),
+    }
+}
+
+/// Serves a session by the files that the words name.
+fn serve_named<H: Host>(alloc: Global, host: &mut H, words: &[Word]) -> Status
+    requires names { IsSolo words.now }
+    ensures row { (names : IsSolo words.now) × SoloRow
+        (accounts_of H.S.left H.T.held H.K.records H.S.faults H.T.faults H.K.faults)
+        names.settings names.ledger (view_of H.seen H.openings host.old)
+        (view_of H.seen H.openings host.new) result }
+    ensures back { IsHandedBack (view_of H.seen H.openings host.old)
+        (view_of H.seen H.openings host.new) }
+    ensures counts { CountsFailure (status_code result == 7) (H.seen host.old).faults
+        (H.seen host.new).faults }
+{
+    match solo_names(words) {
+        Some((settings, ledger)) => {
+            let settings_name = settings.text();
+            let ledger_name = ledger.text();
+            serve_by_settings(alloc, host, settings_name, ledger_name)
+        }
+        None => unreachable!(),
     }
 }

@@ -4,7 +4,7 @@ use crate::edge::{ReadSource, WriteSink};
 use crate::run::run;
 use crate::stream_host::StreamHost;
 use crate::words::Word;
-use pool_io::{Host, MemHost, Piece, Script, Sink, SinkFailed, Source, Took, Turn};
+use pool_io::{Host, MemHost, Opening, Piece, Script, Sink, SinkFailed, Source, Took, Turn};
 use std::alloc::{AllocError, Global};
 use std::cell::Cell;
 use std::io;
@@ -322,7 +322,6 @@ fn words_of_no_form_open_nothing(rt: HostRuntime) -> Result<(), Fail> {
         ("", 2),
         ("solo", 2),
         ("solo fixed", 2),
-        ("solo fixed 43", 2),
         ("solo fixed 43 JOB ", 2),
         ("Solo fixed 43 JOB", 2),
         ("solo fixed  JOB", 2),
@@ -341,6 +340,17 @@ fn words_of_no_form_open_nothing(rt: HostRuntime) -> Result<(), Fail> {
         assert_eq!(rt; run(alloc, &mut host, &words), status, "at {line}");
         assert_eq!(rt; host.sources().len(), if status == 2 { 0 } else { 1 });
     }
+    Ok(())
+}
+
+#[test]
+fn two_words_behind_solo_are_names_of_files(rt: HostRuntime) -> Result<(), Fail> {
+    let alloc = rt.alloc();
+    let mut host = host(alloc, Vec::new(alloc), NONE)?;
+    let words = words(alloc, "solo fixed 43")?;
+    assert_eq!(rt; run(alloc, &mut host, &words), 7);
+    assert!(rt; matches!(host.calls(), [Opening::Source(name)] if name.text() == "fixed"));
+    assert_eq!(rt; host.sources().len(), 0);
     Ok(())
 }
 

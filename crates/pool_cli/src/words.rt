@@ -1,10 +1,11 @@
 //! The words of a command line, and the forms that they may have.
 
-ghost use Rattle.std.specs.Prelude.{◌≡◌, ◌↔◌, ◌<◌, ◌^◌, ℕ, List, string_bytes, length, IsTrue, IfSome, IfNone, Ok};
+ghost use Rattle.std.specs.Prelude.{◌≡◌, ◌↔◌, ◌<◌, ◌^◌, ℕ, List, string_bytes, length, IsTrue};
+ghost use Rattle.std.specs.Prelude.{IfSome, IfNone, Ok, [], ◌∷◌, codes};
 ghost use Rattle.hex.specs.Hex.{decode_sized};
 ghost use Rattle.pool_cli.specs.Numbers.{IsNumber};
 ghost use Rattle.fixed_job.specs.declared.judge.Job.{Job as Work};
-ghost use Rattle.pool_cli.specs.Forms.{IsJob, IsSoloFixed, IsFrames, IsForm};
+ghost use Rattle.pool_cli.specs.Forms.{IsJob, IsSolo, IsSoloFixed, IsFrames, IsForm};
 
 use fixed_job::Job;
 use hex::FromHex;
@@ -51,6 +52,8 @@ pub enum Form {
     SoloFixed { class: u8, job: Job },
     /// `frames`
     Frames,
+    /// `solo SETTINGS LEDGER`
+    Solo,
 }
 
 /// The form that the words have, if they have one.
@@ -60,6 +63,9 @@ pub fn form_of(words: &[Word]) -> Option<Form>
 {
     if is_frames(words) {
         return Some(Form::Frames);
+    }
+    if solo_names(words).is_some() {
+        return Some(Form::Solo);
     }
     solo_fixed_form(words)
 }
@@ -72,6 +78,21 @@ fn is_frames(words: &[Word]) -> bool
         [word] => word.says("frames"),
         _ => false,
     }
+}
+
+/// The words behind `solo`, where there are two: the names of the settings file and of the ledger.
+pub fn solo_names(words: &[Word]) -> Option<(&Word, &Word)>
+    ensures found { IfSome result (λ names. words.now
+        ≡ codes "solo" ∷ names.0.now ∷ names.1.now ∷ []) }
+    ensures none { IfNone result (IsSolo words.now → ⊥) }
+{
+    let [solo, settings, ledger] = words else {
+        return None;
+    };
+    if !solo.says("solo") {
+        return None;
+    }
+    Some((settings, ledger))
 }
 
 /// The form `solo fixed CLASS JOBHEX`, if the words have it.

@@ -4,13 +4,6 @@ use Rattle.pool_cli.proofs.run.run.Goals as goal
 pub returns-in-Some-clause-does : goal.returns-in-Some-clause-does
 returns-in-Some-clause-does g c = λ form is. record {
   status = c.perform.result;
-  told = c.code-in-Some.ensures;
+  told_as = c.code-in-Some.ensures;
   owed = rw (one_form c.args.words.now form c.in-Some.form is c.in-Some.ensures.found) c.perform.ensures.row;
-}
-
-pub returns-in-Some-clause-calls : goal.returns-in-Some-clause-calls
-returns-in-Some-clause-calls g c = λ form is. record {
-  status = c.perform.result;
-  told = c.code-in-Some.ensures;
-  owed = rw (one_form c.args.words.now form c.in-Some.form is c.in-Some.ensures.found) c.perform.ensures.calls;
 }

@@ -1,0 +1,112 @@
+//! The command, over whatever host: settings, keeper, input and output are opened in this order, and
+//! all that the host gave is handed back.
+
+ghost use Rattle.std.specs.Prelude.{◌≡◌, ◌<◌, ◌==◌, ◌-◌};
+ghost use Rattle.pool_io.specs.Outside.{CountsFailure};
+ghost use Rattle.pool_settings.specs.Reading.{AreInRange};
+ghost use Rattle.pool_turns.specs.Statuses.{status_code};
+ghost use Rattle.settings_file.specs.Views.{IsHandedBack, view_of};
+ghost use Rattle.share_ledger.specs.Books.{IsUnused};
+ghost use Rattle.solo_command.specs.Row.{KeeperRow, SessionRow, SoloRow, accounts_of};
+
+use crate::status::solo_status;
+use pool_io::Host;
+use pool_settings::Settings;
+use pool_turns::{Status, refusal_status};
+use settings_file::open_settings;
+use solo_session::{Solo, serve_solo};
+use std::alloc::Global;
+
+/// Serves one session of both roles over standard input and output, by the settings file of a name,
+/// and keeps its history in a new file of the other name.
+pub fn serve_by_settings<H: Host>(
+    alloc: Global,
+    host: &mut H,
+    settings_name: &str,
+    ledger_name: &str,
+) -> Status
+    ensures row { SoloRow
+        (accounts_of H.S.left H.T.held H.K.records H.S.faults H.T.faults H.K.faults)
+        settings_name.now ledger_name.now (view_of H.seen H.openings host.old)
+        (view_of H.seen H.openings host.new) result }
+
+    // Everything that the host gave has come back.
+    ensures back { IsHandedBack (view_of H.seen H.openings host.old)
+        (view_of H.seen H.openings host.new) }
+
+    // The answer is a host's fault exactly where it was counted.
+    ensures counts { CountsFailure (status_code result == 7) (H.seen host.old).faults
+        (H.seen host.new).faults }
+{
+    match open_settings(alloc, host, settings_name) {
+        Ok(settings) => keep_session(alloc, host, settings, ledger_name),
+        Err(no_settings) => no_settings.status(),
+    }
+}
+
+/// The same by these settings.
+fn keep_session<H: Host>(
+    alloc: Global,
+    host: &mut H,
+    settings: Settings,
+    ledger_name: &str,
+) -> Status
+    requires ranges { AreInRange settings }
+    ensures row { KeeperRow
+        (accounts_of H.S.left H.T.held H.K.records H.S.faults H.T.faults H.K.faults)
+        settings ledger_name.now (view_of H.seen H.openings host.old)
+        (view_of H.seen H.openings host.new) result }
+    ensures back { IsHandedBack (view_of H.seen H.openings host.old)
+        (view_of H.seen H.openings host.new) }
+    ensures counts { CountsFailure (status_code result == 7) (H.seen host.old).faults
+        (H.seen host.new).faults }
+{
+    match host.open_keeper(ledger_name) {
+        Ok(keeper) => serve_session(alloc, host, settings, keeper),
+        Err(error) => refusal_status(error),
+    }
+}
+
+/// The same by a keeper that the host gave.
+fn serve_session<H: Host>(alloc: Global, host: &mut H, settings: Settings, keeper: H::K) -> Status
+    requires ranges { AreInRange settings }
+    requires out { 0 < (H.openings host.old).keepers.lent }
+    requires unused { IsUnused (H.K.records keeper) }
+    ensures row { SessionRow
+        (accounts_of H.S.left H.T.held H.K.records H.S.faults H.T.faults H.K.faults)
+        settings keeper (view_of H.seen H.openings host.old)
+        (view_of H.seen H.openings host.new) result }
+    ensures sources { (H.seen host.new).sources.lent ≡ (H.seen host.old).sources.lent }
+    ensures sinks { (H.seen host.new).sinks.lent ≡ (H.seen host.old).sinks.lent }
+    ensures keepers { (H.openings host.new).keepers.lent
+        ≡ (H.openings host.old).keepers.lent - 1 }
+    ensures counts { CountsFailure (status_code result == 7) (H.seen host.old).faults
+        (H.seen host.new).faults }
+{
+    let source = match host.input() {
+        Ok(source) => source,
+        Err(error) => {
+            host.done_keeper(keeper);
+            return refusal_status(error);
+        }
+    };
+    let sink = match host.output() {
+        Ok(sink) => sink,
+        Err(error) => {
+            host.done_source(source);
+            host.done_keeper(keeper);
+            return refusal_status(error);
+        }
+    };
+    let Settings { rules, limits, .. } = settings;
+    let Solo {
+        source,
+        sink,
+        keeper,
+        end,
+    } = serve_solo(alloc, rules, keeper, source, sink, limits);
+    host.done_source(source);
+    host.done_sink(sink);
+    host.done_keeper(keeper);
+    solo_status(end)
+}
