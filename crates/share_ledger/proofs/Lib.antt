@@ -5,6 +5,7 @@ mod JobSteps
 mod SessionSteps
 mod ShareSteps
 mod Started
-mod Told
 mod TokenSteps
+mod Told
 mod Within
+pub mod Crossing
