@@ -1,0 +1,4 @@
+pub mod Entering
+pub mod Filling
+pub mod Standing
+pub mod Whole
