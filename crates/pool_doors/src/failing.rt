@@ -1,0 +1,41 @@
+//! Which calls of a door in memory fail, and how many have.
+
+ghost use Rattle.std.specs.Prelude.{◌≡◌, ◌↔◌, Contains, IsTrue};
+ghost use Rattle.pool_io.specs.Outside.{CountsFailure, next_count};
+
+/// Counts calls, and those that failed. Both counts stay at 2^64 - 1 once they are there.
+#[derive(Drop)]
+pub(crate) struct FailingCalls {
+    calls: u64,
+    failing: Vec<u64>,
+    faults: u64,
+}
+
+impl FailingCalls {
+    /// No call has been made. Those whose numbers are listed are to fail, the first being number 0.
+    pub(crate) fn of(failing: Vec<u64>) -> FailingCalls
+        ensures { result ≡ record { calls = 0; failing = failing; faults = 0 } }
+    {
+        FailingCalls {
+            calls: 0,
+            failing,
+            faults: 0,
+        }
+    }
+
+    /// Counts the next call, and tells whether it fails.
+    pub(crate) fn next_fails(&mut self) -> bool
+        ensures listed { IsTrue result ↔ Contains self.old.failing.items self.old.calls }
+        ensures calls { self.new.calls ≡ next_count self.old.calls }
+        ensures stays { self.new.failing ≡ self.old.failing }
+        ensures counts { CountsFailure result self.old.faults self.new.faults }
+    {
+        let call = self.calls;
+        self.calls = call.saturating_add(1);
+        let fails = self.failing.contains(&call);
+        if fails {
+            self.faults = self.faults.saturating_add(1);
+        }
+        fails
+    }
+}
