@@ -1,0 +1,186 @@
+-- What a worker did goes on by one answer of its door or by more.
+use Rattle.std.proofs.Common.{◌≡◌, ℕ, ◌+◌, ◌-◌, ◌<◌, List, [], ◌∷◌, ◌++◌, Option, Some, None, Ok, Err, map, refl, sym, ap, subst, ◌∙◌, append_assoc, append-nil, arith}
+use Rattle.std.proofs.lemmas.List.{map-append}
+use Rattle.pool_doors.specs.declared.door.Arrival.{Arrival}
+use Rattle.std.specs.Prelude.{IfSome}
+use Rattle.pool_doors.specs.declared.door.Came.TheVariants as came
+use Rattle.pool_doors.specs.Doors.{ComesNext, back_with}
+use Rattle.session_steps.specs.Steps.{calls_in}
+use Rattle.pool_sessions.specs.Links.{Telling}
+use Rattle.link_session.specs.Visits.{Asking, Manner, Visit}
+use Rattle.link_session.proofs.Asked.{asks_both, asks_none}
+use Rattle.pool_io.specs.Outside.{CountsFailure}
+use Rattle.door_worker.specs.declared.working.DoorEnd.{DoorEnd}
+use Rattle.door_worker.specs.Shifts.{Asked, AreVisits, AsksNext, Attends, AttendsOn, BackWith, ComesOn, DoorTelling, IsWelcomed, IsWorked, Visited, Waited, WaitsOn, arrival_of, calls_at, is_failed_end, links_in}
+
+module _ {L : Type 0} where
+  links_both : (xs ys : List (Asked L)) → links_in (xs ++ ys) ≡ links_in xs ++ links_in ys
+  links_both [] ys = refl
+  links_both (Waited ∷ xs) ys = links_both xs ys
+  links_both (Visited visit ∷ xs) ys = ap (λ (l : List L). visit.after ∷ l) (links_both xs ys)
+
+  calls_both : (xs ys : List (Asked L)) → calls_at (xs ++ ys) ≡ calls_at xs ++ calls_at ys
+  calls_both [] ys = refl
+  calls_both (Waited ∷ xs) ys = calls_both xs ys
+  calls_both (Visited visit ∷ xs) ys = ap (λ l. calls_in visit.steps ++ l) (calls_both xs ys) ∙ sym (append_assoc (calls_in visit.steps) (calls_at xs) (calls_at ys))
+
+  visits_both : (telling : Telling L) (manner : Manner) (worker : ℕ) (xs ys : List (Asked L)) → AreVisits telling manner worker xs → AreVisits telling manner worker ys
+      → AreVisits telling manner worker (xs ++ ys)
+  visits_both telling manner worker [] ys first then = then
+  visits_both telling manner worker (Waited ∷ xs) ys first then = visits_both telling manner worker xs ys first then
+  visits_both telling manner worker (Visited visit ∷ xs) ys first then = (first.0, visits_both telling manner worker xs ys first.1 then)
+
+  waits_both : (door_turns a b c : ℕ) (xs ys : List (Asked L)) → WaitsOn door_turns a xs b → WaitsOn door_turns b ys c → WaitsOn door_turns a (xs ++ ys) c
+  waits_both door_turns a b c [] ys first then = rw first at then
+  waits_both door_turns a b c (Waited ∷ xs) ys first then = (first.0, waits_both door_turns (a - 1) b c xs ys first.1 then)
+  waits_both door_turns a b c (Visited visit ∷ xs) ys first then = (first.0, waits_both door_turns door_turns b c xs ys first.1 then)
+
+  comes_both : (a b c : Option (List (Arrival L))) (xs ys : List (Asked L)) → ComesOn a b xs → ComesOn b c ys → ComesOn a c (xs ++ ys)
+  comes_both None b c xs ys first then = rw first at then
+  comes_both (Some told) b c xs ys first then =
+      let more = rw first.1 at then in (
+        more.0,
+        more.1,
+        first.2 ∙ ap (λ (l : List (Arrival L)). map arrival_of xs ++ l) more.2 ∙ sym (append_assoc (map arrival_of xs) (map arrival_of ys) more.0)
+            ∙ ap (λ (l : List (Arrival L)). l ++ more.0) (sym (map-append arrival_of xs ys)),
+      )
+
+  back_both : (a b c : Option (List L)) (xs ys : List (Asked L)) → BackWith a b xs → BackWith b c ys → BackWith a c (xs ++ ys)
+  back_both None b c xs ys first then = rw first at then
+  back_both (Some links) b c xs ys first then =
+      let more = rw first at then in
+      more ∙ ap (λ (l : List L). Some l) (append_assoc links (links_in xs) (links_in ys) ∙ ap (λ (l : List L). links ++ l) (sym (links_both xs ys)))
+
+  comes_none : (told : Option (List (Arrival L))) → ComesOn told told []
+  comes_none None = refl
+  comes_none (Some arrivals) = (arrivals, refl, refl)
+
+  back_none : (back : Option (List L)) → BackWith back back []
+  back_none None = refl
+  back_none (Some links) = ap (λ (l : List L). Some l) (sym (append-nil links))
+
+module _ {D L : Type 0} (telling : DoorTelling D L) (manner : Manner) (door_turns : ℕ) where
+  attends_both : (worker a b c : ℕ) (before between after : D) (xs ys : List (Asked L)) → Attends telling manner worker door_turns a b before between xs
+      → Attends telling manner worker door_turns b c between after ys → Attends telling manner worker door_turns a c before after (xs ++ ys)
+  attends_both worker a b c before between after xs ys first then = record {
+    visits = visits_both telling.link manner worker xs ys first.visits then.visits;
+    waits = waits_both door_turns a b c xs ys first.waits then.waits;
+    comes = comes_both (telling.coming before) (telling.coming between) (telling.coming after) xs ys first.comes then.comes;
+    back = back_both (telling.back before) (telling.back between) (telling.back after) xs ys first.back then.back;
+    out = then.out ∙ first.out;
+  }
+
+  -- nothing was asked
+  pub on_none : (turns : ℕ) (door : D) (asking : Asking) → AttendsOn telling manner door_turns turns turns door door asking asking
+  on_none turns door asking = record {
+    answers = [];
+    attends = record { visits = tt; waits = refl; comes = comes_none (telling.coming door); back = back_none (telling.back door); out = refl };
+    asks = asks_none asking;
+  }
+
+  -- what was done, and then more
+  pub on_both : {a b c : ℕ} {before between after : D} {old middle new : Asking} → AttendsOn telling manner door_turns a b before between old middle
+      → AttendsOn telling manner door_turns b c between after middle new → AttendsOn telling manner door_turns a c before after old new
+  on_both {a = a} {b = b} {c = c} {before = before} {between = between} {after = after} {old = old} {middle = middle} {new = new} first then =
+      let xs = first.answers in
+      let ys = then.answers in
+      record {
+        answers = xs ++ ys;
+        attends = attends_both old.pass.worker a b c before between after xs ys first.attends (rw first.asks.goes_on.same.1 at then.attends);
+        asks = rw (calls_both xs ys) (asks_both old middle new (calls_at xs) (calls_at ys) first.asks then.asks);
+      }
+
+module _ {L : Type 0} where
+  -- nobody came
+  comes_waited : (a b : Option (List (Arrival L))) → ComesNext a b came.Idle → ComesOn a b (Waited ∷ [])
+  comes_waited None b next = next
+  comes_waited (Some told) b next = next
+
+  -- somebody came
+  comes_visited : (visit : Visit L) (a b : Option (List (Arrival L))) → ComesNext a b (came.Caller visit.before) → ComesOn a b (Visited visit ∷ [])
+  comes_visited visit None b next = next
+  comes_visited visit (Some told) b next = next
+
+  -- nobody will come
+  pub comes_closed : (a b : Option (List (Arrival L))) → ComesNext a b came.Closed → ComesOn a b [] × IfSome b (λ arrivals. arrivals ≡ [])
+  comes_closed None b next = (next, rw next tt)
+  comes_closed (Some told) b next = ((next.0, next.1, next.2.0 ∙ sym next.2.1), rw next.1 next.2.1)
+
+  -- nobody was let in
+  pub comes_failed : (a b : Option (List (Arrival L))) → ComesNext a b came.Failed → ComesOn a b []
+  comes_failed None b next = next
+  comes_failed (Some told) b next = (next.0, next.1, sym next.2)
+
+  pub comes_starved : (a b : Option (List (Arrival L))) → ComesNext a b came.Memory → ComesOn a b []
+  comes_starved None b next = next
+  comes_starved (Some told) b next = (next.0, next.1, sym next.2)
+
+module _ {D L : Type 0} (telling : DoorTelling D L) (manner : Manner) (door_turns turns : ℕ) where
+  -- the door answered nothing that counts
+  pub on_nothing : (before after : D) (asking : Asking) → ComesOn (telling.coming before) (telling.coming after) [] → telling.back after ≡ telling.back before
+      → telling.out after ≡ telling.out before → AttendsOn telling manner door_turns turns turns before after asking asking
+  on_nothing before after asking comes back out = record {
+    answers = [];
+    attends = record {
+      visits = tt;
+      waits = refl;
+      comes = comes;
+      back = back ∙ back_none (telling.back before);
+      out = out;
+    };
+    asks = asks_none asking;
+  }
+
+  pub on_waited : (before after : D) (asking : Asking) → 0 < turns → ComesNext (telling.coming before) (telling.coming after) came.Idle
+      → telling.back after ≡ telling.back before → telling.out after ≡ telling.out before → AttendsOn telling manner door_turns turns (turns - 1) before after asking asking
+  on_waited before after asking some comes back out = record {
+    answers = Waited ∷ [];
+    attends = record {
+      visits = tt;
+      waits = (some, refl);
+      comes = comes_waited (telling.coming before) (telling.coming after) comes;
+      back = back ∙ back_none (telling.back before);
+      out = out;
+    };
+    asks = asks_none asking;
+  }
+
+  pub on_visited : (before between after : D) (link : L) (old new : Asking) → 0 < turns → ComesNext (telling.coming before) (telling.coming between) (came.Caller link)
+      → telling.back between ≡ telling.back before → telling.out between ≡ telling.out before + 1 → IsWelcomed telling manner link between after old new
+      → AttendsOn telling manner door_turns turns door_turns before after old new
+  on_visited before between after link old new some comes back out welcomed =
+      let visit : Visit L = record { before = link; after = welcomed.link_back; steps = welcomed.served.steps; reason = welcomed.reason } in
+      record {
+        answers = Visited visit ∷ [];
+        attends = record {
+          visits = (welcomed.served.visit, tt);
+          waits = (some, refl);
+          comes = comes_visited visit (telling.coming before) (telling.coming after) (rw welcomed.coming comes);
+          back = welcomed.back ∙ ap (λ b. back_with b welcomed.link_back) back;
+          out = (let was = welcomed.out in omega (arith, was, out));
+        };
+        asks = rw (append-nil (calls_in welcomed.served.steps)) welcomed.served.asks;
+      }
+
+module _ {D L : Type 0} {telling : DoorTelling D L} {manner : Manner} {door_turns a b : ℕ} {before between after : D} {old middle new : Asking} where
+  -- the door was asked once more
+  pub on_next : {left : ℕ} → AttendsOn telling manner door_turns a b before between old middle → AsksNext telling manner door_turns b between after middle new (Ok left)
+      → AttendsOn telling manner door_turns a left before after old new
+  on_next so_far next = on_both telling manner door_turns so_far (subst (λ n. AttendsOn telling manner door_turns b n between after middle new) next.next.0 next.attends)
+
+-- and for the last time
+pub worked : {D L : Type 0} {telling : DoorTelling D L} {manner : Manner} {door_turns b : ℕ} {before between after : D} {old middle new : Asking} {reason : DoorEnd}
+    → AttendsOn telling manner door_turns door_turns b before between old middle → telling.faults between ≡ telling.faults before
+    → AsksNext telling manner door_turns b between after middle new (Err reason) → IsWorked telling manner door_turns before after old new reason
+worked {telling = telling} {manner = manner} {door_turns = door_turns} {after = after} {reason = reason} so_far same next =
+    let all = on_both telling manner door_turns so_far next.attends in
+    record {
+      answers = all.answers;
+      shift = record {
+        now = next.now;
+        attends = all.attends;
+        stops = next.next.0;
+        counts = subst (λ n. CountsFailure (is_failed_end reason) n (telling.faults after)) same next.next.1;
+      };
+      asks = all.asks;
+    }

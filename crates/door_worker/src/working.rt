@@ -1,0 +1,143 @@
+//! The worker, from its first asking to its last.
+
+ghost use Rattle.std.specs.Prelude.{◌≡◌, ◌<◌};
+ghost use Rattle.pool_history.specs.declared.events.Role.TheVariants as role;
+ghost use Rattle.door_worker.specs.Shifts.{AsksNext, IsWelcomed, IsWorked};
+
+use desk_worker::DeskWorker;
+use link_session::serve_link;
+use pool_doors::{Came, Door};
+use pool_history::Role;
+use pool_io::{Keeper, Limits};
+use std::alloc::Global;
+use std::sync::Wait;
+
+/// Why a worker asked no more.
+#[derive(Clone, Copy, Debug, PartialEq, Eq)]
+pub enum DoorEnd {
+    /// Nobody called for too many answers in a row.
+    IdleOut,
+    /// Nobody will call any more.
+    Closed,
+    /// The door failed.
+    Failed,
+    /// There was no memory for a caller.
+    Memory,
+}
+
+/// Serves those who call at a door, one after the other, until the door says that it is closed or
+/// failed, memory is wanting, or nobody came for too many answers in a row.
+pub fn work<R: Wait, K: Keeper, D: Door>(
+    alloc: Global,
+    asker: &mut DeskWorker<'_, R, K>,
+    door: &mut D,
+    rolling: bool,
+    limits: Limits,
+) -> DoorEnd
+    requires desk { asker.old.pass.now.table ≡ asker.old.desk.now.table }
+    requires waits { (0 < limits.idle_turns) × (0 < limits.door_turns) }
+    ensures desk { asker.new.pass.now.table ≡ asker.new.desk.now.table }
+    ensures pass { asker.new.pass.ghost_name ≡ asker.old.pass.ghost_name }
+    ensures worked { IsWorked (record {
+      coming = D.coming;
+      out = D.out;
+      back = D.back;
+      faults = D.faults;
+      link = record {
+        left = D.L.left;
+        held = D.L.held;
+        read_faults = D.L.read_faults;
+        write_faults = D.L.write_faults;
+      };
+    }) (record { role = role.Miner; rolling = rolling; idle_turns = limits.idle_turns })
+        limits.door_turns door.old door.new
+        (record { pass = asker.old.pass.now; faults = asker.old.faults })
+        (record { pass = asker.new.pass.now; faults = asker.new.faults }) result }
+{
+    let rt = asker.rt;
+    let mut turns = limits.door_turns;
+    for _ in rt.forever() {
+        match ask_door(alloc, asker, door, rolling, limits, turns) {
+            Ok(left) => turns = left,
+            Err(end) => return end,
+        }
+    }
+    unreachable!()
+}
+
+/// Asks the door once, and serves who called. Answers how many Idle answers in a row are still
+/// waited for.
+fn ask_door<R: Wait, K: Keeper, D: Door>(
+    alloc: Global,
+    asker: &mut DeskWorker<'_, R, K>,
+    door: &mut D,
+    rolling: bool,
+    limits: Limits,
+    turns: u64,
+) -> Result<u64, DoorEnd>
+    requires desk { asker.old.pass.now.table ≡ asker.old.desk.now.table }
+    requires waits { (0 < limits.idle_turns) × (0 < limits.door_turns) }
+    requires turns { 0 < turns }
+    ensures desk { asker.new.pass.now.table ≡ asker.new.desk.now.table }
+    ensures pass { asker.new.pass.ghost_name ≡ asker.old.pass.ghost_name }
+    ensures next { AsksNext (record {
+      coming = D.coming;
+      out = D.out;
+      back = D.back;
+      faults = D.faults;
+      link = record {
+        left = D.L.left;
+        held = D.L.held;
+        read_faults = D.L.read_faults;
+        write_faults = D.L.write_faults;
+      };
+    }) (record { role = role.Miner; rolling = rolling; idle_turns = limits.idle_turns })
+        limits.door_turns turns door.old door.new
+        (record { pass = asker.old.pass.now; faults = asker.old.faults })
+        (record { pass = asker.new.pass.now; faults = asker.new.faults }) result }
+{
+    match door.accept() {
+        Came::Caller(link) => {
+            welcome(alloc, asker, door, link, rolling, limits);
+            Ok(limits.door_turns)
+        }
+        Came::Idle if turns == 1 => Err(DoorEnd::IdleOut),
+        Came::Idle => Ok(turns - 1),
+        Came::Closed => Err(DoorEnd::Closed),
+        Came::Failed => Err(DoorEnd::Failed),
+        Came::Memory => Err(DoorEnd::Memory),
+    }
+}
+
+/// Serves one who called, and hands the connection back.
+fn welcome<R: Wait, K: Keeper, D: Door>(
+    alloc: Global,
+    asker: &mut DeskWorker<'_, R, K>,
+    door: &mut D,
+    mut link: D::L,
+    rolling: bool,
+    limits: Limits,
+)
+    requires desk { asker.old.pass.now.table ≡ asker.old.desk.now.table }
+    requires waits { 0 < limits.idle_turns }
+    requires out { 0 < D.out door.old }
+    ensures desk { asker.new.pass.now.table ≡ asker.new.desk.now.table }
+    ensures pass { asker.new.pass.ghost_name ≡ asker.old.pass.ghost_name }
+    ensures served { IsWelcomed (record {
+      coming = D.coming;
+      out = D.out;
+      back = D.back;
+      faults = D.faults;
+      link = record {
+        left = D.L.left;
+        held = D.L.held;
+        read_faults = D.L.read_faults;
+        write_faults = D.L.write_faults;
+      };
+    }) (record { role = role.Miner; rolling = rolling; idle_turns = limits.idle_turns }) link
+        door.old door.new (record { pass = asker.old.pass.now; faults = asker.old.faults })
+        (record { pass = asker.new.pass.now; faults = asker.new.faults }) }
+{
+    serve_link(alloc, asker, &mut link, Role::Miner, rolling, limits);
+    door.done(link);
+}
