@@ -1,18 +1,13 @@
 //! What the examples ask a book for, and what it answers, in words.
 
-ghost use Rattle.std.specs.Prelude.{◌≤◌, IfOk, IsTrue};
-ghost use Rattle.pool_history.specs.Accounts.{are_in_range};
-
 use ledger_records::read_record;
 use pool_history::{
-    BookError, Event, Kind, OpenAsk, Reply, Request, Role, Rules, Submission, TemplateData,
-    TipData, Users,
+    BookError, Event, Kind, OpenAsk, Reply, Request, Role, Submission, TemplateData, TipData,
 };
 use pool_io::Keeper;
 use share_check::{check, rolled_length};
 use share_ledger::Book;
 use std::alloc::{AllocError, Global};
-use std::test::Fail;
 use sv2_types::{Blob, Hashes, Str255, U256};
 
 /// One request of an example.
@@ -48,24 +43,6 @@ pub(crate) enum Changed {
     Version(u32),
     /// How many bytes its extranonce has, up to 32.
     Length(u8),
-}
-
-/// The rules of the worked session, with another limit of credits.
-pub(crate) fn rules(alloc: Global, version_rolling: bool, credit_limit: u32) -> Result<Rules, Fail>
-    requires some { 1 ≤ credit_limit }
-    requires few { credit_limit ≤ 16777215 }
-    ensures { IfOk result (λ rules. IsTrue (are_in_range rules)) }
-{
-    Ok(Rules {
-        pool_script: Blob::of(alloc, b"\x51")?,
-        least_class: 0,
-        fee: 100,
-        window: None,
-        ntime_window: 600,
-        credit_limit,
-        version_rolling,
-        users: Users::of(Vec::new(alloc)),
-    })
 }
 
 /// A template whose coinbase has no outputs of its own, and no other transaction beside it.

@@ -1,8 +1,14 @@
-//! Worked examples of the pool's parts together, as tests. It has no function of its own.
+//! Worked examples of the pool's parts together, as tests, and the rules that they begin with.
 #![tactic(auto)]
+
+mod rules;
+
+pub use rules::example_rules;
 
 #[cfg(test)]
 mod asking;
+#[cfg(test)]
+mod desk_tests;
 #[cfg(test)]
 mod examples;
 #[cfg(test)]

@@ -1,7 +1,8 @@
 //! What no clause says: that what three sessions are owed from each place of a longer history are as
 //! many messages as were counted by hand for each of its events.
 
-use crate::asking::{Ask, Changed, answer, rules};
+use crate::asking::{Ask, Changed, answer};
+use crate::example_rules;
 use crate::examples::{Step, begun};
 use pool_history::{Kind, Role};
 use pool_io::{Keeper, SureKeeper};
@@ -87,7 +88,11 @@ fn go<K: Keeper>(rt: &impl Abort, alloc: Global, book: &mut Book<K>) {
 
 /// Polls a book after all steps, from each place and from two behind the end.
 fn compare_news(rt: &impl Abort, alloc: Global) -> Result<(), Fail> {
-    let mut book = begun(alloc, rules(alloc, true, 3)?, SureKeeper::new(alloc))?;
+    let mut book = begun(
+        alloc,
+        example_rules(alloc, true, 3)?,
+        SureKeeper::new(alloc),
+    )?;
     go(rt, alloc, &mut book);
     for from in 0..STEPS.len() as u64 + 3 {
         poll(rt, alloc, &mut book, from);

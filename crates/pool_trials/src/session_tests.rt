@@ -3,7 +3,7 @@
 
 ghost use Rattle.std.specs.Prelude.{◌<◌};
 
-use crate::asking::rules;
+use crate::example_rules;
 use crate::examples::{LEDGER, are_spelled, begun, joined, turns_of};
 use pool_core::SessionEnd;
 use pool_history::Role;
@@ -41,7 +41,11 @@ const ANSWERS: &str =
 
 /// How a session over these turns ends, what it wrote, and what was kept.
 fn served(alloc: Global, turns: Vec<Turn>) -> Result<(SessionEnd, Vec<u8>, Vec<u8>), Fail> {
-    let book = begun(alloc, rules(alloc, true, 3)?, SureKeeper::new(alloc))?;
+    let book = begun(
+        alloc,
+        example_rules(alloc, true, 3)?,
+        SureKeeper::new(alloc),
+    )?;
     let mut link = Streams {
         source: SureSource::of(turns),
         sink: SureSink::of(Vec::new(alloc)),

@@ -1,7 +1,8 @@
 //! What no clause says: that a book's calls succeed where there is memory, and that its answers and
 //! its ledger are those of the worked session, and of others that differ from it in one thing.
 
-use crate::asking::{Ask, Changed, answer, rules};
+use crate::asking::{Ask, Changed, answer};
+use crate::example_rules;
 use crate::examples::{
     BEGIN, FOREIGN_JOB, LEDGER, NEXT_TEMPLATE, NEXT_TIP, OWN_JOB, Step, TEMPLATE, TIP, are_spelled,
     begun, joined,
@@ -141,7 +142,7 @@ fn kept(
     steps: &[Step],
 ) -> Result<Vec<u8>, Fail> {
     let failing = Vec::from_slice(alloc, failing)?;
-    let rules = rules(alloc, version_rolling, 3)?;
+    let rules = example_rules(alloc, version_rolling, 3)?;
     let mut book = begun(alloc, rules, MemKeeper::new(alloc, failing))?;
     go(rt, alloc, &mut book, &BEGIN);
     go(rt, alloc, &mut book, steps);
@@ -159,7 +160,11 @@ fn keep_worked(rt: &impl Abort, alloc: Global) -> Result<(), Fail> {
 
 /// Brings a miner's own jobs, and compares the summary.
 fn sum_up_own_jobs(rt: &impl Abort, alloc: Global) -> Result<(), Fail> {
-    let mut book = begun(alloc, rules(alloc, true, 3)?, SureKeeper::new(alloc))?;
+    let mut book = begun(
+        alloc,
+        example_rules(alloc, true, 3)?,
+        SureKeeper::new(alloc),
+    )?;
     go(rt, alloc, &mut book, &OWN_JOBS);
     let mut summary = Vec::new(alloc);
     let summed = book.summary(&mut summary);
