@@ -10,14 +10,15 @@ use session_table::other_events_leave_sessions;
 use sv2_types::Str255;
 
 impl Replay {
-    ghost use Rattle.std.specs.Prelude.{◌<◌, ◌-◌, ◌^◌};
+    ghost use Rattle.std.specs.Prelude.{◌≡◌, ◌+◌, ◌<◌, ◌-◌, ◌^◌, OnOk};
     ghost use Rattle.pool_history.specs.declared.events.Event.TheVariants as event;
     ghost use Rattle.ledger_replay.specs.Replays.{Judges, event_count};
 
     /// A Name.
     pub fn name(&mut self, session: u32, channel: u32, account: Str255) -> Result<(), ReplayError>
         requires { event_count self.old < 2 ^ 64 - 1 }
-        ensures { Judges self.old (event.Name session channel account) result self.new }
+        ensures judged { Judges self.old (event.Name session channel account) result self.new }
+        ensures counts { OnOk result (event_count self.new ≡ event_count self.old + 1) }
     {
         other_events_leave_sessions();
         other_events_leave_grants();
@@ -39,7 +40,8 @@ impl Replay {
     /// A Class.
     pub fn set_class(&mut self, session: u32, channel: u32, class: u8) -> Result<(), ReplayError>
         requires { event_count self.old < 2 ^ 64 - 1 }
-        ensures { Judges self.old (event.Class session channel class) result self.new }
+        ensures judged { Judges self.old (event.Class session channel class) result self.new }
+        ensures counts { OnOk result (event_count self.new ≡ event_count self.old + 1) }
     {
         other_events_leave_sessions();
         other_events_leave_grants();
@@ -67,7 +69,8 @@ impl Replay {
     /// A Close.
     pub fn close(&mut self, session: u32, channel: u32) -> Result<(), ReplayError>
         requires { event_count self.old < 2 ^ 64 - 1 }
-        ensures { Judges self.old (event.Close session channel) result self.new }
+        ensures judged { Judges self.old (event.Close session channel) result self.new }
+        ensures counts { OnOk result (event_count self.new ≡ event_count self.old + 1) }
     {
         other_events_leave_sessions();
         other_events_leave_grants();

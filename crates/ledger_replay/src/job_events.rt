@@ -9,14 +9,15 @@ use session_table::other_events_leave_sessions;
 use template_jobs::{histories_are_read, moves_are_told};
 
 impl Replay {
-    ghost use Rattle.std.specs.Prelude.{◌<◌, ◌-◌, ◌^◌};
+    ghost use Rattle.std.specs.Prelude.{◌≡◌, ◌+◌, ◌<◌, ◌-◌, ◌^◌, OnOk};
     ghost use Rattle.pool_history.specs.declared.events.Event.TheVariants as event;
     ghost use Rattle.ledger_replay.specs.Replays.{Judges, event_count};
 
     /// A Template.
     pub fn add_template(&mut self, session: u32, template: &TemplateData) -> Result<(), ReplayError>
         requires { event_count self.old < 2 ^ 64 - 1 }
-        ensures { Judges self.old (event.Template session template.now) result self.new }
+        ensures judged { Judges self.old (event.Template session template.now) result self.new }
+        ensures counts { OnOk result (event_count self.new ≡ event_count self.old + 1) }
     {
         other_events_leave_sessions();
         other_events_leave_grants();
@@ -41,7 +42,8 @@ impl Replay {
     /// A Tip.
     pub fn set_tip(&mut self, session: u32, tip: &TipData) -> Result<(), ReplayError>
         requires { event_count self.old < 2 ^ 64 - 1 }
-        ensures { Judges self.old (event.Tip session tip.now) result self.new }
+        ensures judged { Judges self.old (event.Tip session tip.now) result self.new }
+        ensures counts { OnOk result (event_count self.new ≡ event_count self.old + 1) }
     {
         other_events_leave_sessions();
         other_events_leave_grants();

@@ -12,7 +12,7 @@ use std::alloc::Global;
 use sv2_types::{Str255, U256};
 
 impl Replay {
-    ghost use Rattle.std.specs.Prelude.{◌≡◌, ℕ, ◌<◌, ◌-◌, ◌^◌, List, IfErr, IfOk};
+    ghost use Rattle.std.specs.Prelude.{◌≡◌, ℕ, ◌+◌, ◌<◌, ◌-◌, ◌^◌, List, IfErr, IfOk, OnOk};
     ghost use Rattle.pool_history.specs.declared.events.Event.{Event};
     ghost use Rattle.pool_history.specs.declared.events.Event.TheVariants as event;
     ghost use Rattle.ledger_replay.specs.Replays.{HasCause, IsOpened, Judges, WasReplayed, event_count};
@@ -27,8 +27,9 @@ impl Replay {
         lead: &[u8],
     ) -> Result<(), ReplayError>
         requires { event_count self.old < 2 ^ 64 - 1 }
-        ensures { Judges self.old (event.Open session kind account class lead.now)
+        ensures judged { Judges self.old (event.Open session kind account class lead.now)
             result self.new }
+        ensures counts { OnOk result (event_count self.new ≡ event_count self.old + 1) }
     {
         other_events_leave_sessions();
         other_events_leave_grants();

@@ -14,14 +14,15 @@ use template_jobs::moves_are_told;
 const MOST_OWN_JOBS: u32 = 1 << 18;
 
 impl Replay {
-    ghost use Rattle.std.specs.Prelude.{◌<◌, ◌-◌, ◌^◌};
+    ghost use Rattle.std.specs.Prelude.{◌≡◌, ◌+◌, ◌<◌, ◌-◌, ◌^◌, OnOk};
     ghost use Rattle.pool_history.specs.declared.events.Event.TheVariants as event;
     ghost use Rattle.ledger_replay.specs.Replays.{Judges, event_count};
 
     /// A Custom.
     pub fn custom(&mut self, session: u32, custom: &CustomData) -> Result<(), ReplayError>
         requires { event_count self.old < 2 ^ 64 - 1 }
-        ensures { Judges self.old (event.Custom session custom.now) result self.new }
+        ensures judged { Judges self.old (event.Custom session custom.now) result self.new }
+        ensures counts { OnOk result (event_count self.new ≡ event_count self.old + 1) }
     {
         other_events_leave_sessions();
         moves_are_told();

@@ -37,7 +37,8 @@ impl Replay {
 
     /// The replay of a first event.
     pub fn begin(alloc: Global, first: Event) -> Result<Replay, ReplayError>
-        ensures { Begins first result }
+        ensures judged { Begins first result }
+        ensures counts { IfOk result (λ replay. event_count replay ≡ 1) }
     {
         let Event::Start(rules) = first else {
             return Err(ReplayError::Illegal(Cause::BadStart));
@@ -62,7 +63,8 @@ impl Replay {
     /// Tables that were told of these rules alone.
     fn with_rules(alloc: Global, rules: Rules) -> Result<Replay, AllocError>
         requires { IsTrue (are_in_range rules) }
-        ensures { IfOk result (λ replay. WasReplayed replay (event.Start rules ∷ [])) }
+        ensures told { IfOk result (λ replay. WasReplayed replay (event.Start rules ∷ [])) }
+        ensures counts { IfOk result (λ replay. event_count replay ≡ 1) }
     {
         other_events_leave_sessions();
         other_events_leave_grants();

@@ -7,14 +7,15 @@ use grant_table::other_events_leave_grants;
 use pool_history::{Cause, Role};
 
 impl Replay {
-    ghost use Rattle.std.specs.Prelude.{◌<◌, ◌-◌, ◌^◌};
+    ghost use Rattle.std.specs.Prelude.{◌≡◌, ◌+◌, ◌<◌, ◌-◌, ◌^◌, OnOk};
     ghost use Rattle.pool_history.specs.declared.events.Event.TheVariants as event;
     ghost use Rattle.ledger_replay.specs.Replays.{Judges, event_count};
 
     /// An Enter.
     pub fn enter(&mut self, worker: u32, role: Role, flags: u32) -> Result<(), ReplayError>
         requires { event_count self.old < 2 ^ 64 - 1 }
-        ensures { Judges self.old (event.Enter worker role flags) result self.new }
+        ensures judged { Judges self.old (event.Enter worker role flags) result self.new }
+        ensures counts { OnOk result (event_count self.new ≡ event_count self.old + 1) }
     {
         other_events_leave_grants();
         if MOST_ENTERS <= self.sessions.count() {
@@ -34,7 +35,8 @@ impl Replay {
     /// A Leave.
     pub fn leave(&mut self, session: u32) -> Result<(), ReplayError>
         requires { event_count self.old < 2 ^ 64 - 1 }
-        ensures { Judges self.old (event.Leave session) result self.new }
+        ensures judged { Judges self.old (event.Leave session) result self.new }
+        ensures counts { OnOk result (event_count self.new ≡ event_count self.old + 1) }
     {
         other_events_leave_grants();
         if let Some(cause) = session_cause(&self.sessions, Right::Present, session) {

@@ -26,7 +26,7 @@ pub struct Credited<'a> {
 }
 
 impl Replay {
-    ghost use Rattle.std.specs.Prelude.{◌<◌, ◌≤◌, ◌-◌, ◌^◌, length};
+    ghost use Rattle.std.specs.Prelude.{◌≡◌, ◌+◌, ◌<◌, ◌≤◌, ◌-◌, ◌^◌, OnOk, length};
     ghost use Rattle.ledger_replay.specs.Replays.{Judges, event_count};
     ghost use Rattle.ledger_replay.specs.Shares.{credit_event};
 
@@ -34,7 +34,8 @@ impl Replay {
     pub fn credit(&mut self, session: u32, share: &Credited<'_>) -> Result<(), ReplayError>
         requires count { event_count self.old < 2 ^ 64 - 1 }
         requires sent { length share.now.extranonce.now ≤ 32 }
-        ensures { Judges self.old (credit_event session share.now) result self.new }
+        ensures judged { Judges self.old (credit_event session share.now) result self.new }
+        ensures counts { OnOk result (event_count self.new ≡ event_count self.old + 1) }
     {
         other_events_leave_sessions();
         other_events_leave_grants();

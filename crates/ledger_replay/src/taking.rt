@@ -6,7 +6,7 @@ use crate::share_events::Credited;
 use pool_history::{Cause, Event};
 
 impl Replay {
-    ghost use Rattle.std.specs.Prelude.{◌<◌, ◌-◌, ◌^◌};
+    ghost use Rattle.std.specs.Prelude.{◌≡◌, ◌+◌, ◌<◌, ◌-◌, ◌^◌, OnOk};
     ghost use Rattle.pool_history.specs.Ledger.{EventFits};
     ghost use Rattle.ledger_replay.specs.Replays.{Judges, event_count};
 
@@ -14,7 +14,8 @@ impl Replay {
     pub fn take(&mut self, event: Event) -> Result<(), ReplayError>
         requires count { event_count self.old < 2 ^ 64 - 1 }
         requires fits { EventFits event }
-        ensures { Judges self.old event result self.new }
+        ensures judged { Judges self.old event result self.new }
+        ensures counts { OnOk result (event_count self.new ≡ event_count self.old + 1) }
     {
         match event {
             Event::Start(_) => Err(ReplayError::Illegal(Cause::BadStart)),

@@ -9,7 +9,7 @@ use session_table::other_events_leave_sessions;
 use sv2_types::{Hashes, Str255};
 
 impl Replay {
-    ghost use Rattle.std.specs.Prelude.{◌<◌, ◌-◌, ◌^◌};
+    ghost use Rattle.std.specs.Prelude.{◌≡◌, ◌+◌, ◌<◌, ◌-◌, ◌^◌, OnOk};
     ghost use Rattle.pool_history.specs.declared.events.Event.TheVariants as event;
     ghost use Rattle.ledger_replay.specs.Replays.{Judges, event_count};
 
@@ -22,7 +22,8 @@ impl Replay {
         path: Hashes,
     ) -> Result<(), ReplayError>
         requires { event_count self.old < 2 ^ 64 - 1 }
-        ensures { Judges self.old (event.Grant session account fixed path) result self.new }
+        ensures judged { Judges self.old (event.Grant session account fixed path) result self.new }
+        ensures counts { OnOk result (event_count self.new ≡ event_count self.old + 1) }
     {
         other_events_leave_sessions();
         if let Some(cause) = session_cause(&self.sessions, Right::SelectWork, session) {

@@ -6,19 +6,19 @@ use Rattle.ledger_replay.proofs.Caused.{by_session}
 use Rattle.ledger_replay.proofs.JobsMoved.{template-refused, template-taken}
 use Rattle.ledger_replay.proofs.replay.Replay.add_template.Goals as goal
 
-pub returns-in-Some : goal.returns-in-Some
-returns-in-Some c past was =
+pub returns-in-Some-clause-judged : goal.returns-in-Some-clause-judged
+returns-in-Some-clause-judged c past was =
     by_session (tables_of c.args.self.now) past (event.Template c.args.session c.args.template.now) may_feed c.args.session _ c.in-Some.cause was refl
     (c.in-Some.ensures past was.sessions_are)
 
-pub returns-in-Ok : goal.returns-in-Ok
-returns-in-Ok c past was =
+pub returns-in-Ok-clause-judged : goal.returns-in-Ok-clause-judged
+returns-in-Ok-clause-judged c past was =
     template-taken (tables_of c.args.self.now) c.add_template.new.self past c.args.session c.args.template.now _
     c.other_events_leave_sessions.ensures c.other_events_leave_grants.ensures c.moves_are_told.ensures c.histories_are_read.ensures
     was (c.in_default.ensures past was.sessions_are) c.bytes-script.ensures c.in-Ok.ensures.refusal c.in-Ok.ensures.takes
 
-pub returns-in-Err : goal.returns-in-Err
-returns-in-Err c past was =
+pub returns-in-Err-clause-judged : goal.returns-in-Err-clause-judged
+returns-in-Err-clause-judged c past was =
     template-refused (tables_of c.args.self.now) c.add_template.new.self past c.args.session c.args.template.now _ c.in-Err.refusal _
     c.histories_are_read.ensures
     was (c.in_default.ensures past was.sessions_are) c.bytes-script.ensures c.in-Err.ensures.refusal c.in-Err.ensures.refused c.template_error.ensures

@@ -8,18 +8,18 @@ use Rattle.ledger_replay.proofs.Caused.{by_session}
 use Rattle.ledger_replay.proofs.ChannelsMoved.{close-refused, close-taken}
 use Rattle.ledger_replay.proofs.replay.Replay.close.Goals as goal
 
-pub returns-in-Some : goal.returns-in-Some
-returns-in-Some c past was =
+pub returns-in-Some-clause-judged : goal.returns-in-Some-clause-judged
+returns-in-Some-clause-judged c past was =
     by_session (tables_of c.args.self.now) past (event.Close c.args.session c.args.channel) may_mine c.args.session _ c.in-Some.cause was refl
     (c.in-Some.ensures past was.sessions_are)
 
-pub returns-in-Ok : goal.returns-in-Ok
-returns-in-Ok c past was =
+pub returns-in-Ok-clause-judged : goal.returns-in-Ok-clause-judged
+returns-in-Ok-clause-judged c past was =
     close-taken (tables_of c.args.self.now) c.close.new.self past c.args.session c.args.channel
     c.other_events_leave_sessions.ensures c.other_events_leave_grants.ensures was (c.in_default.ensures past was.sessions_are)
     (λ none. false≢true (c.in-Ok.ensures.not_open.1 none)) (c.in-Ok.ensures.told (channel_moves past) was.channels_are)
 
-pub returns-in-Err : goal.returns-in-Err
-returns-in-Err c past was =
+pub returns-in-Err-clause-judged : goal.returns-in-Err-clause-judged
+returns-in-Err-clause-judged c past was =
     close-refused (tables_of c.args.self.now) c.close.new.self past c.args.session c.args.channel
     was (c.in_default.ensures past was.sessions_are) (c.in-Err.ensures.not_open.0 refl) c.in-Err.ensures.refused

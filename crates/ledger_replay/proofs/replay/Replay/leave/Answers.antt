@@ -6,13 +6,13 @@ use Rattle.ledger_replay.specs.Replays.{tables_of}
 use Rattle.ledger_replay.proofs.Caused.{by_own, by_session, one-longer}
 use Rattle.ledger_replay.proofs.replay.Replay.leave.Goals as goal
 
-pub returns-in-Some : goal.returns-in-Some
-returns-in-Some c past was =
+pub returns-in-Some-clause-judged : goal.returns-in-Some-clause-judged
+returns-in-Some-clause-judged c past was =
     by_session (tables_of c.args.self.now) past (event.Leave c.args.session) may_anything c.args.session _ c.in-Some.cause was refl
     (c.in-Some.ensures past was.sessions_are)
 
-pub returns : goal.returns
-returns c past was = record {
+pub returns-clause-judged : goal.returns-clause-judged
+returns-clause-judged c past was = record {
   legal = (
     was.legal,
     by_own (tables_of c.args.self.now) past (event.Leave c.args.session) may_anything c.args.session _ was refl

@@ -7,19 +7,19 @@ use Rattle.ledger_replay.proofs.Caused.{by_session}
 use Rattle.ledger_replay.proofs.ChannelsMoved.{may_get-told, name-refused, name-taken}
 use Rattle.ledger_replay.proofs.replay.Replay.name.Goals as goal
 
-pub returns-in-Some : goal.returns-in-Some
-returns-in-Some c past was =
+pub returns-in-Some-clause-judged : goal.returns-in-Some-clause-judged
+returns-in-Some-clause-judged c past was =
     by_session (tables_of c.args.self.now) past (event.Name c.args.session c.args.channel c.args.account) may_mine c.args.session _ c.in-Some.cause was refl
     (c.in-Some.ensures past was.sessions_are)
 
-pub returns-then-not-may_be_named : goal.returns-then-not-may_be_named
-returns-then-not-may_be_named c past was =
+pub returns-then-not-may_be_named-clause-judged : goal.returns-then-not-may_be_named-clause-judged
+returns-then-not-may_be_named-clause-judged c past was =
     name-refused (tables_of c.args.self.now) past c.args.session c.args.channel c.args.account
     was (c.in_default.ensures past was.sessions_are)
     (may_get-told (tables_of c.args.self.now) past c.args.session c.args.channel c.args.account _ _ was c.own.ensures (cc))
 
-pub returns : goal.returns
-returns c past was =
+pub returns-clause-judged : goal.returns-clause-judged
+returns-clause-judged c past was =
     name-taken (tables_of c.args.self.now) c.apply.new.self past c.args.session c.args.channel c.args.account
     c.other_events_leave_sessions.ensures c.other_events_leave_grants.ensures was (c.in_default.ensures past was.sessions_are)
     (may_get-told (tables_of c.args.self.now) past c.args.session c.args.channel c.args.account _ _ was c.own.ensures (cc))

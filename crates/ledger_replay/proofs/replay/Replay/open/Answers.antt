@@ -17,22 +17,22 @@ checked replay past session kind text account class was same opens = record {
   in_range = opens.in_range;
 }
 
-pub returns-in-Err-next_opening : goal.returns-in-Err-next_opening
-returns-in-Err-next_opening c past was =
+pub returns-in-Err-next_opening-clause-judged : goal.returns-in-Err-next_opening-clause-judged
+returns-in-Err-next_opening-clause-judged c past was =
     open-refused (tables_of c.args.self.now) c.next_opening.new.channels past c.args.session c.args.kind c.args.account c.args.class c.args.lead.now
     c.length_to_try-len.result c.in-Err-next_opening.refusal _
     (checked c.args.self.now past c.args.session c.args.kind c.text.result.now c.args.account c.args.class was c.text.ensures.value c.in-Ok.ensures.opens.1)
     c.length_to_try-len.ensures.same c.in-Err-next_opening.ensures.refused c.in-Err-next_opening.ensures.same c.opening_error.ensures
 
-pub returns-then-not-is_lead : goal.returns-then-not-is_lead
-returns-then-not-is_lead c past was =
+pub returns-then-not-is_lead-clause-judged : goal.returns-then-not-is_lead-clause-judged
+returns-then-not-is_lead-clause-judged c past was =
     open-bad (tables_of c.args.self.now) c.next_opening.new.channels past c.args.session c.args.kind c.args.account c.args.class c.args.lead.now
     c.length_to_try-len.result c.in-Ok-next_opening.next.lead
     (checked c.args.self.now past c.args.session c.args.kind c.text.result.now c.args.account c.args.class was c.text.ensures.value c.in-Ok.ensures.opens.1)
     c.length_to_try-len.ensures.same c.in-Ok-next_opening.ensures.opened (cc) c.in-Ok-next_opening.ensures.same
 
-pub returns : goal.returns
-returns c past was =
+pub returns-clause-judged : goal.returns-clause-judged
+returns-clause-judged c past was =
     open-taken (tables_of c.args.self.now) c.next_opening.new.channels c.apply.new.self past c.args.session c.args.kind c.args.account c.args.class c.args.lead.now
     c.length_to_try-len.result c.in-Ok-next_opening.next.lead c.in-Ok.class
     c.other_events_leave_sessions.ensures c.other_events_leave_grants.ensures

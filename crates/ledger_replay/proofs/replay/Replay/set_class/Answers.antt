@@ -8,26 +8,26 @@ use Rattle.ledger_replay.proofs.Caused.{by_session}
 use Rattle.ledger_replay.proofs.ChannelsMoved.{channels-same, class-out, class-refused, class-taken, may_become-told}
 use Rattle.ledger_replay.proofs.replay.Replay.set_class.Goals as goal
 
-pub returns-in-Some : goal.returns-in-Some
-returns-in-Some c past was =
+pub returns-in-Some-clause-judged : goal.returns-in-Some-clause-judged
+returns-in-Some-clause-judged c past was =
     by_session (tables_of c.args.self.now) past (event.Class c.args.session c.args.channel c.args.class) may_mine c.args.session _ c.in-Some.cause was refl
     (c.in-Some.ensures past was.sessions_are)
 
-pub returns-in_default-class_in_range : goal.returns-in_default-class_in_range
-returns-in_default-class_in_range c past was =
+pub returns-in_default-class_in_range-clause-judged : goal.returns-in_default-class_in_range-clause-judged
+returns-in_default-class_in_range-clause-judged c past was =
     class-out (tables_of c.args.self.now) past c.args.session c.args.channel c.args.class
     was (c.in_default.ensures past was.sessions_are) (c.in_default-class_in_range.ensures.none refl)
 
-pub returns-then-not-may_change_to : goal.returns-then-not-may_change_to
-returns-then-not-may_change_to c past was =
+pub returns-then-not-may_change_to-clause-judged : goal.returns-then-not-may_change_to-clause-judged
+returns-then-not-may_change_to-clause-judged c past was =
     class-refused (tables_of c.args.self.now) past c.args.session c.args.channel c.args.class
     was (c.in_default.ensures past was.sessions_are)
     (may_become-told (tables_of c.args.self.now) past c.args.session c.args.channel c.args.class _ _ was
     c.in-Some-class_in_range.ensures.some.1 c.own.ensures
     (let given : c.in-Some-class_in_range.class ≡ c.args.class = c.in-Some-class_in_range.ensures.some.0 in cc))
 
-pub returns-in-Ok : goal.returns-in-Ok
-returns-in-Ok c past was =
+pub returns-in-Ok-clause-judged : goal.returns-in-Ok-clause-judged
+returns-in-Ok-clause-judged c past was =
     class-taken (tables_of c.args.self.now) c.set_class.new.self past c.args.session c.args.channel c.args.class
     c.other_events_leave_sessions.ensures c.other_events_leave_grants.ensures was (c.in_default.ensures past was.sessions_are)
     (may_become-told (tables_of c.args.self.now) past c.args.session c.args.channel c.args.class _ _ was
@@ -36,6 +36,6 @@ returns-in-Ok c past was =
     (subst (λ class. IsTold c.set_class.new.self (Sets c.args.self.now.events c.args.channel class ∷ channel_moves past))
     c.in-Some-class_in_range.ensures.some.0 (c.in-Ok.ensures.told (channel_moves past) was.channels_are))
 
-pub returns-in-Err : goal.returns-in-Err
-returns-in-Err c past was =
+pub returns-in-Err-clause-judged : goal.returns-in-Err-clause-judged
+returns-in-Err-clause-judged c past was =
     channels-same (tables_of c.args.self.now) c.set_class.new.self past was c.in-Err.ensures.refused

@@ -5,8 +5,8 @@ use Rattle.ledger_replay.specs.Replays.{HasCause}
 use Rattle.ledger_replay.proofs.Caused.{cause-known}
 use Rattle.ledger_replay.proofs.replay.Replay.take.Goals as goal
 
-pub returns-in-Start : goal.returns-in-Start
-returns-in-Start c past was = (
+pub returns-in-Start-clause-judged : goal.returns-in-Start-clause-judged
+returns-in-Start-clause-judged c past was = (
   subst (λ e. HasCause past e cause.BadStart) (sym c.in-Start.is) (cause-known past (event.Start c.in-Start.field-0) c.args.self.now.rules was.rules_are),
   was,
 )

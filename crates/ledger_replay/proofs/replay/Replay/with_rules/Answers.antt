@@ -10,8 +10,8 @@ pub new-requires-2 : goal.new-requires-2
 new-requires-2 c =
     record { window = subst (λ w. IsTrue (is_window w)) (sym c.rule_of-rule.ensures) (window_and_limit c.args.rules c.requires).0 }
 
-pub returns : goal.returns
-returns c = record {
+pub returns-clause-told : goal.returns-clause-told
+returns-clause-told c = record {
   legal = (tt, ap (λ b. cond b None (Some cause.BadStart)) c.requires);
   rules_are = refl;
   events_are = omega arith;
