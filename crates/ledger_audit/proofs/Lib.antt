@@ -1,1 +1,2 @@
-mod OneVerdict
+pub mod Holding
+pub mod Taken

@@ -1,2 +1,9 @@
+pub mod Auditing
+pub mod Duty
+pub mod Lacking
 pub mod Lines
+pub mod OneVerdict
+pub mod Sound
+pub mod Stops
+pub mod Units
 pub mod Verdicts

@@ -9,13 +9,10 @@ use Rattle.pool_history.specs.Sessions.{past_of}
 use Rattle.ledger_laws.specs.Growing.{hash_after}
 use Rattle.ledger_laws.specs.Keeping.{IsKept}
 use Rattle.ledger_laws.specs.WellFormed.{CanBeKept}
+use Rattle.ledger_audit.specs.declared.format.Format.{Format}
+use Rattle.ledger_audit.specs.declared.format.Format.TheVariants.{Plain, Chained}
 use Rattle.ledger_audit.specs.declared.verdict.Verdict.{Verdict}
 use Rattle.ledger_audit.specs.declared.verdict.Verdict.TheVariants as verdict
-
--- the two formats of a ledger
-pub data Format : Type 0 where
-  Plain : Format
-  Chained : Format
 
 -- the ledger of a history in a format
 abbrev pub text_in : Format → List Event → List ℕ

@@ -12,7 +12,6 @@ use Rattle.ledger_laws.specs.Growing.{hash_after}
 use Rattle.ledger_laws.specs.OneLedger.{ReadsTheSame}
 use Rattle.ledger_laws.specs.WellFormed.{CanBeKept}
 use Rattle.pool_base.specs.Lists.{Begins}
-use Rattle.pool_history.specs.declared.causes.Cause.{Cause}
 use Rattle.pool_history.specs.declared.events.Event.{Event}
 use Rattle.pool_history.specs.Ledger.{chained, ledger_text, ledger_text_1, magic_1, magic_2, record_of}
 use Rattle.pool_history.specs.Legal.{cause_of}
@@ -20,7 +19,10 @@ use Rattle.pool_history.specs.Sessions.{past_of}
 use Rattle.sha2.specs.Sha256.{sha256}
 use Rattle.ledger_audit.specs.declared.verdict.Verdict.{Verdict}
 use Rattle.ledger_audit.specs.declared.verdict.Verdict.TheVariants as verdict
-use Rattle.ledger_audit.specs.Verdicts.{BeginsLegal, BeginsRecord, Chained, Format, HasHash, HasNoMagic, IsChained, IsVerdictOf, KeptLedgersAreLegal, OldLedgersAreLegal, Plain, VerdictsAreOne, text_in}
+use Rattle.ledger_audit.specs.declared.format.Format.{Format}
+use Rattle.ledger_audit.specs.declared.format.Format.TheVariants.{Plain, Chained}
+use Rattle.ledger_audit.specs.Stops.{StopsBy}
+use Rattle.ledger_audit.specs.Verdicts.{BeginsLegal, BeginsRecord, HasHash, HasNoMagic, IsChained, IsVerdictOf, KeptLedgersAreLegal, OldLedgersAreLegal, VerdictsAreOne, text_in}
 
 pub kept-legal : KeptLedgersAreLegal
 kept-legal history kept = record {
@@ -37,7 +39,7 @@ old-legal history kept = record {
 }
 
 -- behind a ledger there is one event more, as it is in a legal one
-record GoesOn (format : Format) (before : List Event) (behind : List ℕ) : Type 0 where
+pub record GoesOn (format : Format) (before : List Event) (behind : List ℕ) : Type 0 where
   pub event : Event
   pub rest : List ℕ
   pub one : BeginsRecord event behind rest
@@ -108,11 +110,11 @@ begin-alike : (format : Format) (one other : List Event) (bytes behind_one behin
 begin-alike Plain one other bytes behind_one behind_other a b n = old_ledgers_begin one other behind_one behind_other a.kept.has_ledger b.kept.has_ledger n (sym a.text ∙ b.text)
 begin-alike Chained one other bytes behind_one behind_other a b n = ledgers_begin one other behind_one behind_other a.kept.has_ledger b.kept.has_ledger n (sym a.text ∙ b.text)
 
-record AreSame (one other : List Event) (behind_one behind_other : List ℕ) : Type 0 where
+pub record AreSame (one other : List Event) (behind_one behind_other : List ℕ) : Type 0 where
   pub history : one ≡ other
   pub behind : behind_one ≡ behind_other
 
-shorter : (format : Format) (one other : List Event) (bytes behind_one behind_other : List ℕ)
+pub shorter : (format : Format) (one other : List Event) (bytes behind_one behind_other : List ℕ)
     → BeginsLegal format one bytes behind_one → BeginsLegal format other bytes behind_other → length one ≤ length other
     → AreSame one other behind_one behind_other ⊎ GoesOn format one behind_one
 shorter format one other bytes behind_one behind_other a b n = by_more (begin-alike format one other bytes behind_one behind_other a b n) where
@@ -125,35 +127,6 @@ shorter format one other bytes behind_one behind_other a b n = by_more (begin-al
       })
   by_more ((e ∷ more), same) = inr (goes-on format one e more bytes behind_one behind_other a (subst (λ h. BeginsLegal format h bytes behind_other) (sym same) b))
 
--- why a ledger ends behind a history: nothing, an illegal record, another hash, or no record
-record StopsIllegal (format : Format) (before : List Event) (behind : List ℕ) (number : ℕ) (cause : Cause) : Type 0 where
-  pub event : Event
-  pub rest : List ℕ
-  pub number_is : number ≡ length before
-  pub one : BeginsRecord event behind rest
-  pub has_hash : HasHash format rest
-  pub is_chained : IsChained format (before ++ event ∷ []) rest
-  pub caused : cause_of (past_of before) event ≡ Some cause
-
-record StopsBroken (format : Format) (before : List Event) (behind : List ℕ) (number : ℕ) : Type 0 where
-  pub event : Event
-  pub rest : List ℕ
-  pub number_is : number ≡ length before
-  pub one : BeginsRecord event behind rest
-  pub has_hash : HasHash format rest
-  pub broken : IsChained format (before ++ event ∷ []) rest → ⊥
-
-record StopsBare (format : Format) (before : List Event) (behind : List ℕ) (place : ℕ) : Type 0 where
-  pub some : 0 < length behind
-  pub place_is : place ≡ length (text_in format before)
-  pub none : (event : Event) (rest : List ℕ) → BeginsRecord event behind rest → HasHash format rest → ⊥
-
-Stops : Format → List Event → List ℕ → Verdict → Type 0
-Stops format before behind verdict.Legal = behind ≡ []
-Stops format before behind (verdict.Illegal number cause) = StopsIllegal format before behind number cause
-Stops format before behind (verdict.BrokenChain number) = StopsBroken format before behind number
-Stops format before behind (verdict.NotALedger place) = StopsBare format before behind place
-
 -- one record is read of what is behind
 same-record : (e f : Event) (behind x y : List ℕ) → BeginsRecord e behind x → BeginsRecord f behind y → ReadsTheSame e f x y
 same-record e f behind x y a b = read_back e f x y a.can_be_kept b.can_be_kept (sym a.is ∙ b.is)
@@ -164,8 +137,7 @@ no-record e behind rest none one = absurd (empty (sym none ∙ one.is)) where
   empty same = cc
 
 -- where it stops it doesn't go on
-stops-here : (format : Format) (before : List Event) (behind : List ℕ) (v : Verdict) → Stops format before behind v → GoesOn format before behind → ⊥
-unfolding Stops
+pub stops-here : (format : Format) (before : List Event) (behind : List ℕ) (v : Verdict) → StopsBy format before behind v → GoesOn format before behind → ⊥
 stops-here format before behind verdict.Legal none more = no-record more.event behind more.rest none more.one
 stops-here format before behind (verdict.Illegal number cause) stop more =
     let same : ReadsTheSame stop.event more.event stop.rest more.rest = same-record stop.event more.event behind stop.rest more.rest stop.one more.one in
@@ -176,8 +148,7 @@ stops-here format before behind (verdict.BrokenChain number) stop more =
 stops-here format before behind (verdict.NotALedger place) stop more = stop.none more.event more.rest more.one more.has_hash
 
 -- and it stops for one reason
-one-stop : (format : Format) (before : List Event) (behind : List ℕ) (v w : Verdict) → Stops format before behind v → Stops format before behind w → v ≡ w
-unfolding Stops
+one-stop : (format : Format) (before : List Event) (behind : List ℕ) (v w : Verdict) → StopsBy format before behind v → StopsBy format before behind w → v ≡ w
 one-stop format before behind verdict.Legal verdict.Legal a b = refl
 one-stop format before behind verdict.Legal (verdict.Illegal number cause) a b = no-record b.event behind b.rest a b.one
 one-stop format before behind verdict.Legal (verdict.BrokenChain number) a b = no-record b.event behind b.rest a b.one
@@ -208,19 +179,18 @@ one-stop format before behind (verdict.NotALedger place) (verdict.BrokenChain nu
 one-stop format before behind (verdict.NotALedger place) (verdict.NotALedger other) a b = ap verdict.NotALedger (a.place_is ∙ sym b.place_is)
 
 -- a verdict says where a ledger stops, or that there is no magic
-record Stopped (bytes : List ℕ) (v : Verdict) : Type 0 where
+pub record Stopped (bytes : List ℕ) (v : Verdict) : Type 0 where
   pub format : Format
   pub before : List Event
   pub behind : List ℕ
   pub begins : BeginsLegal format before bytes behind
-  pub stops : Stops format before behind v
+  pub stops : StopsBy format before behind v
 
 record HasNone (bytes : List ℕ) (v : Verdict) : Type 0 where
   pub is : v ≡ verdict.NotALedger 0
   pub none : HasNoMagic bytes
 
 stopped : (bytes : List ℕ) (v : Verdict) → IsVerdictOf bytes v → Stopped bytes v ⊎ HasNone bytes v
-unfolding Stops
 stopped bytes verdict.Legal l = inl (record { format = l.format; before = l.history; behind = []; begins = l.whole; stops = refl })
 stopped bytes (verdict.Illegal number cause) i = inl (record {
   format = i.format;
@@ -248,27 +218,27 @@ stopped bytes (verdict.NotALedger place) n =
 
 -- two stops of one format are one
 same-format : (format : Format) (bytes : List ℕ) (v w : Verdict) (one other : List Event) (behind_one behind_other : List ℕ)
-    → BeginsLegal format one bytes behind_one → BeginsLegal format other bytes behind_other → Stops format one behind_one v → Stops format other behind_other w → v ≡ w
+    → BeginsLegal format one bytes behind_one → BeginsLegal format other bytes behind_other → StopsBy format one behind_one v → StopsBy format other behind_other w → v ≡ w
 same-format format bytes v w one other behind_one behind_other a b stop_one stop_other =
     ⊎_elim (λ less. sym (up_to other one w v behind_other behind_one b a stop_other stop_one (omega (arith, less))))
     (λ most. up_to one other v w behind_one behind_other a b stop_one stop_other most) (cases_lt (length other) (length one)) where
-      up_to : (h k : List Event) (x y : Verdict) (p q : List ℕ) → BeginsLegal format h bytes p → BeginsLegal format k bytes q → Stops format h p x → Stops format k q y
+      up_to : (h k : List Event) (x y : Verdict) (p q : List ℕ) → BeginsLegal format h bytes p → BeginsLegal format k bytes q → StopsBy format h p x → StopsBy format k q y
           → length h ≤ length k → x ≡ y
       up_to h k x y p q s t stop_h stop_k n =
           ⊎_elim (λ same. one-stop format h p x y stop_h
-          (subst (λ (z : List ℕ). Stops format h z y) (sym same.behind) (subst (λ (z : List Event). Stops format z q y) (sym same.history) stop_k)))
+          (subst (λ (z : List ℕ). StopsBy format h z y) (sym same.behind) (subst (λ (z : List Event). StopsBy format z q y) (sym same.history) stop_k)))
           (λ more. absurd (stops-here format h p x stop_h more)) (shorter format h k bytes p q s t n)
 
 -- a ledger has its magic
-has-magic : (format : Format) (history : List Event) (bytes behind : List ℕ) → BeginsLegal format history bytes behind → HasNoMagic bytes → ⊥
+pub has-magic : (format : Format) (history : List Event) (bytes behind : List ℕ) → BeginsLegal format history bytes behind → HasNoMagic bytes → ⊥
 has-magic Plain history bytes behind begins none = none.plain (flat_map record_of history ++ behind) (begins.text ∙ append_assoc magic_1 (flat_map record_of history) behind)
 has-magic Chained history bytes behind begins none =
     none.chained (joined (chained (sha256 magic_2) history) ++ behind)
     (begins.text ∙ ap (λ t. t ++ behind) (text_pieces (chained (sha256 magic_2) history)) ∙ append_assoc magic_2 (joined (chained (sha256 magic_2) history)) behind)
 
-two-stops : (bytes : List ℕ) (v w : Verdict) → Stopped bytes v → Stopped bytes w → v ≡ w
+pub two-stops : (bytes : List ℕ) (v w : Verdict) → Stopped bytes v → Stopped bytes w → v ≡ w
 two-stops bytes v w a b = by_formats a.format b.format a.begins b.begins a.stops b.stops where
-  by_formats : (f g : Format) → BeginsLegal f a.before bytes a.behind → BeginsLegal g b.before bytes b.behind → Stops f a.before a.behind v → Stops g b.before b.behind w → v ≡ w
+  by_formats : (f g : Format) → BeginsLegal f a.before bytes a.behind → BeginsLegal g b.before bytes b.behind → StopsBy f a.before a.behind v → StopsBy g b.before b.behind w → v ≡ w
   by_formats Plain Plain x y s t = same-format Plain bytes v w a.before b.before a.behind b.behind x y s t
   by_formats Chained Chained x y s t = same-format Chained bytes v w a.before b.before a.behind b.behind x y s t
   by_formats Plain Chained x y s t = absurd (formats_differ b.before a.before b.behind a.behind (sym y.text ∙ x.text))
