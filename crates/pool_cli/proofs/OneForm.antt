@@ -6,7 +6,7 @@ use Rattle.std.proofs.lemmas.Nat.{from_le_bytes-to_le_bytes_4}
 use Rattle.fixed_job.specs.declared.judge.Job.{Job}
 use Rattle.pool_cli.specs.Numbers.{IsNumber}
 use Rattle.pool_cli.specs.declared.words.Form.{Form}
-use Rattle.pool_cli.specs.declared.words.Form.TheVariants.{SoloFixed, Frames, Solo}
+use Rattle.pool_cli.specs.declared.words.Form.TheVariants.{SoloFixed, Frames, Solo, Audit, Migrate}
 use Rattle.pool_cli.specs.Forms.{IsJob, IsSoloFixed, IsForm}
 use Rattle.pool_cli.specs.Running.{IsWithinLimits}
 
@@ -51,8 +51,26 @@ one_form words Solo (SoloFixed class job) is also = absurd (let both = sym also.
 one_form words Frames Solo is also = absurd (let both = sym is ∙ also.spelled in cc)
 one_form words Solo Frames is also = absurd (let both = sym also ∙ is.spelled in cc)
 one_form words Solo Solo is also = refl
+one_form words (SoloFixed class job) Audit is also = absurd (let both = sym is.spelled ∙ also.spelled in cc)
+one_form words Audit (SoloFixed class job) is also = absurd (let both = sym also.spelled ∙ is.spelled in cc)
+one_form words Frames Audit is also = absurd (let both = sym is ∙ also.spelled in cc)
+one_form words Audit Frames is also = absurd (let both = sym also ∙ is.spelled in cc)
+one_form words Solo Audit is also = absurd (let both = sym is.spelled ∙ also.spelled in cc)
+one_form words Audit Solo is also = absurd (let both = sym also.spelled ∙ is.spelled in cc)
+one_form words Audit Audit is also = refl
+one_form words (SoloFixed class job) Migrate is also = absurd (let both = sym is.spelled ∙ also.spelled in cc)
+one_form words Migrate (SoloFixed class job) is also = absurd (let both = sym also.spelled ∙ is.spelled in cc)
+one_form words Frames Migrate is also = absurd (let both = sym is ∙ also.spelled in cc)
+one_form words Migrate Frames is also = absurd (let both = sym also ∙ is.spelled in cc)
+one_form words Solo Migrate is also = absurd (let both = sym is.spelled ∙ also.spelled in cc)
+one_form words Migrate Solo is also = absurd (let both = sym also.spelled ∙ is.spelled in cc)
+one_form words Audit Migrate is also = absurd (let both = sym is.spelled ∙ also.spelled in cc)
+one_form words Migrate Audit is also = absurd (let both = sym also.spelled ∙ is.spelled in cc)
+one_form words Migrate Migrate is also = refl
 
 pub within_limits : (words : List (List ℕ)) (form : Form) → IsForm words form → IsWithinLimits form
 within_limits words (SoloFixed class job) is = is.limit
 within_limits words Frames is = tt
 within_limits words Solo is = tt
+within_limits words Audit is = tt
+within_limits words Migrate is = tt

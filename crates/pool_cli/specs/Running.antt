@@ -4,14 +4,16 @@ use Rattle.pool_turns.specs.declared.status.Status.{Status}
 use Rattle.pool_turns.specs.Duties.{Duty}
 use Rattle.pool_turns.specs.Rows.{AsksForStreams, StreamRow}
 use Rattle.pool_turns.specs.Statuses.{status_code}
+use Rattle.audit_command.specs.Row.{AuditRow}
 use Rattle.fixed_job.specs.Duty.{share_duty}
 use Rattle.frame_listing.specs.Duty.{listing_duty}
+use Rattle.migrate_command.specs.Row.{MigrateRow}
 use Rattle.settings_file.specs.Views.{HostView}
 use Rattle.solo_session.specs.Solo.{Accounts}
 use Rattle.solo_command.specs.Row.{SoloRow, meanings_of}
 use Rattle.pool_cli.specs.declared.words.Form.{Form}
-use Rattle.pool_cli.specs.declared.words.Form.TheVariants.{SoloFixed, Frames, Solo}
-use Rattle.pool_cli.specs.Forms.{IsSolo}
+use Rattle.pool_cli.specs.declared.words.Form.TheVariants.{SoloFixed, Frames, Solo, Audit, Migrate}
+use Rattle.pool_cli.specs.Forms.{IsAudit, IsMigrate, IsSolo}
 
 -- a command over standard input and output: what it owes at each status, and that it asked for
 -- these alone
@@ -28,6 +30,10 @@ OwesRow told words (SoloFixed class job) old new status =
 OwesRow told words Frames old new status = OwesStreams told listing_duty old new status
 OwesRow told words Solo old new status =
     (names : IsSolo words) × SoloRow told names.settings names.ledger old new status
+OwesRow told words Audit old new status =
+    (name : IsAudit words) × AuditRow (meanings_of told) name.ledger old new status
+OwesRow told words Migrate old new status =
+    (names : IsMigrate words) × MigrateRow told names.old_ledger names.new_ledger old new status
 
 -- the answer is the number of a status, and what the form owes at it stands
 pub record DoesForm {S T K : Type 0} (told : Accounts S T K) (words : List (List ℕ)) (form : Form)
@@ -41,3 +47,5 @@ abbrev pub IsWithinLimits : Form → Type 0
 IsWithinLimits (SoloFixed class job) = class ≤ 60
 IsWithinLimits Frames = Unit {0}
 IsWithinLimits Solo = Unit {0}
+IsWithinLimits Audit = Unit {0}
+IsWithinLimits Migrate = Unit {0}

@@ -4,15 +4,19 @@ ghost use Rattle.std.specs.Prelude.{◌≡◌, ◌==◌, ◌↔◌, ◌⊎◌};
 ghost use Rattle.pool_io.specs.Outside.{CountsFailure};
 ghost use Rattle.pool_turns.specs.declared.status.Status.{Status as Answer};
 ghost use Rattle.pool_turns.specs.Statuses.{status_code};
+ghost use Rattle.audit_command.specs.Row.{AuditRow};
+ghost use Rattle.migrate_command.specs.Row.{MigrateRow};
 ghost use Rattle.settings_file.specs.Views.{IsHandedBack, view_of};
-ghost use Rattle.solo_command.specs.Row.{SoloRow, accounts_of};
+ghost use Rattle.solo_command.specs.Row.{SoloRow, accounts_of, meanings_of};
 ghost use Rattle.pool_cli.specs.declared.words.Form.{Form as Asked};
-ghost use Rattle.pool_cli.specs.Forms.{IsForm, IsSolo, HasNoForm};
+ghost use Rattle.pool_cli.specs.Forms.{IsAudit, IsForm, IsMigrate, IsSolo, HasNoForm};
 ghost use Rattle.pool_cli.specs.Running.{DoesForm, OwesRow, IsWithinLimits};
 
-use crate::words::{Form, Word, form_of, solo_names};
+use crate::words::{Form, Word, audit_name, form_of, migrate_names, solo_names};
+use audit_command::audit_ledger;
 use fixed_job::judge_shares;
 use frame_listing::list_frames;
+use migrate_command::migrate_ledger;
 use pool_io::Host;
 use pool_turns::Status;
 use solo_command::serve_by_settings;
@@ -68,6 +72,8 @@ fn perform<H: Host>(alloc: Global, host: &mut H, words: &[Word], form: Form) -> 
         Form::SoloFixed { class, job } => judge_shares(alloc, host, class, &job),
         Form::Frames => list_frames(alloc, host),
         Form::Solo => serve_named(alloc, host, words),
+        Form::Audit => audit_named(alloc, host, words),
+        Form::Migrate => migrate_named(alloc, host, words),
     }
 }
 
@@ -88,6 +94,49 @@ fn serve_named<H: Host>(alloc: Global, host: &mut H, words: &[Word]) -> Status
             let settings_name = settings.text();
             let ledger_name = ledger.text();
             serve_by_settings(alloc, host, settings_name, ledger_name)
+        }
+        None => unreachable!(),
+    }
+}
+
+/// Audits the ledger that the words name.
+fn audit_named<H: Host>(alloc: Global, host: &mut H, words: &[Word]) -> Status
+    requires names { IsAudit words.now }
+    ensures row { (name : IsAudit words.now) × AuditRow (meanings_of
+        (accounts_of H.S.left H.T.held H.K.records H.S.faults H.T.faults H.K.faults))
+        name.ledger (view_of H.seen H.openings host.old)
+        (view_of H.seen H.openings host.new) result }
+    ensures back { IsHandedBack (view_of H.seen H.openings host.old)
+        (view_of H.seen H.openings host.new) }
+    ensures counts { CountsFailure (status_code result == 7) (H.seen host.old).faults
+        (H.seen host.new).faults }
+{
+    match audit_name(words) {
+        Some(ledger) => {
+            let ledger_name = ledger.text();
+            audit_ledger(alloc, host, ledger_name)
+        }
+        None => unreachable!(),
+    }
+}
+
+/// Keeps the ledger that the words name first anew, in the file that they name second.
+fn migrate_named<H: Host>(alloc: Global, host: &mut H, words: &[Word]) -> Status
+    requires names { IsMigrate words.now }
+    ensures row { (names : IsMigrate words.now) × MigrateRow
+        (accounts_of H.S.left H.T.held H.K.records H.S.faults H.T.faults H.K.faults)
+        names.old_ledger names.new_ledger (view_of H.seen H.openings host.old)
+        (view_of H.seen H.openings host.new) result }
+    ensures back { IsHandedBack (view_of H.seen H.openings host.old)
+        (view_of H.seen H.openings host.new) }
+    ensures counts { CountsFailure (status_code result == 7) (H.seen host.old).faults
+        (H.seen host.new).faults }
+{
+    match migrate_names(words) {
+        Some((old_ledger, new_ledger)) => {
+            let old_name = old_ledger.text();
+            let new_name = new_ledger.text();
+            migrate_ledger(alloc, host, old_name, new_name)
         }
         None => unreachable!(),
     }

@@ -5,7 +5,7 @@ ghost use Rattle.std.specs.Prelude.{IfSome, IfNone, Ok, [], ◌∷◌, codes};
 ghost use Rattle.hex.specs.Hex.{decode_sized};
 ghost use Rattle.pool_cli.specs.Numbers.{IsNumber};
 ghost use Rattle.fixed_job.specs.declared.judge.Job.{Job as Work};
-ghost use Rattle.pool_cli.specs.Forms.{IsJob, IsSolo, IsSoloFixed, IsFrames, IsForm};
+ghost use Rattle.pool_cli.specs.Forms.{IsAudit, IsJob, IsMigrate, IsSolo, IsSoloFixed, IsFrames, IsForm};
 
 use fixed_job::Job;
 use hex::FromHex;
@@ -54,6 +54,10 @@ pub enum Form {
     Frames,
     /// `solo SETTINGS LEDGER`
     Solo,
+    /// `audit LEDGER`
+    Audit,
+    /// `migrate OLD NEW`
+    Migrate,
 }
 
 /// The form that the words have, if they have one.
@@ -66,6 +70,12 @@ pub fn form_of(words: &[Word]) -> Option<Form>
     }
     if solo_names(words).is_some() {
         return Some(Form::Solo);
+    }
+    if audit_name(words).is_some() {
+        return Some(Form::Audit);
+    }
+    if migrate_names(words).is_some() {
+        return Some(Form::Migrate);
     }
     solo_fixed_form(words)
 }
@@ -86,13 +96,40 @@ pub fn solo_names(words: &[Word]) -> Option<(&Word, &Word)>
         ≡ codes "solo" ∷ names.0.now ∷ names.1.now ∷ []) }
     ensures none { IfNone result (IsSolo words.now → ⊥) }
 {
-    let [solo, settings, ledger] = words else {
-        return None;
-    };
-    if !solo.says("solo") {
-        return None;
+    names_behind(words, "solo")
+}
+
+/// The words behind `migrate`, where there are two: the names of the old and the new ledger.
+pub fn migrate_names(words: &[Word]) -> Option<(&Word, &Word)>
+    ensures found { IfSome result (λ names. words.now
+        ≡ codes "migrate" ∷ names.0.now ∷ names.1.now ∷ []) }
+    ensures none { IfNone result (IsMigrate words.now → ⊥) }
+{
+    names_behind(words, "migrate")
+}
+
+/// The two words behind this one, where there are just two.
+fn names_behind<'a>(words: &'a [Word], command: &str) -> Option<(&'a Word, &'a Word)>
+    ensures found { IfSome result (λ names. words.now
+        ≡ command.now ∷ names.0.now ∷ names.1.now ∷ []) }
+    ensures none { IfNone result ((one other : List ℕ)
+        → words.now ≡ command.now ∷ one ∷ other ∷ [] → ⊥) }
+{
+    match words {
+        [word, one, other] if word.says(command) => Some((one, other)),
+        _ => None,
     }
-    Some((settings, ledger))
+}
+
+/// The word behind `audit`, where there is one: the name of the ledger.
+pub fn audit_name(words: &[Word]) -> Option<&Word>
+    ensures found { IfSome result (λ name. words.now ≡ codes "audit" ∷ name.now ∷ []) }
+    ensures none { IfNone result (IsAudit words.now → ⊥) }
+{
+    match words {
+        [audit, ledger] if audit.says("audit") => Some(ledger),
+        _ => None,
+    }
 }
 
 /// The form `solo fixed CLASS JOBHEX`, if the words have it.

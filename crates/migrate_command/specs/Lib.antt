@@ -1,0 +1,4 @@
+pub mod Copying
+pub mod Cutting
+pub mod Row
+pub mod Sound

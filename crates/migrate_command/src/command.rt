@@ -1,0 +1,140 @@
+//! The command, over whatever host: the old ledger and the output are opened in this order, and the
+//! new ledger once the old one was found legal; all that the host gave is handed back.
+
+ghost use Rattle.std.specs.Prelude.{◌≡◌, ◌==◌, ◌<◌};
+ghost use Rattle.pool_io.specs.Outside.{CountsFailure};
+ghost use Rattle.pool_turns.specs.Statuses.{status_code};
+ghost use Rattle.settings_file.specs.Views.{IsHandedBack, view_of};
+ghost use Rattle.solo_command.specs.Row.{accounts_of};
+ghost use Rattle.migrate_command.specs.Row.{FinishRow, KeepRow, MigrateRow, PutsCount, PutsText, status_of_keeper};
+
+use crate::copying::{Copied, copy_ledger};
+use crate::pieces::append_ledger;
+use pool_io::{Host, KeeperFailed, Sink, SinkFailed};
+use pool_summary::put_line;
+use pool_turns::{End, Status, put_all, refusal_status};
+use std::alloc::Global;
+
+/// Keeps the ledger in the file of a name anew, in a new file of the other name, and puts how many
+/// events it has to standard output.
+pub fn migrate_ledger<H: Host>(
+    alloc: Global,
+    host: &mut H,
+    old_name: &str,
+    new_name: &str,
+) -> Status
+    ensures row { MigrateRow
+        (accounts_of H.S.left H.T.held H.K.records H.S.faults H.T.faults H.K.faults)
+        old_name.now new_name.now (view_of H.seen H.openings host.old)
+        (view_of H.seen H.openings host.new) result }
+
+    // Everything that the host gave has come back.
+    ensures back { IsHandedBack (view_of H.seen H.openings host.old)
+        (view_of H.seen H.openings host.new) }
+
+    // The answer is a host's fault exactly where it was counted.
+    ensures counts { CountsFailure (status_code result == 7) (H.seen host.old).faults
+        (H.seen host.new).faults }
+{
+    let mut source = match host.open_source(old_name) {
+        Ok(source) => source,
+        Err(error) => return refusal_status(error),
+    };
+    let mut sink = match host.output() {
+        Ok(sink) => sink,
+        Err(error) => {
+            host.done_source(source);
+            return refusal_status(error);
+        }
+    };
+    let copied = copy_ledger(alloc, &mut source);
+    host.done_source(source);
+    let status = finish(alloc, host, &copied, new_name, &mut sink);
+    host.done_sink(sink);
+    status
+}
+
+/// Keeps what was read anew, or says what is wrong with it.
+fn finish<H: Host>(
+    alloc: Global,
+    host: &mut H,
+    copied: &Copied,
+    new_name: &str,
+    sink: &mut H::T,
+) -> Status
+    ensures row { FinishRow
+        (accounts_of H.S.left H.T.held H.K.records H.S.faults H.T.faults H.K.faults)
+        new_name.now copied.now (view_of H.seen H.openings host.old)
+        (view_of H.seen H.openings host.new) sink.old sink.new result }
+    ensures seen { H.seen host.new ≡ record (H.seen host.old) { faults = (H.seen host.new).faults } }
+    ensures keepers { (H.openings host.new).keepers.lent ≡ (H.openings host.old).keepers.lent }
+    ensures counts { CountsFailure (status_code result == 7) (H.seen host.old).faults
+        (H.seen host.new).faults }
+{
+    match copied.end {
+        End::Done => keep_anew(alloc, host, &copied.bytes, new_name, sink),
+        End::Refused => put_text(sink, &copied.bytes, Status::Refused),
+        other => other.status(),
+    }
+}
+
+/// Keeps a legal ledger anew.
+fn keep_anew<H: Host>(
+    alloc: Global,
+    host: &mut H,
+    bytes: &[u8],
+    new_name: &str,
+    sink: &mut H::T,
+) -> Status
+    ensures row { KeepRow
+        (accounts_of H.S.left H.T.held H.K.records H.S.faults H.T.faults H.K.faults)
+        new_name.now bytes.now (view_of H.seen H.openings host.old)
+        (view_of H.seen H.openings host.new) sink.old sink.new result }
+    ensures seen { H.seen host.new ≡ record (H.seen host.old) { faults = (H.seen host.new).faults } }
+    ensures keepers { (H.openings host.new).keepers.lent ≡ (H.openings host.old).keepers.lent }
+    ensures counts { CountsFailure (status_code result == 7) (H.seen host.old).faults
+        (H.seen host.new).faults }
+{
+    let mut keeper = match host.open_keeper(new_name) {
+        Ok(keeper) => keeper,
+        Err(error) => return refusal_status(error),
+    };
+    let kept = append_ledger(alloc, bytes, &mut keeper);
+    host.done_keeper(keeper);
+    match kept {
+        Ok(count) => put_count(alloc, sink, count),
+        Err(error) => keeper_status(error),
+    }
+}
+
+/// The status where a record wasn't kept.
+fn keeper_status(error: KeeperFailed) -> Status
+    ensures { result ≡ status_of_keeper error }
+{
+    match error {
+        KeeperFailed::Failed => Status::KeeperFault,
+        KeeperFailed::Memory => Status::Memory,
+    }
+}
+
+/// Puts how many events were kept.
+fn put_count<T: Sink>(alloc: Global, sink: &mut T, count: u64) -> Status
+    ensures { PutsCount T.held T.faults sink.old sink.new count result }
+{
+    let mut text = Vec::new(alloc);
+    match put_line(&mut text, b"migrated", count) {
+        Ok(()) => put_text(sink, &text, Status::Done),
+        Err(_) => Status::Memory,
+    }
+}
+
+/// Puts a text, and answers this status if all of it was put.
+fn put_text<T: Sink>(sink: &mut T, text: &[u8], status: Status) -> Status
+    ensures { PutsText T.held T.faults sink.old sink.new text.now status result }
+{
+    match put_all(sink, text) {
+        Ok(()) => status,
+        Err(SinkFailed::Failed) => Status::WriteFault,
+        Err(SinkFailed::Memory) => Status::Memory,
+    }
+}
