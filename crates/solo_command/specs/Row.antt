@@ -18,7 +18,7 @@ use Rattle.settings_file.specs.declared.opening.NoSettings.{NoSettings}
 use Rattle.share_ledger.specs.Books.{IsUnused}
 use Rattle.solo_command.specs.Statuses.{status_of_solo}
 use Rattle.solo_session.specs.declared.serving.SoloEnd.{SoloEnd}
-use Rattle.solo_session.specs.Solo.{Accounts, BlamesNoInput, IsServed, Outsides}
+use Rattle.solo_session.specs.Solo.{Accounts, BlamesNoInput, IsServed, Outsides, ServesGoodInput}
 
 -- what a host's sources, sinks and keepers tell, and how often they failed
 abbrev pub accounts_of : {S T K : Type 0} → (S → Option (List Turn)) → (T → Option (List ℕ))
@@ -65,6 +65,8 @@ pub record ServedOnHost {S T K : Type 0} (told : Accounts S T K) (settings : Set
   -- input that is to blame for nothing isn't blamed
   pub good : (turns : List Turn) → told.left given.source ≡ Some turns
       → IsGoodInput role.Solo settings.rules.version_rolling turns → BlamesNoInput end
+  -- and it is served to its end where nothing else failed
+  pub complete : ServesGoodInput told settings.rules settings.limits.idle_turns given back end
   pub sources : CameBack old.seen.sources new.seen.sources back.source
   pub sinks : CameBack old.seen.sinks new.seen.sinks back.sink
   pub input : new.seen.input ≡ nothing_left old.seen.input

@@ -3,6 +3,7 @@ use Rattle.session_steps.specs.Steps.{calls_in}
 use Rattle.sole_book.specs.Calling.{CallsBook, StandInTurn, added_in}
 use Rattle.solo_session.specs.Solo.{CountsCalls}
 use Rattle.solo_session.proofs.Chained.{acts_seen, counts_calls, ledger_on}
+use Rattle.solo_session.proofs.Completing.{over_well, unbegun_well}
 use Rattle.solo_session.proofs.serving.serve_solo.Goals as goal
 
 pub returns-in-Err-clause-served : goal.returns-in-Err-clause-served
@@ -15,6 +16,9 @@ returns-in-Err-clause-served g c = record {
 
 pub returns-in-Err-clause-good : goal.returns-in-Err-clause-good
 returns-in-Err-clause-good g c = λ told is input. tt
+
+pub returns-in-Err-clause-complete : goal.returns-in-Err-clause-complete
+returns-in-Err-clause-complete g c = λ turns is input free. unbegun_well c.in-Err.cause (g.K.Keeper.faults c.args.keeper) (g.K.Keeper.faults c.in-Err.keeper) c.in-Err.ensures.fault free.counts
 
 pub returns-clause-served : goal.returns-clause-served
 returns-clause-served g c =
@@ -48,3 +52,6 @@ returns-clause-served g c =
 
 pub returns-clause-good : goal.returns-clause-good
 returns-clause-good g c = c.converse-end.ensures.good
+
+pub returns-clause-complete : goal.returns-clause-complete
+returns-clause-complete g c = over_well c.requires.waits (returns-clause-served g c) c.converse-end.ensures.good
