@@ -1,0 +1,45 @@
+-- How counts that stand still at their end add up.
+use Rattle.std.proofs.Common.{◌≡◌, ℕ, ◌+◌, ◌-◌, ◌^◌, ◌≤◌, Bool, true, false, List, [], ◌∷◌, ◌++◌, ap, ◌∙◌, arith}
+use Rattle.std.specs.Prelude.{if◌then◌else◌}
+use Rattle.pool_io.specs.Outside.{next_count}
+use Rattle.pool_history.specs.Calls.{PoolCall}
+use Rattle.desk_worker.specs.Calling.{faults_after, faults_through, is_faulted}
+use Rattle.door_worker.specs.declared.working.DoorEnd.{DoorEnd}
+use Rattle.door_worker.specs.Shifts.{is_failed_end}
+use Rattle.pool_server.specs.Counting.{capped, count_if, failed_in, faulted_in, is_starved_end, starved_in}
+
+one_more : (b : Bool) (n rest : ℕ) → n ≤ 2 ^ 64 - 1
+    → ((if b then next_count n else n) ≤ 2 ^ 64 - 1) × (capped ((if b then next_count n else n) + rest) ≡ capped (n + (count_if b + rest)))
+one_more true n rest fits = (omega (arith, fits), omega (arith, fits))
+one_more false n rest fits = (fits, omega arith)
+
+-- a count through calls is that of those which the keeper's fault answered
+pub through_is : (n : ℕ) (calls : List PoolCall) → n ≤ 2 ^ 64 - 1 → faults_through n calls ≡ capped (n + faulted_in calls)
+through_is n [] fits = omega (arith, fits)
+through_is n (call ∷ calls) fits =
+    let one = one_more (is_faulted call.outcome) n (faulted_in calls) fits in
+    through_is (faults_after n call.outcome) calls one.0 ∙ one.1
+
+pub through_zero : (calls : List PoolCall) → faults_through 0 calls ≡ capped (faulted_in calls)
+through_zero calls =
+    let none : 0 + faulted_in calls ≡ faulted_in calls = omega arith in
+    through_is 0 calls (omega arith) ∙ ap (λ n. capped n) none
+
+pub faulted_both : (xs ys : List PoolCall) → faulted_in (xs ++ ys) ≡ faulted_in xs + faulted_in ys
+faulted_both [] ys = omega arith
+faulted_both (x ∷ xs) ys = let e = faulted_both xs ys in omega (arith, e)
+
+pub failed_more : (xs : List DoorEnd) (x : DoorEnd) → failed_in (xs ++ x ∷ []) ≡ failed_in xs + count_if (is_failed_end x)
+failed_more [] x = omega arith
+failed_more (y ∷ ys) x = let e = failed_more ys x in omega (arith, e)
+
+pub starved_more : (xs : List DoorEnd) (x : DoorEnd) → starved_in (xs ++ x ∷ []) ≡ starved_in xs + count_if (is_starved_end x)
+starved_more [] x = omega arith
+starved_more (y ∷ ys) x = let e = starved_more ys x in omega (arith, e)
+
+-- a capped sum of capped counts
+pub capped_sum : (a b c : ℕ) → capped b ≡ capped c → capped (capped a + b) ≡ capped (a + c)
+capped_sum a b c same = omega (arith, same)
+
+pub capped_more : (count sum more : ℕ) → count ≡ capped sum → capped (count + more) ≡ capped (sum + more)
+capped_more count sum more is = omega (arith, is)

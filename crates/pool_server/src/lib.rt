@@ -1,0 +1,13 @@
+//! Many sessions at once on one book: a feed's link and the callers of any number of doors, each
+//! served by a thread of its own at one desk, with one history left behind. Nothing here opens a
+//! connection, a door or a file.
+#![tactic(auto)]
+
+mod pairing;
+mod parts;
+mod running;
+mod serving;
+
+pub use door_worker::{DoorEnd, work};
+pub use link_session::serve_link;
+pub use serving::{Served, serve};

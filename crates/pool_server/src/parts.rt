@@ -1,0 +1,80 @@
+//! What one thread has in hand, and its work.
+
+ghost use Rattle.std.specs.Prelude.{◌≡◌, ◌<◌};
+ghost use Rattle.pool_server.specs.Parts.{IsAttended};
+
+use desk::{Desk, Pass};
+use desk_worker::DeskWorker;
+use door_worker::{DoorEnd, work};
+use link_session::serve_link;
+use pool_core::SessionEnd;
+use pool_doors::Door;
+use pool_history::Role;
+use pool_io::{Keeper, Limits};
+use share_ledger::Book;
+use std::alloc::Global;
+use std::sync::Wait;
+
+/// The feed's link, or a door, and how that ended, once it did.
+pub(crate) enum Task<D, L> {
+    Feed(L, Option<SessionEnd>),
+    Door(D, Option<DoorEnd>),
+}
+
+/// A task, the pass that asks for it, and how many of its calls the keeper's fault answered.
+pub(crate) struct Part<D, L, K: Keeper> {
+    pub(crate) task: Task<D, L>,
+    pub(crate) pass: Pass<Book<K>>,
+    pub(crate) faults: u64,
+}
+
+/// Does a part's task to its end.
+pub(crate) fn attend<R: Wait, K: Keeper, D: Door>(
+    rt: &R,
+    alloc: Global,
+    desk: &Desk<Book<K>>,
+    rolling: bool,
+    limits: Limits,
+    part: &mut Part<D, D::L, K>,
+)
+    requires desk { part.old.pass.table ≡ desk.now.table }
+    requires waits { (0 < limits.idle_turns) × (0 < limits.door_turns) }
+    ensures { IsAttended (record {
+      door = record {
+        coming = D.coming;
+        out = D.out;
+        back = D.back;
+        faults = D.faults;
+        link = record {
+          left = D.L.left;
+          held = D.L.held;
+          read_faults = D.L.read_faults;
+          write_faults = D.L.write_faults;
+        };
+      };
+      rolling = rolling;
+      idle_turns = limits.idle_turns;
+      door_turns = limits.door_turns;
+    }) part.old part.new }
+{
+    let Part { task, pass, faults } = part;
+    let mut asker = DeskWorker {
+        rt,
+        desk,
+        pass,
+        faults: *faults,
+    };
+    match task {
+        Task::Feed(link, end) => {
+            *end = Some(serve_link(alloc, &mut asker, link, Role::Feed, rolling, limits));
+        }
+        Task::Door(door, end) => *end = Some(work(alloc, &mut asker, door, rolling, limits)),
+    }
+    let DeskWorker {
+        rt: _,
+        desk: _,
+        pass: _,
+        faults: counted,
+    } = asker;
+    *faults = counted;
+}

@@ -1,0 +1,121 @@
+//! All parts at once, each in a thread of its own.
+
+ghost use Rattle.std.specs.Prelude.{◌≡◌, ◌<◌, ◌≤◌, ◌+◌, [], All, length, vec_len};
+ghost use Rattle.std.specs.Vec.{vec_capacity};
+ghost use Rattle.pool_server.specs.Parts.{AttendsByPlace, IsAttended};
+ghost use Rattle.pool_server.specs.Tending.{IsTended};
+
+use crate::pairing::{Tended, pair, unpair};
+use crate::parts::{Part, attend};
+use desk::{Desk, Pass};
+use pool_doors::Door;
+use pool_io::{Keeper, Limits};
+use share_ledger::Book;
+use std::alloc::Global;
+use std::sync::Wait;
+use std::thread;
+use std::thread::Threads;
+
+/// Does the tasks of all parts, in as many threads.
+fn attend_each<R: Threads + Wait + Sync, K: Keeper + Send, D: Door + Send>(
+    rt: &R,
+    alloc: Global,
+    desk: &Desk<Book<K>>,
+    rolling: bool,
+    limits: Limits,
+    parts: &mut [Part<D, D::L, K>],
+)
+where
+    D::L: Send,
+    requires some { 0 < length parts.old }
+    requires desk { All (λ part. part.pass.table ≡ desk.now.table) parts.old }
+    requires waits { (0 < limits.idle_turns) × (0 < limits.door_turns) }
+    ensures { AttendsByPlace (record {
+      door = record {
+        coming = D.coming;
+        out = D.out;
+        back = D.back;
+        faults = D.faults;
+        link = record {
+          left = D.L.left;
+          held = D.L.held;
+          read_faults = D.L.read_faults;
+          write_faults = D.L.write_faults;
+        };
+      };
+      rolling = rolling;
+      idle_turns = limits.idle_turns;
+      door_turns = limits.door_turns;
+    }) parts.old parts.new }
+{
+    let threads = parts.len();
+    thread::for_each_mut(
+        rt,
+        parts,
+        threads,
+        &|_place: usize, part: &mut Part<D, D::L, K>|
+            requires { (part.now.pass.table ≡ desk.now.table)
+                × (0 < limits.idle_turns) × (0 < limits.door_turns) }
+            ensures { IsAttended (record {
+              door = record {
+                coming = D.coming;
+                out = D.out;
+                back = D.back;
+                faults = D.faults;
+                link = record {
+                  left = D.L.left;
+                  held = D.L.held;
+                  read_faults = D.L.read_faults;
+                  write_faults = D.L.write_faults;
+                };
+              };
+              rolling = rolling;
+              idle_turns = limits.idle_turns;
+              door_turns = limits.door_turns;
+            }) part.entry.now part.exit.now }
+        { attend(rt, alloc, desk, rolling, limits, part) },
+    );
+}
+
+/// Serves the feed's link with the first pass and each door with a later one, all at once, and gives
+/// all back in the order in which it came.
+pub(crate) fn run<R: Threads + Wait + Sync, K: Keeper + Send, D: Door + Send>(
+    rt: &R,
+    alloc: Global,
+    desk: &Desk<Book<K>>,
+    mut passes: Vec<Pass<Book<K>>>,
+    mut doors: Vec<D>,
+    feed: D::L,
+    mut parts: Vec<Part<D, D::L, K>>,
+    rolling: bool,
+    limits: Limits,
+) -> Tended<D, D::L, K>
+where
+    D::L: Send,
+    requires desk { All (λ pass. pass.table ≡ desk.now.table) passes.items }
+    requires as_many { vec_len passes ≡ vec_len doors + 1 }
+    requires empty { parts.items ≡ [] }
+    requires room { vec_len doors + 1 ≤ vec_capacity parts }
+    requires waits { (0 < limits.idle_turns) × (0 < limits.door_turns) }
+    ensures { IsTended (record {
+      door = record {
+        coming = D.coming;
+        out = D.out;
+        back = D.back;
+        faults = D.faults;
+        link = record {
+          left = D.L.left;
+          held = D.L.held;
+          read_faults = D.L.read_faults;
+          write_faults = D.L.write_faults;
+        };
+      };
+      rolling = rolling;
+      idle_turns = limits.idle_turns;
+      door_turns = limits.door_turns;
+    }) doors.items feed passes.items result }
+{
+    pair(&mut doors, &mut passes, feed, &mut parts);
+    attend_each(rt, alloc, desk, rolling, limits, parts.as_mut_slice());
+    unpair(parts, doors, passes)
+}
