@@ -16,7 +16,7 @@ use Rattle.pool_history.specs.Calls.{GoodPoolCalls, IsGoodPoolCall, PoolCall, wa
 use Rattle.history_laws.specs.Answered.{BriefsRoll}
 use Rattle.ledger_laws.specs.Requests.{IsWellFormedRequest}
 use Rattle.pool_sessions.specs.Answerers.{Acts, RollsAsBriefed, outcome_of}
-use Rattle.desk_worker.specs.Calling.{CallsDesk, GoesOn, PoolPass, faults_after, faults_through}
+use Rattle.desk_worker.specs.Calling.{AddsCalls, CallsDesk, PoolPass, faults_after, faults_through}
 
 -- a call stands in all that its pass has seen later
 stands : (old : PoolPass) (call : PoolCall) (middle : PoolPass) (seen : List Event) → CallsDesk old call middle → Begins middle.seen seen → IsGoodPoolCall seen call
@@ -34,7 +34,7 @@ begins_length front whole begins =
     let f = ap (λ (l : List Event). length l) begins.1 in
     omega arith
 
-pub goes_on : (old new : PoolPass) (calls : List PoolCall) → Acts CallsDesk old calls new → GoesOn old calls new
+pub goes_on : (old new : PoolPass) (calls : List PoolCall) → Acts CallsDesk old calls new → AddsCalls old calls new
 goes_on old new [] acts =
     rw acts
     (record { calls_are = sym (append-nil old.calls); seen = begins-itself old.seen; good = tt; numbers = omega arith; fronts = omega arith; same = (refl, refl) })
@@ -92,10 +92,10 @@ fronts_both a b c [] ys first then = fronts_later a b c ys first then
 fronts_both a b c (x ∷ xs) ys first then = (first.0, fronts_both (x.front + length x.added) b c xs ys first.1 then)
 
 -- no calls, and calls after calls
-pub goes_none : (pass : PoolPass) → GoesOn pass [] pass
+pub goes_none : (pass : PoolPass) → AddsCalls pass [] pass
 goes_none pass = goes_on pass pass [] refl
 
-pub goes_both : (a b c : PoolPass) (xs ys : List PoolCall) → GoesOn a xs b → GoesOn b ys c → GoesOn a (xs ++ ys) c
+pub goes_both : (a b c : PoolPass) (xs ys : List PoolCall) → AddsCalls a xs b → AddsCalls b ys c → AddsCalls a (xs ++ ys) c
 goes_both a b c xs ys first then = record {
   calls_are = then.calls_are ∙ ap (λ (l : List PoolCall). l ++ ys) first.calls_are ∙ append_assoc a.calls xs ys;
   seen = begins-trans a.seen b.seen c.seen first.seen then.seen;

@@ -42,7 +42,7 @@ pub record CallsDesk (old : PoolPass) (call : PoolCall) (new : PoolPass) : Type 
 -- calls one after the other: they are the pass's calls behind those that it had, what it has seen
 -- begins with what it had, each call stands there and is answered by what is before it, and neither
 -- numbers nor fronts fall
-pub record GoesOn (old : PoolPass) (calls : List PoolCall) (new : PoolPass) : Type 0 where
+pub record AddsCalls (old : PoolPass) (calls : List PoolCall) (new : PoolPass) : Type 0 where
   pub calls_are : new.calls ≡ old.calls ++ calls
   pub seen : Begins old.seen new.seen
   pub good : GoodPoolCalls new.seen calls
@@ -51,13 +51,13 @@ pub record GoesOn (old : PoolPass) (calls : List PoolCall) (new : PoolPass) : Ty
   pub same : IsSamePass old new
 
 -- the keeper failed at a call
-abbrev pub is_faulted : Outcome Reply BookError → Bool
-is_faulted (Replied answer) = false
-is_faulted (Faulted cause) = is_start_fault cause
+abbrev pub has_keeper_failed : Outcome Reply BookError → Bool
+has_keeper_failed (Replied answer) = false
+has_keeper_failed (Faulted cause) = is_start_fault cause
 
 -- a count of the calls at which the keeper failed, after one more call and after all of these
 abbrev pub faults_after : ℕ → Outcome Reply BookError → ℕ
-faults_after count outcome = if is_faulted outcome then next_count count else count
+faults_after count outcome = if has_keeper_failed outcome then next_count count else count
 
 abbrev pub faults_through : ℕ → List PoolCall → ℕ
 faults_through count [] = count

@@ -3,7 +3,7 @@
 ghost use Rattle.std.specs.Prelude.{◌≡◌, ◌<◌, ◌^◌, List};
 ghost use Rattle.pool_history.specs.Calls.{PoolCall};
 ghost use Rattle.pool_sessions.specs.Answerers.{Acts, RollsAsBriefed, outcome_of};
-ghost use Rattle.desk_worker.specs.Calling.{CallsDesk, GoesOn, IsCallOf, PoolPass, is_faulted};
+ghost use Rattle.desk_worker.specs.Calling.{AddsCalls, CallsDesk, IsCallOf, PoolPass, has_keeper_failed};
 
 use desk::{Desk, Pass};
 use history_laws::briefs_roll;
@@ -87,7 +87,7 @@ fn front_of_few(rt: &impl Wait, front: u64) -> u64
 
 /// Whether a request was answered by the keeper's fault.
 fn is_keeper_fault(acted: &Acted) -> bool
-    ensures { result ≡ is_faulted (outcome_of acted.now.outcome) }
+    ensures { result ≡ has_keeper_failed (outcome_of acted.now.outcome) }
 {
     match acted.outcome {
         Ok(_) | Err(BookError::Memory) => false,
@@ -100,5 +100,5 @@ fn is_keeper_fault(acted: &Acted) -> bool
 /// their numbers and fronts rise.
 pub fn desk_calls_go_on()
     ensures { (old new : PoolPass) (calls : List PoolCall)
-        → Acts CallsDesk old calls new → GoesOn old calls new }
+        → Acts CallsDesk old calls new → AddsCalls old calls new }
 {}

@@ -11,7 +11,7 @@ use Rattle.link_session.specs.Visits.{Asking, Manner, Visit}
 use Rattle.link_session.proofs.Asked.{asks_both, asks_none}
 use Rattle.pool_io.specs.Outside.{CountsFailure}
 use Rattle.door_worker.specs.declared.working.DoorEnd.{DoorEnd}
-use Rattle.door_worker.specs.Shifts.{Asked, AreVisits, AsksNext, Attends, AttendsOn, BackWith, ComesOn, DoorTelling, IsWelcomed, IsWorked, Visited, Waited, WaitsOn, arrival_of, calls_at, is_failed_end, links_in}
+use Rattle.door_worker.specs.Shifts.{Asked, AreVisits, AsksDoorOnce, Attends, AttendsOn, BackWith, ComesOn, DoorTelling, IsWelcomed, IsWorked, Visited, Waited, WaitsOn, arrival_of, calls_at, is_failed_end, links_in}
 
 module _ {L : Type 0} where
   links_both : (xs ys : List (Asked L)) → links_in (xs ++ ys) ≡ links_in xs ++ links_in ys
@@ -164,14 +164,14 @@ module _ {D L : Type 0} (telling : DoorTelling D L) (manner : Manner) (door_turn
 
 module _ {D L : Type 0} {telling : DoorTelling D L} {manner : Manner} {door_turns a b : ℕ} {before between after : D} {old middle new : Asking} where
   -- the door was asked once more
-  pub on_next : {left : ℕ} → AttendsOn telling manner door_turns a b before between old middle → AsksNext telling manner door_turns b between after middle new (Ok left)
+  pub on_next : {left : ℕ} → AttendsOn telling manner door_turns a b before between old middle → AsksDoorOnce telling manner door_turns b between after middle new (Ok left)
       → AttendsOn telling manner door_turns a left before after old new
   on_next so_far next = on_both telling manner door_turns so_far (subst (λ n. AttendsOn telling manner door_turns b n between after middle new) next.next.0 next.attends)
 
 -- and for the last time
 pub worked : {D L : Type 0} {telling : DoorTelling D L} {manner : Manner} {door_turns b : ℕ} {before between after : D} {old middle new : Asking} {reason : DoorEnd}
     → AttendsOn telling manner door_turns door_turns b before between old middle → telling.faults between ≡ telling.faults before
-    → AsksNext telling manner door_turns b between after middle new (Err reason) → IsWorked telling manner door_turns before after old new reason
+    → AsksDoorOnce telling manner door_turns b between after middle new (Err reason) → IsWorked telling manner door_turns before after old new reason
 worked {telling = telling} {manner = manner} {door_turns = door_turns} {after = after} {reason = reason} so_far same next =
     let all = on_both telling manner door_turns so_far next.attends in
     record {

@@ -9,7 +9,7 @@ use Rattle.pool_history.specs.Calls.{PoolCall}
 use Rattle.session_steps.specs.declared.ends.SessionEnd.{SessionEnd}
 use Rattle.session_steps.specs.Steps.{calls_in}
 use Rattle.pool_sessions.specs.Links.{Telling}
-use Rattle.link_session.specs.Visits.{Asking, Asks, IsServed, IsVisit, Manner, Visit}
+use Rattle.link_session.specs.Visits.{Asking, AsksByPass, IsVisit, Manner, ServesLink, Visit}
 use Rattle.door_worker.specs.declared.working.DoorEnd.{DoorEnd}
 use Rattle.door_worker.specs.declared.working.DoorEnd.TheVariants as end
 
@@ -121,14 +121,14 @@ pub record IsWorked {D L : Type 0} (telling : DoorTelling D L) (manner : Manner)
     answers = answers;
     reason = reason;
   })
-  pub asks : Asks old (calls_at answers) new
+  pub asks : AsksByPass old (calls_at answers) new
 
 -- what was done so far, and whether it goes on with so many Idle answers to wait for
 pub record AttendsOn {D L : Type 0} (telling : DoorTelling D L) (manner : Manner)
     (door_turns turns now : ℕ) (before after : D) (old new : Asking) : Type 0 where
   pub answers : List (Asked L)
   pub attends : Attends telling manner old.pass.worker door_turns turns now before after answers
-  pub asks : Asks old (calls_at answers) new
+  pub asks : AsksByPass old (calls_at answers) new
 
 abbrev pub GoesOnOrStops :
     {D L : Type 0} → DoorTelling D L → ℕ → D → D → Result ℕ DoorEnd → Type 0
@@ -139,7 +139,7 @@ GoesOnOrStops telling now before after (Err reason) =
     × CountsFailure (is_failed_end reason) (telling.faults before) (telling.faults after)
 
 -- the door was asked once
-pub record AsksNext {D L : Type 0} (telling : DoorTelling D L) (manner : Manner)
+pub record AsksDoorOnce {D L : Type 0} (telling : DoorTelling D L) (manner : Manner)
     (door_turns turns : ℕ) (before after : D) (old new : Asking) (result : Result ℕ DoorEnd) :
     Type 0 where
   pub now : ℕ
@@ -151,7 +151,7 @@ pub record IsWelcomed {D L : Type 0} (telling : DoorTelling D L) (manner : Manne
     (before after : D) (old new : Asking) : Type 0 where
   pub link_back : L
   pub reason : SessionEnd
-  pub served : IsServed telling.link manner link link_back old new reason
+  pub served : ServesLink telling.link manner link link_back old new reason
   pub back : telling.back after ≡ back_with (telling.back before) link_back
   pub coming : telling.coming after ≡ telling.coming before
   pub out : telling.out before ≡ telling.out after + 1

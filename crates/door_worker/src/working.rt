@@ -2,7 +2,7 @@
 
 ghost use Rattle.std.specs.Prelude.{◌≡◌, ◌<◌};
 ghost use Rattle.pool_history.specs.declared.events.Role.TheVariants as role;
-ghost use Rattle.door_worker.specs.Shifts.{AsksNext, IsWelcomed, IsWorked};
+ghost use Rattle.door_worker.specs.Shifts.{AsksDoorOnce, IsWelcomed, IsWorked};
 
 use desk_worker::DeskWorker;
 use link_session::serve_link;
@@ -80,7 +80,7 @@ fn ask_door<R: Wait, K: Keeper, D: Door>(
     requires turns { 0 < turns }
     ensures desk { asker.new.pass.now.table ≡ asker.new.desk.now.table }
     ensures pass { asker.new.pass.ghost_name ≡ asker.old.pass.ghost_name }
-    ensures next { AsksNext (record {
+    ensures next { AsksDoorOnce (record {
       coming = D.coming;
       out = D.out;
       back = D.back;

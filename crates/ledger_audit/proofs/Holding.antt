@@ -9,7 +9,7 @@ use Rattle.ledger_audit.specs.declared.format.Format.{Format}
 use Rattle.ledger_audit.specs.declared.records.Records.{Records}
 use Rattle.ledger_audit.specs.declared.verdict.Verdict.{Verdict}
 use Rattle.ledger_audit.specs.declared.verdict.Verdict.TheVariants as verdict
-use Rattle.ledger_audit.specs.Auditing.{HasAudited, HasReadBytes, HoldsAtMostOne, HoldsBytes, IsBehindLedger, lacking_of, place_of}
+use Rattle.ledger_audit.specs.Auditing.{HasAudited, HasReadBytes, HoldsAtMostOne, HoldsBytes, IsBehindLedger, held_place, lacking_of}
 use Rattle.ledger_audit.specs.Duty.{EndsEarly, IsAuditedLegal, IsPrinted}
 use Rattle.ledger_audit.specs.Lines.{verdict_line}
 use Rattle.ledger_audit.specs.Units.{lacking, unit_len}
@@ -58,15 +58,15 @@ fed_holds old fed part held records bytes text audited = record {
 
 -- what is left of the piece stays within the bytes of a run
 pub room_left : (old fed new : Option Records) (held fed_held new_held rest : List ℕ) (count : ℕ)
-    → place_of old + length held + length rest ≤ 2 ^ 40 → place_of new + length new_held ≡ place_of fed + length fed_held
+    → held_place old + length held + length rest ≤ 2 ^ 40 → held_place new + length new_held ≡ held_place fed + length fed_held
     → fed ≡ old → fed_held ≡ held ++ take count rest → count ≤ length rest
-    → place_of new + length new_held + length (take (length rest - count) (drop count rest)) ≤ 2 ^ 40
+    → held_place new + length new_held + length (take (length rest - count) (drop count rest)) ≤ 2 ^ 40
 room_left old fed new held fed_held new_held rest count room taken same is within =
     omega (
       arith,
       room,
       taken,
-      ap place_of same,
+      ap held_place same,
       ap length is,
       length-append held (take count rest),
       length-take-le count rest within,

@@ -80,8 +80,8 @@ pub record IsBehindLedger (records : Records) (bytes behind : List ℕ) : Type 0
   pub read : HasReadRecords records history
 
 -- no more events were told than bytes read
-abbrev pub AreCounted : Records → Type 0
-AreCounted records = told_count records.replay ≤ records.place
+abbrev pub CountsEventsWithinPlace : Records → Type 0
+CountsEventsWithinPlace records = told_count records.replay ≤ records.place
 
 -- what comes of a record that is all that is behind a ledger: it belongs to the ledger, or it is
 -- its defect
@@ -101,27 +101,27 @@ HoldsAtMostOne None held = length held ≤ 8
 HoldsAtMostOne (Some records) held = length held ≤ unit_len records.format held
 
 -- at which place of the ledger the bytes that are held begin
-abbrev pub place_of : Option Records → ℕ
-place_of None = 0
-place_of (Some records) = records.place
+abbrev pub held_place : Option Records → ℕ
+held_place None = 0
+held_place (Some records) = records.place
 
 -- as many events at most as bytes
-abbrev pub AreCountedIn : Option Records → Type 0
-AreCountedIn None = Unit {0}
-AreCountedIn (Some records) = AreCounted records
+abbrev pub CountsEventsWithin : Option Records → Type 0
+CountsEventsWithin None = Unit {0}
+CountsEventsWithin (Some records) = CountsEventsWithinPlace records
 
 -- an auditor holds what isn't yet a record, and at most 2^40 bytes were read
 pub record IsBetweenRecords (auditor : Auditor) : Type 0 where
   pub lacks : 0 < lacking_of auditor.records auditor.held.items
   pub one : HoldsAtMostOne auditor.records auditor.held.items
-  pub few : place_of auditor.records + length auditor.held.items ≤ 2 ^ 40
-  pub counted : AreCountedIn auditor.records
+  pub few : held_place auditor.records + length auditor.held.items ≤ 2 ^ 40
+  pub counted : CountsEventsWithin auditor.records
 
 -- the same where what it holds may be whole
 pub record HoldsSome (auditor : Auditor) : Type 0 where
   pub one : HoldsAtMostOne auditor.records auditor.held.items
-  pub few : place_of auditor.records + length auditor.held.items ≤ 2 ^ 40
-  pub counted : AreCountedIn auditor.records
+  pub few : held_place auditor.records + length auditor.held.items ≤ 2 ^ 40
+  pub counted : CountsEventsWithin auditor.records
 
 -- what an auditor holds is what it has read behind the ledger at the front
 abbrev pub HasReadBytes : Option Records → List ℕ → List ℕ → Type 0

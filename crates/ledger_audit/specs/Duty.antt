@@ -8,7 +8,7 @@ use Rattle.ledger_audit.specs.declared.format.Format.{Format}
 use Rattle.ledger_audit.specs.declared.verdict.Verdict.{Verdict}
 use Rattle.ledger_audit.specs.declared.verdict.Verdict.TheVariants as verdict
 use Rattle.ledger_audit.specs.Lines.{verdict_line}
-use Rattle.ledger_audit.specs.Stops.{StopsBy}
+use Rattle.ledger_audit.specs.Stops.{StopsLedgerBy}
 use Rattle.ledger_audit.specs.Units.{lacking}
 use Rattle.ledger_audit.specs.Verdicts.{AreNoLedger, BeginsLegal, HasNoMagic}
 
@@ -31,7 +31,7 @@ pub record HasDefect (bytes : List ℕ) (v : Verdict) : Type 0 where
   pub behind : List ℕ
   pub begins : BeginsLegal format before bytes behind
   pub decided : lacking format behind ≡ 0
-  pub stops : (more : List ℕ) → StopsBy format before (behind ++ more) v
+  pub stops : (more : List ℕ) → StopsLedgerBy format before (behind ++ more) v
 
 -- eight bytes are there, and they are no magic
 pub record HasOtherMagic (bytes : List ℕ) (v : Verdict) : Type 0 where

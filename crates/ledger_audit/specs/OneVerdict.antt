@@ -21,7 +21,7 @@ use Rattle.ledger_audit.specs.declared.verdict.Verdict.{Verdict}
 use Rattle.ledger_audit.specs.declared.verdict.Verdict.TheVariants as verdict
 use Rattle.ledger_audit.specs.declared.format.Format.{Format}
 use Rattle.ledger_audit.specs.declared.format.Format.TheVariants.{Plain, Chained}
-use Rattle.ledger_audit.specs.Stops.{StopsBy}
+use Rattle.ledger_audit.specs.Stops.{StopsLedgerBy}
 use Rattle.ledger_audit.specs.Verdicts.{BeginsLegal, BeginsRecord, HasHash, HasNoMagic, IsChained, IsVerdictOf, KeptLedgersAreLegal, OldLedgersAreLegal, VerdictsAreOne, text_in}
 
 pub kept-legal : KeptLedgersAreLegal
@@ -39,7 +39,7 @@ old-legal history kept = record {
 }
 
 -- behind a ledger there is one event more, as it is in a legal one
-pub record GoesOn (format : Format) (before : List Event) (behind : List ℕ) : Type 0 where
+pub record GoesOnLegally (format : Format) (before : List Event) (behind : List ℕ) : Type 0 where
   pub event : Event
   pub rest : List ℕ
   pub one : BeginsRecord event behind rest
@@ -70,7 +70,7 @@ hash-long a e = ap length (hash-end a e) ∙ length-sha256 (hash_after a ++ reco
 
 -- what is behind a ledger that begins a longer one
 goes-on : (format : Format) (before : List Event) (e : Event) (more : List Event) (bytes behind rest : List ℕ)
-    → BeginsLegal format before bytes behind → BeginsLegal format (before ++ e ∷ more) bytes rest → GoesOn format before behind
+    → BeginsLegal format before bytes behind → BeginsLegal format (before ++ e ∷ more) bytes rest → GoesOnLegally format before behind
 goes-on Plain before e more bytes behind rest short long =
     let tail : (tail : List ℕ) × (text_in Plain ((before ++ e ∷ []) ++ more) ≡ text_in Plain (before ++ e ∷ []) ++ tail) = text-begins Plain (before ++ e ∷ []) more in
     let same : ledger_text_1 before ++ behind ≡ ledger_text_1 before ++ (record_of e ++ (tail.0 ++ rest)) =
@@ -116,9 +116,9 @@ pub record AreSame (one other : List Event) (behind_one behind_other : List ℕ)
 
 pub shorter : (format : Format) (one other : List Event) (bytes behind_one behind_other : List ℕ)
     → BeginsLegal format one bytes behind_one → BeginsLegal format other bytes behind_other → length one ≤ length other
-    → AreSame one other behind_one behind_other ⊎ GoesOn format one behind_one
+    → AreSame one other behind_one behind_other ⊎ GoesOnLegally format one behind_one
 shorter format one other bytes behind_one behind_other a b n = by_more (begin-alike format one other bytes behind_one behind_other a b n) where
-  by_more : Begins one other → AreSame one other behind_one behind_other ⊎ GoesOn format one behind_one
+  by_more : Begins one other → AreSame one other behind_one behind_other ⊎ GoesOnLegally format one behind_one
   by_more ([], same) =
       let histories : one ≡ other = sym (append-nil one) ∙ same in
       inl (record {
@@ -137,7 +137,7 @@ no-record e behind rest none one = absurd (empty (sym none ∙ one.is)) where
   empty same = cc
 
 -- where it stops it doesn't go on
-pub stops-here : (format : Format) (before : List Event) (behind : List ℕ) (v : Verdict) → StopsBy format before behind v → GoesOn format before behind → ⊥
+pub stops-here : (format : Format) (before : List Event) (behind : List ℕ) (v : Verdict) → StopsLedgerBy format before behind v → GoesOnLegally format before behind → ⊥
 stops-here format before behind verdict.Legal none more = no-record more.event behind more.rest none more.one
 stops-here format before behind (verdict.Illegal number cause) stop more =
     let same : ReadsTheSame stop.event more.event stop.rest more.rest = same-record stop.event more.event behind stop.rest more.rest stop.one more.one in
@@ -148,7 +148,7 @@ stops-here format before behind (verdict.BrokenChain number) stop more =
 stops-here format before behind (verdict.NotALedger place) stop more = stop.none more.event more.rest more.one more.has_hash
 
 -- and it stops for one reason
-one-stop : (format : Format) (before : List Event) (behind : List ℕ) (v w : Verdict) → StopsBy format before behind v → StopsBy format before behind w → v ≡ w
+one-stop : (format : Format) (before : List Event) (behind : List ℕ) (v w : Verdict) → StopsLedgerBy format before behind v → StopsLedgerBy format before behind w → v ≡ w
 one-stop format before behind verdict.Legal verdict.Legal a b = refl
 one-stop format before behind verdict.Legal (verdict.Illegal number cause) a b = no-record b.event behind b.rest a b.one
 one-stop format before behind verdict.Legal (verdict.BrokenChain number) a b = no-record b.event behind b.rest a b.one
@@ -184,7 +184,7 @@ pub record Stopped (bytes : List ℕ) (v : Verdict) : Type 0 where
   pub before : List Event
   pub behind : List ℕ
   pub begins : BeginsLegal format before bytes behind
-  pub stops : StopsBy format before behind v
+  pub stops : StopsLedgerBy format before behind v
 
 record HasNone (bytes : List ℕ) (v : Verdict) : Type 0 where
   pub is : v ≡ verdict.NotALedger 0
@@ -218,15 +218,15 @@ stopped bytes (verdict.NotALedger place) n =
 
 -- two stops of one format are one
 same-format : (format : Format) (bytes : List ℕ) (v w : Verdict) (one other : List Event) (behind_one behind_other : List ℕ)
-    → BeginsLegal format one bytes behind_one → BeginsLegal format other bytes behind_other → StopsBy format one behind_one v → StopsBy format other behind_other w → v ≡ w
+    → BeginsLegal format one bytes behind_one → BeginsLegal format other bytes behind_other → StopsLedgerBy format one behind_one v → StopsLedgerBy format other behind_other w → v ≡ w
 same-format format bytes v w one other behind_one behind_other a b stop_one stop_other =
     ⊎_elim (λ less. sym (up_to other one w v behind_other behind_one b a stop_other stop_one (omega (arith, less))))
     (λ most. up_to one other v w behind_one behind_other a b stop_one stop_other most) (cases_lt (length other) (length one)) where
-      up_to : (h k : List Event) (x y : Verdict) (p q : List ℕ) → BeginsLegal format h bytes p → BeginsLegal format k bytes q → StopsBy format h p x → StopsBy format k q y
+      up_to : (h k : List Event) (x y : Verdict) (p q : List ℕ) → BeginsLegal format h bytes p → BeginsLegal format k bytes q → StopsLedgerBy format h p x → StopsLedgerBy format k q y
           → length h ≤ length k → x ≡ y
       up_to h k x y p q s t stop_h stop_k n =
           ⊎_elim (λ same. one-stop format h p x y stop_h
-          (subst (λ (z : List ℕ). StopsBy format h z y) (sym same.behind) (subst (λ (z : List Event). StopsBy format z q y) (sym same.history) stop_k)))
+          (subst (λ (z : List ℕ). StopsLedgerBy format h z y) (sym same.behind) (subst (λ (z : List Event). StopsLedgerBy format z q y) (sym same.history) stop_k)))
           (λ more. absurd (stops-here format h p x stop_h more)) (shorter format h k bytes p q s t n)
 
 -- a ledger has its magic
@@ -238,7 +238,7 @@ has-magic Chained history bytes behind begins none =
 
 pub two-stops : (bytes : List ℕ) (v w : Verdict) → Stopped bytes v → Stopped bytes w → v ≡ w
 two-stops bytes v w a b = by_formats a.format b.format a.begins b.begins a.stops b.stops where
-  by_formats : (f g : Format) → BeginsLegal f a.before bytes a.behind → BeginsLegal g b.before bytes b.behind → StopsBy f a.before a.behind v → StopsBy g b.before b.behind w → v ≡ w
+  by_formats : (f g : Format) → BeginsLegal f a.before bytes a.behind → BeginsLegal g b.before bytes b.behind → StopsLedgerBy f a.before a.behind v → StopsLedgerBy g b.before b.behind w → v ≡ w
   by_formats Plain Plain x y s t = same-format Plain bytes v w a.before b.before a.behind b.behind x y s t
   by_formats Chained Chained x y s t = same-format Chained bytes v w a.before b.before a.behind b.behind x y s t
   by_formats Plain Chained x y s t = absurd (formats_differ b.before a.before b.behind a.behind (sym y.text ∙ x.text))

@@ -13,11 +13,11 @@ use Rattle.ledger_audit.specs.declared.verdict.Verdict.{Verdict}
 use Rattle.ledger_audit.specs.declared.verdict.Verdict.TheVariants as verdict
 use Rattle.ledger_audit.specs.Auditing.{HasAudited, HasReadBytes, lacking_of}
 use Rattle.ledger_audit.specs.Duty.{EndsEarly, HasDefect, IsAuditedLegal, IsPrinted, IsRefusedAs, IsUndecided, IsUnfinished, audit_duty}
-use Rattle.ledger_audit.specs.Stops.{StopsBy}
+use Rattle.ledger_audit.specs.Stops.{StopsLedgerBy}
 use Rattle.ledger_audit.specs.Units.{lacking}
 use Rattle.ledger_audit.specs.Verdicts.{BeginsLegal, HasNoMagic, text_in}
 use Rattle.ledger_audit.specs.Lacking.{lacking-more, lacking-record}
-use Rattle.ledger_audit.specs.OneVerdict.{GoesOn, Stopped, has-magic, one-verdict, shorter, stops-here, two-stops}
+use Rattle.ledger_audit.specs.OneVerdict.{GoesOnLegally, Stopped, has-magic, one-verdict, shorter, stops-here, two-stops}
 
 -- what an auditor holds isn't decided
 underway : (records : Option Records) (held bytes : List ℕ) → HasReadBytes records held bytes → 0 < lacking_of records held
@@ -90,12 +90,12 @@ same_format Plain Chained one other bytes p q a b = absurd (formats_differ other
 same_format Chained Plain one other bytes p q a b = absurd (formats_differ one other p q (sym a.text ∙ b.text))
 
 -- and what goes on lacks nothing
-goes_on-whole : (format : Format) (before : List Event) (behind : List ℕ) → GoesOn format before behind → lacking format behind ≡ 0
+goes_on-whole : (format : Format) (before : List Event) (behind : List ℕ) → GoesOnLegally format before behind → lacking format behind ≡ 0
 goes_on-whole format before behind more = lacking-record format more.event behind more.rest more.one more.has_hash
 
 undecided_or_defect : (format : Format) (one other : List Event) (bytes p q : List ℕ) (v : Verdict)
     → BeginsLegal format one bytes p → 0 < lacking format p
-    → BeginsLegal format other bytes q → lacking format q ≡ 0 → StopsBy format other q v → ⊥
+    → BeginsLegal format other bytes q → lacking format q ≡ 0 → StopsLedgerBy format other q v → ⊥
 undecided_or_defect format one other bytes p q v a lacks b whole stops =
     ⊎_elim
     (λ less. ⊎_elim (λ same. differ (ap (lacking format) (sym same.behind) ∙ whole))
@@ -122,7 +122,7 @@ whole_or_refused bytes more text other whole refused =
     empty a same = omega (arith, ap length same, length-append a (0 ∷ []))
 
     not_legal : (v : Verdict) → HasDefect bytes v → verdict.Legal ≡ v → ⊥
-    not_legal v defect is = empty defect.behind (subst (λ w. StopsBy defect.format defect.before (defect.behind ++ 0 ∷ []) w) (sym is) (defect.stops (0 ∷ [])))
+    not_legal v defect is = empty defect.behind (subst (λ w. StopsLedgerBy defect.format defect.before (defect.behind ++ 0 ∷ []) w) (sym is) (defect.stops (0 ∷ [])))
 
 so_far_or_refused : (bytes more text other : List ℕ) → IsUndecided (bytes ++ more) text → IsPrinted (IsRefusedAs bytes) other → ⊥
 so_far_or_refused bytes more text other so_far refused =

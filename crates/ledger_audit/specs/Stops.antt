@@ -39,9 +39,9 @@ pub record StopsByForm (format : Format) (before : List Event) (behind : List �
       → HasHash format rest → ⊥
 
 -- the reason that a verdict says
-abbrev pub StopsBy : Format → List Event → List ℕ → Verdict → Type 0
-StopsBy format before behind verdict.Legal = behind ≡ []
-StopsBy format before behind (verdict.Illegal number cause) =
+abbrev pub StopsLedgerBy : Format → List Event → List ℕ → Verdict → Type 0
+StopsLedgerBy format before behind verdict.Legal = behind ≡ []
+StopsLedgerBy format before behind (verdict.Illegal number cause) =
     StopsByCause format before behind number cause
-StopsBy format before behind (verdict.BrokenChain number) = StopsByHash format before behind number
-StopsBy format before behind (verdict.NotALedger place) = StopsByForm format before behind place
+StopsLedgerBy format before behind (verdict.BrokenChain number) = StopsByHash format before behind number
+StopsLedgerBy format before behind (verdict.NotALedger place) = StopsByForm format before behind place

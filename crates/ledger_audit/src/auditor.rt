@@ -23,13 +23,13 @@ pub struct Auditor {
 const MAGIC_LEN: usize = 8;
 
 impl Auditor {
-    ghost use Rattle.ledger_audit.specs.Auditing.{GoesOnOrIsRefused, HasAudited, HasReadBytes, HoldsBytes, HoldsSome, IsBetweenRecords, lacking_of, place_of};
+    ghost use Rattle.ledger_audit.specs.Auditing.{GoesOnOrIsRefused, HasAudited, HasReadBytes, HoldsBytes, HoldsSome, IsBetweenRecords, held_place, lacking_of};
     ghost use Rattle.ledger_audit.specs.Duty.{IsPrinted, IsRefusedAs};
 
     /// How many bytes have come.
     fn taken(&self) -> u64
-        requires { place_of self.now.records + length self.now.held.items ≤ 2 ^ 40 }
-        ensures { result ≡ place_of self.now.records + length self.now.held.items }
+        requires { held_place self.now.records + length self.now.held.items ≤ 2 ^ 40 }
+        ensures { result ≡ held_place self.now.records + length self.now.held.items }
     {
         let place = match &self.records {
             Some(records) => records.place,
@@ -52,7 +52,7 @@ impl Auditor {
     fn feed(&mut self, piece: &[u8]) -> Result<usize, AllocError>
         requires between { IsBetweenRecords self.old }
         requires some { 0 < length piece.now }
-        requires few { place_of self.old.records + length self.old.held.items + length piece.now
+        requires few { held_place self.old.records + length self.old.held.items + length piece.now
             ≤ 2 ^ 40 }
         ensures some { IfOk result (λ count. 0 < count) }
         ensures within { IfOk result (λ count. count ≤ length piece.now) }
@@ -70,8 +70,8 @@ impl Auditor {
     fn advance(&mut self) -> Result<(), Halt>
         requires { HoldsSome self.old }
         ensures between { OnOk result (IsBetweenRecords self.new) }
-        ensures taken { OnOk result (place_of self.new.records + length self.new.held.items
-            ≡ place_of self.old.records + length self.old.held.items) }
+        ensures taken { OnOk result (held_place self.new.records + length self.new.held.items
+            ≡ held_place self.old.records + length self.old.held.items) }
         ensures goes { (bytes : List ℕ) → HasReadBytes self.old.records self.old.held.items bytes
             → GoesOnOrIsRefused self.new bytes result }
     {
@@ -90,8 +90,8 @@ impl Auditor {
     fn step(&mut self, text: &mut Vec<u8>) -> Result<(), Stop>
         requires { HoldsSome self.old }
         ensures between { OnOk result (IsBetweenRecords self.new) }
-        ensures taken { OnOk result (place_of self.new.records + length self.new.held.items
-            ≡ place_of self.old.records + length self.old.held.items) }
+        ensures taken { OnOk result (held_place self.new.records + length self.new.held.items
+            ≡ held_place self.old.records + length self.old.held.items) }
         ensures ok { OnOk result ((bytes given : List ℕ)
             → HoldsBytes self.old bytes (given ++ text.old.items)
             → HasAudited self.new bytes (given ++ text.new.items)) }

@@ -8,7 +8,7 @@ ghost use Rattle.pool_history.specs.Sessions.{past_of};
 ghost use Rattle.pool_history.specs.Summary.{summary_of, summary_text};
 ghost use Rattle.ledger_audit.specs.declared.format.Format.{Format as Layout};
 ghost use Rattle.ledger_records.specs.Records.{BeginsWithNoRecord, IsRecordOf};
-ghost use Rattle.ledger_audit.specs.Auditing.{AreCounted, DecidesRecord, IsBehindLedger, IsBroken, IsNextHash, IsReplayOf, IsReplayed, IsToldOrCaused, magic_of, told_count};
+ghost use Rattle.ledger_audit.specs.Auditing.{CountsEventsWithinPlace, DecidesRecord, IsBehindLedger, IsBroken, IsNextHash, IsReplayOf, IsReplayed, IsToldOrCaused, magic_of, told_count};
 ghost use Rattle.ledger_audit.specs.Units.{lacking, unit_len};
 ghost use Rattle.ledger_audit.specs.Verdicts.{HasNoMagic};
 
@@ -52,7 +52,7 @@ impl Records {
         ensures defect { IfErr result (λ halt. halt ≡ Halt.Defect (Verdict.NotALedger 0)) }
         ensures read { IfOk result (λ records. IsBehindLedger records magic.now []) }
         ensures place { IfOk result (λ records. records.place ≡ 8) }
-        ensures counted { IfOk result (λ records. AreCounted records) }
+        ensures counted { IfOk result (λ records. CountsEventsWithinPlace records) }
     {
         match format_of(magic) {
             Some(format) => Ok(Records {
@@ -70,12 +70,12 @@ impl Records {
         requires whole { lacking self.old.format unit.now ≡ 0 }
         requires one { length unit.now ≤ unit_len self.old.format unit.now }
         requires few { self.old.place + length unit.now ≤ 2 ^ 40 }
-        requires counted { AreCounted self.old }
+        requires counted { CountsEventsWithinPlace self.old }
         ensures decides { (bytes : List ℕ) → IsBehindLedger self.old bytes unit.now
             → DecidesRecord self.new bytes result }
         ensures place { OnOk result (self.new.place ≡ self.old.place + length unit.now) }
         ensures format { self.new.format ≡ self.old.format }
-        ensures counted { OnOk result (AreCounted self.new) }
+        ensures counted { OnOk result (CountsEventsWithinPlace self.new) }
     {
         let (event, len) = self.event_of(alloc, unit)?;
         let (record, behind) = unit.split_at(len);

@@ -4,7 +4,7 @@ use Rattle.pool_history.specs.Calls.{PoolCall}
 use Rattle.pool_sessions.specs.Answerers.{Acts}
 use Rattle.desk_worker.specs.Calling.{CallsDesk, PoolPass, faults_after, faults_through}
 use Rattle.desk_worker.proofs.Calls.{faults_both, goes_both, goes_none}
-use Rattle.link_session.specs.Visits.{Asking, Asks}
+use Rattle.link_session.specs.Visits.{Asking, AsksByPass}
 
 module _ {A N : Type 0} (new : A) (name : A → N) (pass : A → PoolPass) (faults : A → ℕ) where
   -- one call of who answers
@@ -22,10 +22,10 @@ module _ {A N : Type 0} (new : A) (name : A → N) (pass : A → PoolPass) (faul
       ((pass middle, first.2, rest.0), rest.1 ∙ first.0, rest.2 ∙ ap (λ n. faults_through n calls) first.1)
 
 -- no calls, and calls after calls
-pub asks_none : (asking : Asking) → Asks asking [] asking
+pub asks_none : (asking : Asking) → AsksByPass asking [] asking
 asks_none asking = record { goes_on = goes_none asking.pass; faults = refl }
 
-pub asks_both : (a b c : Asking) (xs ys : List PoolCall) → Asks a xs b → Asks b ys c → Asks a (xs ++ ys) c
+pub asks_both : (a b c : Asking) (xs ys : List PoolCall) → AsksByPass a xs b → AsksByPass b ys c → AsksByPass a (xs ++ ys) c
 asks_both a b c xs ys first then = record {
   goes_on = goes_both a.pass b.pass c.pass xs ys first.goes_on then.goes_on;
   faults = then.faults ∙ ap (λ n. faults_through n ys) first.faults ∙ sym (faults_both a.faults xs ys);

@@ -10,7 +10,7 @@ use Rattle.session_steps.specs.Steps.{SessionStep, Follows, bytes_in_steps, call
 use Rattle.pool_sessions.specs.Causes.{is_read_end, is_write_end}
 use Rattle.pool_sessions.specs.Links.{Telling}
 use Rattle.pool_sessions.specs.Running.{TakesAll, has_ended}
-use Rattle.desk_worker.specs.Calling.{GoesOn, PoolPass, faults_through}
+use Rattle.desk_worker.specs.Calling.{AddsCalls, PoolPass, faults_through}
 
 -- a pass, and how many of its calls were answered by the keeper's fault
 pub record Asking : Type 0 where
@@ -52,12 +52,12 @@ pub record IsVisit {L : Type 0} (telling : Telling L) (manner : Manner) (worker 
 
 -- these calls were made by the pass, behind those that it had, and those that the keeper's fault
 -- answered were counted
-pub record Asks (old : Asking) (calls : List PoolCall) (new : Asking) : Type 0 where
-  pub goes_on : GoesOn old.pass calls new.pass
+pub record AsksByPass (old : Asking) (calls : List PoolCall) (new : Asking) : Type 0 where
+  pub goes_on : AddsCalls old.pass calls new.pass
   pub faults : new.faults ≡ faults_through old.faults calls
 
 -- a session on the link, whose calls are those that the pass made
-pub record IsServed {L : Type 0} (telling : Telling L) (manner : Manner) (before after : L)
+pub record ServesLink {L : Type 0} (telling : Telling L) (manner : Manner) (before after : L)
     (old new : Asking) (reason : SessionEnd) : Type 0 where
   pub steps : List SessionStep
   pub visit : IsVisit telling manner old.pass.worker (record {
@@ -66,4 +66,4 @@ pub record IsServed {L : Type 0} (telling : Telling L) (manner : Manner) (before
     steps = steps;
     reason = reason;
   })
-  pub asks : Asks old (calls_in steps) new
+  pub asks : AsksByPass old (calls_in steps) new

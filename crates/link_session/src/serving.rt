@@ -3,7 +3,7 @@
 ghost use Rattle.std.specs.Prelude.{◌≡◌, ◌<◌, List, Some};
 ghost use Rattle.pool_io.specs.declared.turn.Turn.{Turn};
 ghost use Rattle.pool_sessions.specs.Good.{IsGoodEnd, IsGoodInput};
-ghost use Rattle.link_session.specs.Visits.{IsServed};
+ghost use Rattle.link_session.specs.Visits.{ServesLink};
 
 use desk_worker::{DeskWorker, desk_calls_go_on};
 use pool_core::SessionEnd;
@@ -27,7 +27,7 @@ pub fn serve_link<R: Wait, K: Keeper, L: Link>(
     requires waits { 0 < limits.idle_turns }
     ensures desk { asker.new.pass.now.table ≡ asker.new.desk.now.table }
     ensures pass { asker.new.pass.ghost_name ≡ asker.old.pass.ghost_name }
-    ensures served { IsServed (record {
+    ensures served { ServesLink (record {
       left = L.left;
       held = L.held;
       read_faults = L.read_faults;

@@ -21,7 +21,7 @@ use Rattle.ledger_audit.specs.declared.format.Format.{Format}
 use Rattle.ledger_audit.specs.declared.format.Format.TheVariants.{Plain, Chained}
 use Rattle.ledger_audit.specs.Units.{hash_len}
 use Rattle.ledger_audit.specs.Verdicts.{BeginsLegal}
-use Rattle.migrate_command.specs.Copying.{AddsRecords, AreLedgerOf, AreRecordsOf, KeepsAll, KeepsFront, KeepsLedger, KeepsRecords, records_text}
+use Rattle.migrate_command.specs.Copying.{AddsRecords, AreLedgerOf, AreRecordsOf, KeepsAll, KeepsAnew, KeepsFront, KeepsRecords, records_text}
 use Rattle.migrate_command.specs.Cutting.{IsCutOff, IsSplit, IsWholeRecord}
 
 -- the pieces that are kept of a history: none of one without events
@@ -279,7 +279,7 @@ keeps_magic format bytes records appended old new split none is adds (e ∷ hist
 
 -- and one with records is that of some
 pub keeps_ledger : (format : Format) (bytes records : List ℕ) (old new : Option (List (List ℕ))) (result : Result ℕ KeeperFailed) → IsSplit format bytes records
-    → (records ≡ [] → ⊥) → KeepsRecords format records old new result → KeepsLedger bytes old new result
+    → (records ≡ [] → ⊥) → KeepsRecords format records old new result → KeepsAnew bytes old new result
 keeps_ledger format bytes records old new (Ok count) split some kept = of where
   of : (history : List Event) → AreLedgerOf history bytes → KeepsAll history old new count
   of [] ledger = absurd (some ((split_ledger format [] bytes records ledger split).text ∙ none_text format (sha256 magic_2)))

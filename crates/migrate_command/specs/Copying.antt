@@ -78,9 +78,9 @@ KeepsRecords format bytes old new (Err error) =
     → KeepsFront (first ∷ more) old new
 
 -- what was kept of the history that a ledger's bytes say
-abbrev pub KeepsLedger : List ℕ → Option (List (List ℕ)) → Option (List (List ℕ))
+abbrev pub KeepsAnew : List ℕ → Option (List (List ℕ)) → Option (List (List ℕ))
     → Result ℕ KeeperFailed → Type 0
-KeepsLedger bytes old new (Ok count) =
+KeepsAnew bytes old new (Ok count) =
     (history : List Event) → AreLedgerOf history bytes → KeepsAll history old new count
-KeepsLedger bytes old new (Err error) =
+KeepsAnew bytes old new (Err error) =
     (history : List Event) → AreLedgerOf history bytes → KeepsFront history old new

@@ -23,7 +23,7 @@ use Rattle.settings_file.specs.Views.{HostView}
 use Rattle.solo_command.specs.Row.{IsKeeperGiven, IsRefusedKeeper, meanings_of, with_keeper_back}
 use Rattle.solo_session.specs.Solo.{Accounts}
 use Rattle.migrate_command.specs.declared.copying.Copied.{Copied}
-use Rattle.migrate_command.specs.Copying.{KeepsLedger, copying_duty}
+use Rattle.migrate_command.specs.Copying.{KeepsAnew, copying_duty}
 
 -- a front of a text was put, and why not all
 pub record PutsFront {T : Type 0} (held : T → Option (List ℕ)) (faults : T → ℕ) (old new : T)
@@ -68,7 +68,7 @@ pub record KeptAnew {S T K : Type 0} (told : Accounts S T K) (name bytes : List 
   pub seen : new.seen ≡ given.seen
   pub openings : new.openings ≡ with_keeper_back given.openings keeper_back
   pub result : Result ℕ KeeperFailed
-  pub kept : KeepsLedger bytes (told.records keeper_given) (told.records keeper_back) result
+  pub kept : KeepsAnew bytes (told.records keeper_given) (told.records keeper_back) result
   pub counts : CountsFailure (is_failed_append result) 0 (told.keeper_faults keeper_back)
   pub answers : AnswersKept told sink put result answer
 
@@ -87,7 +87,7 @@ KeepRow told name bytes old new sink put answer =
     KeptAnew told name bytes old new sink put answer ⊎ IsUnkept name old new sink put answer
 
 -- nothing more was opened, and the status is this one
-pub record EndsAt {S T K : Type 0} (old new : HostView S T K) (sink put : T) (wanted answer : Status)
+pub record EndsUnchanged {S T K : Type 0} (old new : HostView S T K) (sink put : T) (wanted answer : Status)
     : Type 0 where
   pub view : new ≡ old
   pub unput : put ≡ sink
@@ -100,13 +100,13 @@ FollowsEnd told name bytes old new sink put answer end.Done =
     KeepRow told name bytes old new sink put answer
 FollowsEnd told name bytes old new sink put answer end.Refused =
     (new ≡ old) × PutsText told.held told.write_faults sink put bytes status.Refused answer
-FollowsEnd told name bytes old new sink put answer end.IdleOut = EndsAt old new sink put status.Limit answer
-FollowsEnd told name bytes old new sink put answer end.BytesOut = EndsAt old new sink put status.Limit answer
+FollowsEnd told name bytes old new sink put answer end.IdleOut = EndsUnchanged old new sink put status.Limit answer
+FollowsEnd told name bytes old new sink put answer end.BytesOut = EndsUnchanged old new sink put status.Limit answer
 FollowsEnd told name bytes old new sink put answer end.ReadFault =
-    EndsAt old new sink put status.ReadFault answer
+    EndsUnchanged old new sink put status.ReadFault answer
 FollowsEnd told name bytes old new sink put answer end.WriteFault =
-    EndsAt old new sink put status.WriteFault answer
-FollowsEnd told name bytes old new sink put answer end.Memory = EndsAt old new sink put status.Memory answer
+    EndsUnchanged old new sink put status.WriteFault answer
+FollowsEnd told name bytes old new sink put answer end.Memory = EndsUnchanged old new sink put status.Memory answer
 
 abbrev pub FinishRow : {S T K : Type 0} → Accounts S T K → List ℕ → Copied → HostView S T K
     → HostView S T K → T → T → Status → Type 0

@@ -3,7 +3,7 @@
 ghost use Rattle.std.specs.Prelude.{◌≡◌, ◌↔◌, ◌+◌, ◌≤◌, ◌++◌, length, IfNone, IfOk, IfSome, IsTrue, OnErr};
 ghost use Rattle.pool_io.specs.Outside.{AddsRecord, CountsFailure, is_failed_append};
 ghost use Rattle.pool_history.specs.Ledger as ledger;
-ghost use Rattle.migrate_command.specs.Copying.{KeepsLedger, KeepsRecords};
+ghost use Rattle.migrate_command.specs.Copying.{KeepsAnew, KeepsRecords};
 ghost use Rattle.migrate_command.specs.Cutting.{IsCutOff, IsSplit, IsWholeRecord};
 
 use ledger_audit::{BODY_LIMIT, Format, HEAD_LEN, body_len};
@@ -18,7 +18,7 @@ pub fn append_ledger<K: Keeper>(
     bytes: &[u8],
     keeper: &mut K,
 ) -> Result<u64, KeeperFailed>
-    ensures kept { KeepsLedger bytes.now (K.records keeper.old) (K.records keeper.new) result }
+    ensures kept { KeepsAnew bytes.now (K.records keeper.old) (K.records keeper.new) result }
     ensures counts { CountsFailure (is_failed_append result) (K.faults keeper.old)
         (K.faults keeper.new) }
 {

@@ -3,21 +3,21 @@ use Rattle.std.proofs.Common.{◌≡◌, ℕ, ◌+◌, ◌-◌, ◌^◌, ◌≤�
 use Rattle.std.specs.Prelude.{if◌then◌else◌}
 use Rattle.pool_io.specs.Outside.{next_count}
 use Rattle.pool_history.specs.Calls.{PoolCall}
-use Rattle.desk_worker.specs.Calling.{faults_after, faults_through, is_faulted}
+use Rattle.desk_worker.specs.Calling.{faults_after, faults_through, has_keeper_failed}
 use Rattle.door_worker.specs.declared.working.DoorEnd.{DoorEnd}
 use Rattle.door_worker.specs.Shifts.{is_failed_end}
 use Rattle.pool_server.specs.Counting.{capped, count_if, failed_in, faulted_in, is_starved_end, starved_in}
 
-one_more : (b : Bool) (n rest : ℕ) → n ≤ 2 ^ 64 - 1
+count_one_more : (b : Bool) (n rest : ℕ) → n ≤ 2 ^ 64 - 1
     → ((if b then next_count n else n) ≤ 2 ^ 64 - 1) × (capped ((if b then next_count n else n) + rest) ≡ capped (n + (count_if b + rest)))
-one_more true n rest fits = (omega (arith, fits), omega (arith, fits))
-one_more false n rest fits = (fits, omega arith)
+count_one_more true n rest fits = (omega (arith, fits), omega (arith, fits))
+count_one_more false n rest fits = (fits, omega arith)
 
 -- a count through calls is that of those which the keeper's fault answered
 pub through_is : (n : ℕ) (calls : List PoolCall) → n ≤ 2 ^ 64 - 1 → faults_through n calls ≡ capped (n + faulted_in calls)
 through_is n [] fits = omega (arith, fits)
 through_is n (call ∷ calls) fits =
-    let one = one_more (is_faulted call.outcome) n (faulted_in calls) fits in
+    let one = count_one_more (has_keeper_failed call.outcome) n (faulted_in calls) fits in
     through_is (faults_after n call.outcome) calls one.0 ∙ one.1
 
 pub through_zero : (calls : List PoolCall) → faults_through 0 calls ≡ capped (faulted_in calls)

@@ -22,14 +22,14 @@ use Rattle.pool_history.specs.contracts.refusals.BookError as BookError
 use Rattle.pool_history.specs.contracts.replies.Reply as Reply
 use Rattle.pool_io.specs.contracts.limits.Limits as Limits
 use Rattle.std.specs.contracts.alloc.Global as Global
-use Rattle.pool_server.specs.contracts.parts.Part as Part
-use Rattle.pool_server.specs.contracts.parts.Task as Task
+use Rattle.pool_server.specs.contracts.parts.ThreadPart as ThreadPart
+use Rattle.pool_server.specs.contracts.parts.ThreadTask as ThreadTask
 
-task_send : (D L : RattleType) → IsSend D → IsSend L → IsSend (Task.the_row D L)
+task_send : (D L : RattleType) → IsSend D → IsSend L → IsSend (ThreadTask.the_row D L)
 task_send D L d l = search (sendable, crosses) depth 40
 
-pub part_send : (D L K : RattleType) (g : Ghosts K.Denot) → IsSend D → IsSend L → IsSend K → IsSend (Part.the_row D L K g)
-part_send D L K g d l k = declared_send (Part.the_type D L K g) (task_send D L d l, (book_pass_send K g no_dict k, (search sendable, tt)))
+pub part_send : (D L K : RattleType) (g : Ghosts K.Denot) → IsSend D → IsSend L → IsSend K → IsSend (ThreadPart.the_row D L K g)
+part_send D L K g d l k = declared_send (ThreadPart.the_type D L K g) (task_send D L d l, (book_pass_send K g no_dict k, (search sendable, tt)))
 
 -- what all threads share: the handle, the allocator, the desk and the limits, each by a reference
 module _ (a b c d e : Lifetime) (α β γ δ ε : Lft) (R K : RattleType) (g : Ghosts K.Denot) where

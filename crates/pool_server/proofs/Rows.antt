@@ -3,11 +3,11 @@ use Rattle.std.proofs.Common.{◌≡◌, ℕ, ◌+◌, List, [], ◌∷◌, ◌+
 use Rattle.std.proofs.lemmas.List.{length-append}
 use Rattle.pool_history.specs.declared.events.Role.TheVariants as role
 use Rattle.desk_worker.specs.Calling.{PoolPass}
-use Rattle.link_session.specs.Visits.{Asking, IsServed}
+use Rattle.link_session.specs.Visits.{Asking, ServesLink}
 use Rattle.door_worker.specs.Shifts.{IsWorked, Shift, calls_at}
-use Rattle.pool_server.specs.declared.parts.Part.{Part}
-use Rattle.pool_server.specs.declared.parts.Task.{Task}
-use Rattle.pool_server.specs.declared.parts.Task.TheVariants as task
+use Rattle.pool_server.specs.declared.parts.ThreadPart.{ThreadPart}
+use Rattle.pool_server.specs.declared.parts.ThreadTask.{ThreadTask}
+use Rattle.pool_server.specs.declared.parts.ThreadTask.TheVariants as task
 use Rattle.pool_server.specs.Counting.{capped, faulted_in}
 use Rattle.pool_server.specs.Pairing.{DoorRow, FeedRow, door_part, door_parts, door_row_part, faults_in, feed_part, feed_row_part, row_parts}
 use Rattle.pool_server.specs.Parts.{AttendsEach, DoesTask, IsAttended, Service, manner_of}
@@ -33,29 +33,29 @@ last_same {X} (w ∷ xs) (z ∷ ys) x y e =
 
 module _ {D L K : Type 0} (service : Service D L) where
   -- the last of all that were attended
-  pub record Last (olds : List (Part D L K)) (old : Part D L K) (news : List (Part D L K)) : Type 0 where
-    pub front : List (Part D L K)
-    pub part : Part D L K
+  pub record Last (olds : List (ThreadPart D L K)) (old : ThreadPart D L K) (news : List (ThreadPart D L K)) : Type 0 where
+    pub front : List (ThreadPart D L K)
+    pub part : ThreadPart D L K
     pub parts_are : news ≡ front ++ part ∷ []
     pub others : AttendsEach service olds front
     pub this : IsAttended service old part
 
-  pub each_last : (olds : List (Part D L K)) (old : Part D L K) (news : List (Part D L K)) → AttendsEach service (olds ++ old ∷ []) news → Last olds old news
+  pub each_last : (olds : List (ThreadPart D L K)) (old : ThreadPart D L K) (news : List (ThreadPart D L K)) → AttendsEach service (olds ++ old ∷ []) news → Last olds old news
   each_last [] old [] h = absurd h
   each_last [] old (new ∷ []) h = record { front = []; part = new; parts_are = refl; others = tt; this = h.0 }
   each_last [] old (new ∷ next ∷ news) h = absurd h.1
   each_last (o ∷ olds) old [] h = absurd h
   each_last (o ∷ olds) old (n ∷ news) h =
       let r = each_last olds old news h.1 in
-      record { front = n ∷ r.front; part = r.part; parts_are = ap (λ (l : List (Part D L K)). n ∷ l) r.parts_are; others = (h.0, r.others); this = r.this }
+      record { front = n ∷ r.front; part = r.part; parts_are = ap (λ (l : List (ThreadPart D L K)). n ∷ l) r.parts_are; others = (h.0, r.others); this = r.this }
 
   -- a door that was attended
-  pub record DoorDone (door : D) (old : Asking) (part : Part D L K) : Type 0 where
+  pub record DoorDone (door : D) (old : Asking) (part : ThreadPart D L K) : Type 0 where
     pub row : DoorRow D
     pub part_is : part ≡ door_row_part row
     pub worked : IsWorked service.door (manner_of service role.Miner) service.door_turns door row.door old (record { pass = row.pass; faults = row.faults }) row.reason
 
-  door_done : (door : D) (old : Asking) (t : Task D L) (pass : PoolPass) (faults : ℕ) → DoesTask service (task.Door door None) old t (record { pass = pass; faults = faults })
+  door_done : (door : D) (old : Asking) (t : ThreadTask D L) (pass : PoolPass) (faults : ℕ) → DoesTask service (task.Door door None) old t (record { pass = pass; faults = faults })
       → DoorDone door old (record { task = t; pass = pass; faults = faults })
   door_done door old (task.Feed link ended) pass faults h = absurd h
   door_done door old (task.Door after ended) pass faults h = record {
@@ -65,12 +65,12 @@ module _ {D L K : Type 0} (service : Service D L) where
   }
 
   -- a feed's link that was attended
-  pub record FeedDone (link : L) (old : Asking) (part : Part D L K) : Type 0 where
+  pub record FeedDone (link : L) (old : Asking) (part : ThreadPart D L K) : Type 0 where
     pub row : FeedRow L
     pub part_is : part ≡ feed_row_part row
-    pub served : IsServed service.door.link (manner_of service role.Feed) link row.link old (record { pass = row.pass; faults = row.faults }) row.reason
+    pub served : ServesLink service.door.link (manner_of service role.Feed) link row.link old (record { pass = row.pass; faults = row.faults }) row.reason
 
-  feed_done : (link : L) (old : Asking) (t : Task D L) (pass : PoolPass) (faults : ℕ) → DoesTask service (task.Feed link None) old t (record { pass = pass; faults = faults })
+  feed_done : (link : L) (old : Asking) (t : ThreadTask D L) (pass : PoolPass) (faults : ℕ) → DoesTask service (task.Feed link None) old t (record { pass = pass; faults = faults })
       → FeedDone link old (record { task = t; pass = pass; faults = faults })
   feed_done link old (task.Door after ended) pass faults h = absurd h
   feed_done link old (task.Feed after ended) pass faults h = record {
@@ -80,7 +80,7 @@ module _ {D L K : Type 0} (service : Service D L) where
   }
 
   -- all doors that were attended
-  pub record DoorsDone (doors : List D) (passes : List PoolPass) (parts : List (Part D L K)) : Type 0 where
+  pub record DoorsDone (doors : List D) (passes : List PoolPass) (parts : List (ThreadPart D L K)) : Type 0 where
     pub rows : List (DoorRow D)
     pub shifts : List (Shift D L)
     pub parts_are : parts ≡ row_parts rows
@@ -90,7 +90,7 @@ module _ {D L K : Type 0} (service : Service D L) where
     pub reasons : map (λ shift. shift.reason) shifts ≡ map (λ row. row.reason) rows
     pub faults : capped (faults_in rows) ≡ capped (faulted_in (calls_of_shifts shifts))
 
-  pub doors_done : (doors : List D) (passes : List PoolPass) (parts : List (Part D L K)) → length doors ≡ length passes → AttendsEach service (door_parts doors passes) parts
+  pub doors_done : (doors : List D) (passes : List PoolPass) (parts : List (ThreadPart D L K)) → length doors ≡ length passes → AttendsEach service (door_parts doors passes) parts
       → DoorsDone doors passes parts
   doors_done [] [] [] same h = record { rows = []; shifts = []; parts_are = refl; worked = tt; before = refl; after = refl; reasons = refl; faults = refl }
   doors_done [] [] (part ∷ parts) same h = absurd h
@@ -107,7 +107,7 @@ module _ {D L K : Type 0} (service : Service D L) where
       record {
         rows = row ∷ rest.rows;
         shifts = shift ∷ rest.shifts;
-        parts_are = last.parts_are ∙ ap (λ (l : List (Part D L K)). l ++ last.part ∷ []) rest.parts_are ∙ ap (λ (p : Part D L K). row_parts rest.rows ++ p ∷ []) one.part_is;
+        parts_are = last.parts_are ∙ ap (λ (l : List (ThreadPart D L K)). l ++ last.part ∷ []) rest.parts_are ∙ ap (λ (p : ThreadPart D L K). row_parts rest.rows ++ p ∷ []) one.part_is;
         worked = (one.worked.shift, one.worked.asks.goes_on, rest.worked);
         before = ap (λ (l : List D). door ∷ l) rest.before;
         after = ap (λ (l : List D). row.door ∷ l) rest.after;
@@ -117,12 +117,12 @@ module _ {D L K : Type 0} (service : Service D L) where
       }
 
   -- the feed and all doors
-  pub record AllDone (doors : List D) (feed : L) (first : PoolPass) (others : List PoolPass) (parts : List (Part D L K)) : Type 0 where
-    pub front : List (Part D L K)
-    pub fed : (part : Part D L K) × (parts ≡ front ++ part ∷ []) × FeedDone feed (record { pass = first; faults = 0 }) part
+  pub record AllDone (doors : List D) (feed : L) (first : PoolPass) (others : List PoolPass) (parts : List (ThreadPart D L K)) : Type 0 where
+    pub front : List (ThreadPart D L K)
+    pub fed : (part : ThreadPart D L K) × (parts ≡ front ++ part ∷ []) × FeedDone feed (record { pass = first; faults = 0 }) part
     pub asked : DoorsDone doors others front
 
-  pub all_done : (doors : List D) (feed : L) (first : PoolPass) (others : List PoolPass) (parts : List (Part D L K)) → length doors ≡ length others
+  pub all_done : (doors : List D) (feed : L) (first : PoolPass) (others : List PoolPass) (parts : List (ThreadPart D L K)) → length doors ≡ length others
       → AttendsEach service (door_parts doors others ++ feed_part feed first ∷ []) parts → AllDone doors feed first others parts
   all_done doors feed first others parts same h =
       let last = each_last (door_parts doors others) (feed_part feed first) parts h in

@@ -1,7 +1,7 @@
 -- How calls and doors are counted that failed (this project's own).
 use Rattle.std.specs.Prelude.{ℕ, ◌+◌, ◌-◌, ◌^◌, min, Bool, true, false, if◌then◌else◌, List, [], ◌∷◌}
 use Rattle.pool_history.specs.Calls.{PoolCall}
-use Rattle.desk_worker.specs.Calling.{is_faulted}
+use Rattle.desk_worker.specs.Calling.{has_keeper_failed}
 use Rattle.door_worker.specs.declared.working.DoorEnd.{DoorEnd}
 use Rattle.door_worker.specs.declared.working.DoorEnd.TheVariants as end
 use Rattle.door_worker.specs.Shifts.{is_failed_end}
@@ -16,7 +16,7 @@ count_if is = if is then 1 else 0
 -- the calls that the keeper's fault answered
 abbrev pub faulted_in : List PoolCall → ℕ
 faulted_in [] = 0
-faulted_in (call ∷ calls) = count_if (is_faulted call.outcome) + faulted_in calls
+faulted_in (call ∷ calls) = count_if (has_keeper_failed call.outcome) + faulted_in calls
 
 -- memory was wanting for a caller
 abbrev pub is_starved_end : DoorEnd → Bool

@@ -4,27 +4,27 @@ use Rattle.session_steps.specs.declared.ends.SessionEnd.{SessionEnd}
 use Rattle.desk_worker.specs.Calling.{PoolPass}
 use Rattle.door_worker.specs.declared.working.DoorEnd.{DoorEnd}
 use Rattle.pool_server.specs.declared.pairing.Tended.{Tended}
-use Rattle.pool_server.specs.declared.parts.Part.{Part}
-use Rattle.pool_server.specs.declared.parts.Task.{Task}
-use Rattle.pool_server.specs.declared.parts.Task.TheVariants as task
+use Rattle.pool_server.specs.declared.parts.ThreadPart.{ThreadPart}
+use Rattle.pool_server.specs.declared.parts.ThreadTask.{ThreadTask}
+use Rattle.pool_server.specs.declared.parts.ThreadTask.TheVariants as task
 use Rattle.pool_server.specs.Counting.{capped, failed_in, starved_in}
 
 -- a door, and a feed's link, whose work has not begun
-abbrev pub door_part : {D L K : Type 0} → D → PoolPass → Part D L K
+abbrev pub door_part : {D L K : Type 0} → D → PoolPass → ThreadPart D L K
 door_part door pass = record { task = task.Door door None; pass = pass; faults = 0 }
 
-abbrev pub feed_part : {D L K : Type 0} → L → PoolPass → Part D L K
+abbrev pub feed_part : {D L K : Type 0} → L → PoolPass → ThreadPart D L K
 feed_part link pass = record { task = task.Feed link None; pass = pass; faults = 0 }
 
 -- the doors with their passes, the last one first
-abbrev pub door_parts : {D L K : Type 0} → List D → List PoolPass → List (Part D L K)
+abbrev pub door_parts : {D L K : Type 0} → List D → List PoolPass → List (ThreadPart D L K)
 door_parts [] passes = []
 door_parts (door ∷ doors) [] = []
 door_parts (door ∷ doors) (pass ∷ passes) = door_parts doors passes ++ door_part door pass ∷ []
 
 -- the first pass is the feed's, and each later one a door's
 pub record IsPaired {D L K : Type 0} (doors : List D) (passes : List PoolPass) (feed : L)
-    (parts : List (Part D L K)) : Type 0 where
+    (parts : List (ThreadPart D L K)) : Type 0 where
   pub first : PoolPass
   pub others : List PoolPass
   pub passes_are : passes ≡ first ∷ others
@@ -44,14 +44,14 @@ pub record FeedRow (L : Type 0) : Type 0 where
   pub faults : ℕ
   pub reason : SessionEnd
 
-abbrev pub door_row_part : {D L K : Type 0} → DoorRow D → Part D L K
+abbrev pub door_row_part : {D L K : Type 0} → DoorRow D → ThreadPart D L K
 door_row_part row = record {
   task = task.Door row.door (Some row.reason);
   pass = row.pass;
   faults = row.faults;
 }
 
-abbrev pub feed_row_part : {D L K : Type 0} → FeedRow L → Part D L K
+abbrev pub feed_row_part : {D L K : Type 0} → FeedRow L → ThreadPart D L K
 feed_row_part row = record {
   task = task.Feed row.link (Some row.reason);
   pass = row.pass;
@@ -59,22 +59,22 @@ feed_row_part row = record {
 }
 
 -- the doors' parts, the last one first
-abbrev pub row_parts : {D L K : Type 0} → List (DoorRow D) → List (Part D L K)
+abbrev pub row_parts : {D L K : Type 0} → List (DoorRow D) → List (ThreadPart D L K)
 row_parts [] = []
 row_parts (row ∷ rows) = row_parts rows ++ door_row_part row ∷ []
 
 -- all tasks are done
-pub record IsWhole {D L K : Type 0} (parts : List (Part D L K)) : Type 0 where
+pub record HasDoneTasks {D L K : Type 0} (parts : List (ThreadPart D L K)) : Type 0 where
   pub rows : List (DoorRow D)
   pub feed : FeedRow L
   pub parts_are : parts ≡ row_parts rows ++ feed_row_part feed ∷ []
 
-abbrev pub IsFedTask : {D L : Type 0} → Task D L → Type 0
+abbrev pub IsFedTask : {D L : Type 0} → ThreadTask D L → Type 0
 IsFedTask (task.Feed link (Some reason)) = Unit {0}
 IsFedTask (task.Feed link None) = ⊥
 IsFedTask (task.Door door ended) = ⊥
 
-abbrev pub IsAskedTask : {D L : Type 0} → Task D L → Type 0
+abbrev pub IsAskedTask : {D L : Type 0} → ThreadTask D L → Type 0
 IsAskedTask (task.Door door (Some reason)) = Unit {0}
 IsAskedTask (task.Door door None) = ⊥
 IsAskedTask (task.Feed link ended) = ⊥
@@ -97,7 +97,7 @@ pub record IsRestored {D L K : Type 0} (rows : List (DoorRow D)) (feed : FeedRow
   pub door_memory_is : tended.door_memory ≡ capped (starved_in (map (λ row. row.reason) rows))
 
 -- so it is with the rows of which the parts are
-abbrev pub IsUnpaired : {D L K : Type 0} → List (Part D L K) → Tended D L K → Type 0
+abbrev pub IsUnpaired : {D L K : Type 0} → List (ThreadPart D L K) → Tended D L K → Type 0
 IsUnpaired {D} {L} parts tended =
     (rows : List (DoorRow D)) (feed : FeedRow L)
     → parts ≡ row_parts rows ++ feed_row_part feed ∷ [] → IsRestored rows feed tended

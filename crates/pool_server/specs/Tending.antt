@@ -3,7 +3,7 @@ use Rattle.std.specs.Prelude.{◌≡◌, List, [], ◌∷◌, ◌++◌, map}
 use Rattle.pool_history.specs.declared.events.Role.TheVariants as role
 use Rattle.pool_history.specs.Calls.{PoolCall}
 use Rattle.session_steps.specs.Steps.{SessionStep, calls_in}
-use Rattle.desk_worker.specs.Calling.{GoesOn, PoolPass}
+use Rattle.desk_worker.specs.Calling.{AddsCalls, PoolPass}
 use Rattle.link_session.specs.Visits.{IsVisit}
 use Rattle.door_worker.specs.Shifts.{IsShift, Shift, calls_at}
 use Rattle.pool_server.specs.declared.pairing.Tended.{Tended}
@@ -16,7 +16,7 @@ abbrev pub AreWorked :
 AreWorked service [] [] [] = Unit {0}
 AreWorked service (old ∷ olds) (shift ∷ shifts) (new ∷ news) =
     IsShift service.door (manner_of service role.Miner) old.worker service.door_turns shift
-    × GoesOn old (calls_at shift.answers) new × AreWorked service olds shifts news
+    × AddsCalls old (calls_at shift.answers) new × AreWorked service olds shifts news
 AreWorked service _ _ _ = ⊥
 
 -- the calls of all shifts, and with those of the feed's session
@@ -44,7 +44,7 @@ pub record IsTended {D L K : Type 0} (service : Service D L) (doors : List D) (f
     steps = steps;
     reason = tended.feed_end;
   })
-  pub fed_calls : GoesOn first (calls_in steps) first_after
+  pub fed_calls : AddsCalls first (calls_in steps) first_after
   pub worked : AreWorked service others shifts others_after
   pub doors_before : map (λ shift. shift.before) shifts ≡ doors
   pub doors_after : map (λ shift. shift.after) shifts ≡ tended.doors.items

@@ -3,11 +3,11 @@
 ghost use Rattle.std.specs.Prelude.{◌≡◌, ◌+◌, ◌≤◌, [], Some, vec_len};
 ghost use Rattle.std.specs.Vec.{vec_capacity};
 ghost use Rattle.door_worker.specs.Shifts.{is_failed_end};
-ghost use Rattle.pool_server.specs.declared.parts.Task.TheVariants as done;
+ghost use Rattle.pool_server.specs.declared.parts.ThreadTask.TheVariants as done;
 ghost use Rattle.pool_server.specs.Counting.{capped, count_if, is_starved_end};
-ghost use Rattle.pool_server.specs.Pairing.{IsAskedTask, IsFedTask, IsPaired, IsUnpaired, IsWhole};
+ghost use Rattle.pool_server.specs.Pairing.{HasDoneTasks, IsAskedTask, IsFedTask, IsPaired, IsUnpaired};
 
-use crate::parts::{Part, Task};
+use crate::parts::{ThreadPart, ThreadTask};
 use desk::Pass;
 use door_worker::DoorEnd;
 use pool_core::SessionEnd;
@@ -31,7 +31,7 @@ pub(crate) fn pair<D, L, K: Keeper>(
     doors: &mut Vec<D>,
     passes: &mut Vec<Pass<Book<K>>>,
     feed: L,
-    parts: &mut Vec<Part<D, L, K>>,
+    parts: &mut Vec<ThreadPart<D, L, K>>,
 )
     requires as_many { vec_len passes.old ≡ vec_len doors.old + 1 }
     requires room { vec_len doors.old + 1 ≤ vec_capacity parts.old }
@@ -44,16 +44,16 @@ pub(crate) fn pair<D, L, K: Keeper>(
     while let Some(door) = doors.pop() {
         let popped = passes.pop();
         let Some(pass) = popped else { unreachable!() };
-        parts.push_reserved(Part {
-            task: Task::Door(door, None),
+        parts.push_reserved(ThreadPart {
+            task: ThreadTask::Door(door, None),
             pass,
             faults: 0,
         });
     }
     let popped = passes.pop();
     let Some(pass) = popped else { unreachable!() };
-    parts.push_reserved(Part {
-        task: Task::Feed(feed, None),
+    parts.push_reserved(ThreadPart {
+        task: ThreadTask::Feed(feed, None),
         pass,
         faults: 0,
     });
@@ -61,18 +61,18 @@ pub(crate) fn pair<D, L, K: Keeper>(
 
 /// Gives back what parts hold whose tasks are done, in the order in which it was given.
 pub(crate) fn unpair<D, L, K: Keeper>(
-    mut parts: Vec<Part<D, L, K>>,
+    mut parts: Vec<ThreadPart<D, L, K>>,
     mut doors: Vec<D>,
     mut passes: Vec<Pass<Book<K>>>,
 ) -> Tended<D, L, K>
-    requires whole { IsWhole parts.items }
+    requires whole { HasDoneTasks parts.items }
     requires empty { (doors.items ≡ []) × (passes.items ≡ []) }
     requires room { (vec_len parts ≤ vec_capacity doors + 1) × (vec_len parts ≤ vec_capacity passes) }
     ensures { IsUnpaired parts.items result }
 {
     let popped = parts.pop();
     let Some(part) = popped else { unreachable!() };
-    let Part {
+    let ThreadPart {
         task,
         pass,
         faults: feed_faults,
@@ -83,7 +83,7 @@ pub(crate) fn unpair<D, L, K: Keeper>(
     let mut door_faults: u64 = 0;
     let mut door_memory: u64 = 0;
     while let Some(part) = parts.pop() {
-        let Part { task, pass, faults } = part;
+        let ThreadPart { task, pass, faults } = part;
         let (door, end) = door_of(task);
         doors.push_reserved(door);
         passes.push_reserved(pass);
@@ -104,30 +104,30 @@ pub(crate) fn unpair<D, L, K: Keeper>(
 }
 
 /// The feed's link and how its session ended.
-fn feed_of<D, L>(task: Task<D, L>) -> (L, SessionEnd)
+fn feed_of<D, L>(task: ThreadTask<D, L>) -> (L, SessionEnd)
     requires { IsFedTask task }
     ensures { task ≡ done.Feed result.0 (Some result.1) }
 {
     match task {
-        Task::Feed(link, ended) => {
+        ThreadTask::Feed(link, ended) => {
             let Some(end) = ended else { unreachable!() };
             (link, end)
         }
-        Task::Door(_door, _ended) => unreachable!(),
+        ThreadTask::Door(_door, _ended) => unreachable!(),
     }
 }
 
 /// A door and why it was asked no more.
-fn door_of<D, L>(task: Task<D, L>) -> (D, DoorEnd)
+fn door_of<D, L>(task: ThreadTask<D, L>) -> (D, DoorEnd)
     requires { IsAskedTask task }
     ensures { task ≡ done.Door result.0 (Some result.1) }
 {
     match task {
-        Task::Door(door, ended) => {
+        ThreadTask::Door(door, ended) => {
             let Some(end) = ended else { unreachable!() };
             (door, end)
         }
-        Task::Feed(_link, _ended) => unreachable!(),
+        ThreadTask::Feed(_link, _ended) => unreachable!(),
     }
 }
 

@@ -16,14 +16,14 @@ use std::alloc::Global;
 use std::sync::Wait;
 
 /// The feed's link, or a door, and how that ended, once it did.
-pub(crate) enum Task<D, L> {
+pub(crate) enum ThreadTask<D, L> {
     Feed(L, Option<SessionEnd>),
     Door(D, Option<DoorEnd>),
 }
 
 /// A task, the pass that asks for it, and how many of its calls the keeper's fault answered.
-pub(crate) struct Part<D, L, K: Keeper> {
-    pub(crate) task: Task<D, L>,
+pub(crate) struct ThreadPart<D, L, K: Keeper> {
+    pub(crate) task: ThreadTask<D, L>,
     pub(crate) pass: Pass<Book<K>>,
     pub(crate) faults: u64,
 }
@@ -35,7 +35,7 @@ pub(crate) fn attend<R: Wait, K: Keeper, D: Door>(
     desk: &Desk<Book<K>>,
     rolling: bool,
     limits: Limits,
-    part: &mut Part<D, D::L, K>,
+    part: &mut ThreadPart<D, D::L, K>,
 )
     requires desk { part.old.pass.table ≡ desk.now.table }
     requires waits { (0 < limits.idle_turns) × (0 < limits.door_turns) }
@@ -57,7 +57,7 @@ pub(crate) fn attend<R: Wait, K: Keeper, D: Door>(
       door_turns = limits.door_turns;
     }) part.old part.new }
 {
-    let Part { task, pass, faults } = part;
+    let ThreadPart { task, pass, faults } = part;
     let mut asker = DeskWorker {
         rt,
         desk,
@@ -65,10 +65,10 @@ pub(crate) fn attend<R: Wait, K: Keeper, D: Door>(
         faults: *faults,
     };
     match task {
-        Task::Feed(link, end) => {
+        ThreadTask::Feed(link, end) => {
             *end = Some(serve_link(alloc, &mut asker, link, Role::Feed, rolling, limits));
         }
-        Task::Door(door, end) => *end = Some(work(alloc, &mut asker, door, rolling, limits)),
+        ThreadTask::Door(door, end) => *end = Some(work(alloc, &mut asker, door, rolling, limits)),
     }
     let DeskWorker {
         rt: _,

@@ -6,7 +6,7 @@ ghost use Rattle.pool_server.specs.Parts.{AttendsByPlace, IsAttended};
 ghost use Rattle.pool_server.specs.Tending.{IsTended};
 
 use crate::pairing::{Tended, pair, unpair};
-use crate::parts::{Part, attend};
+use crate::parts::{ThreadPart, attend};
 use desk::{Desk, Pass};
 use pool_doors::Door;
 use pool_io::{Keeper, Limits};
@@ -23,7 +23,7 @@ fn attend_each<R: Threads + Wait + Sync, K: Keeper + Send, D: Door + Send>(
     desk: &Desk<Book<K>>,
     rolling: bool,
     limits: Limits,
-    parts: &mut [Part<D, D::L, K>],
+    parts: &mut [ThreadPart<D, D::L, K>],
 )
 where
     D::L: Send,
@@ -53,7 +53,7 @@ where
         rt,
         parts,
         threads,
-        &|_place: usize, part: &mut Part<D, D::L, K>|
+        &|_place: usize, part: &mut ThreadPart<D, D::L, K>|
             requires { (part.now.pass.table ≡ desk.now.table)
                 × (0 < limits.idle_turns) × (0 < limits.door_turns) }
             ensures { IsAttended (record {
@@ -86,7 +86,7 @@ pub(crate) fn run<R: Threads + Wait + Sync, K: Keeper + Send, D: Door + Send>(
     mut passes: Vec<Pass<Book<K>>>,
     mut doors: Vec<D>,
     feed: D::L,
-    mut parts: Vec<Part<D, D::L, K>>,
+    mut parts: Vec<ThreadPart<D, D::L, K>>,
     rolling: bool,
     limits: Limits,
 ) -> Tended<D, D::L, K>

@@ -48,9 +48,9 @@ StageBehind (Asking asked) = is_enter asked ≡ false
 StageBehind _ = Unit {0}
 
 -- where a session stands in its calls
-abbrev Enters : List PoolCall → State → Type 0
-Enters [] s = (s.entered ≡ false) × StageBefore s.talk.flags s.stage
-Enters (call ∷ calls) s = EntersFirst (call ∷ calls) × (is_none s.talk.flags ≡ false) × StageBehind s.stage
+abbrev StandsInCalls : List PoolCall → State → Type 0
+StandsInCalls [] s = (s.entered ≡ false) × StageBefore s.talk.flags s.stage
+StandsInCalls (call ∷ calls) s = EntersFirst (call ∷ calls) × (is_none s.talk.flags ≡ false) × StageBehind s.stage
 
 -- before the first call
 module _ (flags : Option ℕ) where
@@ -224,7 +224,7 @@ module _ (worker : ℕ) (s : State) where
   before_at : (stage : Stage) → s.stage ≡ stage → StageBefore s.talk.flags s.stage → StageBefore s.talk.flags stage
   before_at stage is before = subst (StageBefore s.talk.flags) is before
 
-  step_before : (x : SessionStep) → CanStep worker s x → Enters [] s → Enters (call_in x) (after_step s x)
+  step_before : (x : SessionStep) → CanStep worker s x → StandsInCalls [] s → StandsInCalls (call_in x) (after_step s x)
   step_before (steps.Greeted put) can (out, before) =
       (out, put_before s.talk.flags put.fault s.entered Reading out (before_at Greeting can.0 before))
   step_before (steps.Took bytes) can (out, before) = (out, before)
@@ -244,7 +244,7 @@ module _ (worker : ℕ) (s : State) where
       let stays = call_behind s.stage s call put can.1 in
       ((asks.0, tt), ap is_none stays.flags ∙ asks.1, stays.stage)
 
-  step_behind : (c : PoolCall) (cs : List PoolCall) (x : SessionStep) → CanStep worker s x → Enters (c ∷ cs) s → Enters ((c ∷ cs) ++ call_in x) (after_step s x)
+  step_behind : (c : PoolCall) (cs : List PoolCall) (x : SessionStep) → CanStep worker s x → StandsInCalls (c ∷ cs) s → StandsInCalls ((c ∷ cs) ++ call_in x) (after_step s x)
   step_behind c cs (steps.Called call put) can (first, flags, behind) =
       let stays = call_behind s.stage s call put can.1 in
       ((first.0, all_more cs call first.1 (asks_later s.stage s call put can.1 behind)), ap is_none stays.flags ∙ flags, stays.stage)
@@ -262,20 +262,20 @@ module _ (worker : ℕ) (s : State) where
   step_behind c cs steps.Starved can (first, flags, behind) = rw (append-nil cs) (first, flags, ended_behind s.entered end.Memory)
   step_behind c cs steps.Spent can (first, flags, behind) = rw (append-nil cs) (first, flags, ended_behind s.entered end.BytesOut)
 
-step_enters : (worker : ℕ) (s : State) (calls : List PoolCall) (x : SessionStep) → CanStep worker s x → Enters calls s → Enters (calls ++ call_in x) (after_step s x)
+step_enters : (worker : ℕ) (s : State) (calls : List PoolCall) (x : SessionStep) → CanStep worker s x → StandsInCalls calls s → StandsInCalls (calls ++ call_in x) (after_step s x)
 step_enters worker s [] x can enters = step_before worker s x can enters
 step_enters worker s (c ∷ cs) x can enters = step_behind worker s c cs x can enters
 
-enters_on : (worker : ℕ) (s t : State) (calls : List PoolCall) (xs : List SessionStep) → Enters calls s → Follows worker s xs t → Enters (calls ++ calls_in xs) t
+enters_on : (worker : ℕ) (s t : State) (calls : List PoolCall) (xs : List SessionStep) → StandsInCalls calls s → Follows worker s xs t → StandsInCalls (calls ++ calls_in xs) t
 enters_on worker s t calls [] enters follows = rw (follows, append-nil calls) enters
 enters_on worker s t calls (x ∷ xs) enters follows =
-    subst (λ l. Enters l t) (append_assoc calls (call_in x) (calls_in xs))
+    subst (λ l. StandsInCalls l t) (append_assoc calls (call_in x) (calls_in xs))
     (enters_on worker (after_step s x) t (calls ++ call_in x) xs (step_enters worker s calls x follows.0 enters) follows.1)
 
-first_of : (calls : List PoolCall) (s : State) → Enters calls s → EntersFirst calls
-first_of [] s enters = tt
-first_of (call ∷ calls) s enters = enters.0
+first_enters : (calls : List PoolCall) (s : State) → StandsInCalls calls s → EntersFirst calls
+first_enters [] s enters = tt
+first_enters (call ∷ calls) s enters = enters.0
 
 pub enters_first : EntersComeFirst
 enters_first worker idle_turns role rolling xs last follows =
-    first_of (calls_in xs) last (enters_on worker (new_state role rolling idle_turns) last [] xs (refl, refl) follows)
+    first_enters (calls_in xs) last (enters_on worker (new_state role rolling idle_turns) last [] xs (refl, refl) follows)
