@@ -38,7 +38,8 @@ audit_owes_so_far auditor bytes text audited = record {
 }
 
 -- bytes that are no magic are none, whatever follows; nor are few bytes
-split-eight : (bytes more rest : List ℕ) (a b c d e f g h : ℕ) → 8 ≤ length bytes → bytes ++ more ≡ (a ∷ b ∷ c ∷ d ∷ e ∷ f ∷ g ∷ h ∷ []) ++ rest
+split-eight : (bytes more rest : List ℕ) (a b c d e f g h : ℕ) → 8 ≤ length bytes
+    → bytes ++ more ≡ (a ∷ b ∷ c ∷ d ∷ e ∷ f ∷ g ∷ h ∷ []) ++ rest
     → (other : List ℕ) × (bytes ≡ (a ∷ b ∷ c ∷ d ∷ e ∷ f ∷ g ∷ h ∷ []) ++ other)
 split-eight [] more rest a b c d e f g h long same = absurd (omega (arith, long))
 split-eight (_ ∷ []) more rest a b c d e f g h long same = absurd (omega (arith, long))
@@ -65,7 +66,8 @@ few_have_no_magic bytes few = record {
   short magic rest eight same = omega (arith, few, eight, ap length same, length-append magic rest)
 
 -- a legal front is one, whatever follows
-pub begins-more : (format : Format) (before : List Event) (bytes behind more : List ℕ) → BeginsLegal format before bytes behind
+pub begins-more : (format : Format) (before : List Event) (bytes behind more : List ℕ)
+    → BeginsLegal format before bytes behind
     → BeginsLegal format before (bytes ++ more) (behind ++ more)
 begins-more format before bytes behind more begins = record {
   kept = begins.kept;
@@ -83,14 +85,16 @@ stopped-more bytes more v defect = record {
 }
 
 -- the formats are one
-same_format : (f g : Format) (one other : List Event) (bytes p q : List ℕ) → BeginsLegal f one bytes p → BeginsLegal g other bytes q → f ≡ g
+same_format : (f g : Format) (one other : List Event) (bytes p q : List ℕ) → BeginsLegal f one bytes p
+    → BeginsLegal g other bytes q → f ≡ g
 same_format Plain Plain one other bytes p q a b = refl
 same_format Chained Chained one other bytes p q a b = refl
 same_format Plain Chained one other bytes p q a b = absurd (formats_differ other one q p (sym b.text ∙ a.text))
 same_format Chained Plain one other bytes p q a b = absurd (formats_differ one other p q (sym a.text ∙ b.text))
 
 -- and what goes on lacks nothing
-goes_on-whole : (format : Format) (before : List Event) (behind : List ℕ) → GoesOnLegally format before behind → lacking format behind ≡ 0
+goes_on-whole : (format : Format) (before : List Event) (behind : List ℕ)
+    → GoesOnLegally format before behind → lacking format behind ≡ 0
 goes_on-whole format before behind more = lacking-record format more.event behind more.rest more.one more.has_hash
 
 undecided_or_defect : (format : Format) (one other : List Event) (bytes p q : List ℕ) (v : Verdict)
@@ -109,10 +113,13 @@ undecided_or_defect format one other bytes p q v a lacks b whole stops =
     differ : lacking format p ≡ 0 → ⊥
     differ none = omega (arith, none, lacks)
 
-whole_or_refused : (bytes more text other : List ℕ) → IsAuditedLegal (bytes ++ more) text → IsPrinted (IsRefusedAs bytes) other → ⊥
+whole_or_refused : (bytes more text other : List ℕ) → IsAuditedLegal (bytes ++ more) text
+    → IsPrinted (IsRefusedAs bytes) other → ⊥
 whole_or_refused bytes more text other whole refused =
-    ⊎_elim (λ magic. has-magic whole.format whole.history (bytes ++ more) [] whole.whole (no_magic-more bytes more magic.eight magic.none))
-    (λ defect. not_legal refused.one defect (two-stops (bytes ++ more) verdict.Legal refused.one legal (stopped-more bytes more refused.one defect)))
+    ⊎_elim (λ magic. has-magic whole.format whole.history (bytes ++ more) [] whole.whole
+    (no_magic-more bytes more magic.eight magic.none))
+    (λ defect. not_legal refused.one defect
+    (two-stops (bytes ++ more) verdict.Legal refused.one legal (stopped-more bytes more refused.one defect)))
     refused.has
   where
     legal : Stopped (bytes ++ more) verdict.Legal
@@ -122,23 +129,30 @@ whole_or_refused bytes more text other whole refused =
     empty a same = omega (arith, ap length same, length-append a (0 ∷ []))
 
     not_legal : (v : Verdict) → HasDefect bytes v → verdict.Legal ≡ v → ⊥
-    not_legal v defect is = empty defect.behind (subst (λ w. StopsLedgerBy defect.format defect.before (defect.behind ++ 0 ∷ []) w) (sym is) (defect.stops (0 ∷ [])))
+    not_legal v defect is = empty defect.behind
+        (subst (λ w. StopsLedgerBy defect.format defect.before (defect.behind ++ 0 ∷ []) w) (sym is)
+        (defect.stops (0 ∷ [])))
 
-so_far_or_refused : (bytes more text other : List ℕ) → IsUndecided (bytes ++ more) text → IsPrinted (IsRefusedAs bytes) other → ⊥
+so_far_or_refused : (bytes more text other : List ℕ) → IsUndecided (bytes ++ more) text
+    → IsPrinted (IsRefusedAs bytes) other → ⊥
 so_far_or_refused bytes more text other so_far refused =
     ⊎_elim (λ few. ⊎_elim (λ magic. omega (arith, few, magic.eight, length-append bytes more))
     (λ defect. has-magic defect.format defect.before bytes defect.behind defect.begins
     (few_have_no_magic bytes (omega (arith, few, length-append bytes more))))
     refused.has)
     (λ open_one. ⊎_elim
-    (λ magic. has-magic open_one.format open_one.before (bytes ++ more) open_one.behind open_one.begins (no_magic-more bytes more magic.eight magic.none))
+    (λ magic. has-magic open_one.format open_one.before (bytes ++ more) open_one.behind open_one.begins
+    (no_magic-more bytes more magic.eight magic.none))
     (λ defect. apart open_one defect) refused.has)
     so_far.underway
   where
     apart : IsUnfinished (bytes ++ more) → HasDefect bytes refused.one → ⊥
     apart u d =
-        let longer : BeginsLegal d.format d.before (bytes ++ more) (d.behind ++ more) = begins-more d.format d.before bytes d.behind more d.begins in
-        let same : u.format ≡ d.format = same_format u.format d.format u.before d.before (bytes ++ more) u.behind (d.behind ++ more) u.begins longer in
+        let longer : BeginsLegal d.format d.before (bytes ++ more) (d.behind ++ more) =
+        begins-more d.format d.before bytes d.behind more d.begins in
+        let same : u.format ≡ d.format =
+        same_format u.format d.format u.before d.before (bytes ++ more) u.behind
+        (d.behind ++ more) u.begins longer in
         undecided_or_defect d.format u.before d.before (bytes ++ more) u.behind (d.behind ++ more) refused.one
         (subst (λ f. BeginsLegal f u.before (bytes ++ more) u.behind) same u.begins)
         (subst (λ f. 0 < lacking f u.behind) same u.undecided)

@@ -18,7 +18,8 @@ pub copying_duty_is_sound : IsSoundDuty copying_duty
 copying_duty_is_sound = record {
   nothing = audit_duty_is_sound.nothing;
   whole_or_refused = λ bytes more text other whole refused.
-      audit_duty_is_sound.whole_or_refused bytes more (legal_text whole.legal.history) other (audited (bytes ++ more) whole.legal) refused;
+      audit_duty_is_sound.whole_or_refused bytes more (legal_text whole.legal.history) other
+      (audited (bytes ++ more) whole.legal) refused;
   so_far_or_refused = audit_duty_is_sound.so_far_or_refused;
   whole_or_cut = λ bytes text other whole cut.
       audit_duty_is_sound.whole_or_cut bytes (legal_text whole.legal.history) other (audited bytes whole.legal) cut;
