@@ -1,5 +1,5 @@
 -- What `migrate OLD NEW` owes at each status (this project's own).
-use Rattle.std.specs.Prelude.{ℕ, ◌≡◌, ◌⊎◌, List, [], Option, Some, Result, Ok, Err, codes}
+use Rattle.std.specs.Prelude.{ℕ, ◌≡◌, ◌⊎◌, List, [], Option, Some, Result, Ok, Err, codes, false}
 use Rattle.pool_base.specs.Lists.{Begins}
 use Rattle.pool_history.specs.Summary.{line}
 use Rattle.pool_io.specs.declared.host.HostError.{HostError}
@@ -11,7 +11,7 @@ use Rattle.pool_io.specs.Lending.{nothing_left}
 use Rattle.pool_io.specs.Openings.{openings_and}
 use Rattle.pool_io.specs.Outside.{AddsBytes, CountsFailure, is_failed_append, next_count}
 use Rattle.pool_io.specs.Steps.{steps_of}
-use Rattle.pool_turns.specs.Ending.{DecideEnd, EndsCommand, is_read_fault}
+use Rattle.pool_turns.specs.Ending.{DecideEnd, EndsCommand, is_read_fault, is_write_fault}
 use Rattle.pool_turns.specs.Rows.{CameBack}
 use Rattle.pool_turns.specs.Statuses.{status_of_refusal}
 use Rattle.pool_turns.specs.declared.end.End.{End}
@@ -137,6 +137,7 @@ pub record MigratedOnHost {S T K : Type 0} (told : Accounts S T K) (old_name new
   pub decided : (turns : List Turn) → old.openings.brings old_name ≡ Some turns
       → DecideEnd copying_duty (steps_of turns) copied.end
   pub reads : CountsFailure (is_read_fault (Some copied.end)) 0 (told.read_faults source)
+  pub unfailed : is_write_fault (Some copied.end) ≡ false
   -- what follows on it
   pub follows : FinishRow told new_name copied read done sink put answer
   pub openings : new.openings ≡ done.openings

@@ -1,10 +1,10 @@
 //! A ledger that is audited while its bytes are kept.
 
-ghost use Rattle.std.specs.Prelude.{◌≡◌, List, [], Some};
+ghost use Rattle.std.specs.Prelude.{◌≡◌, List, [], Some, false};
 ghost use Rattle.pool_io.specs.declared.turn.Turn.{Turn as Coming};
 ghost use Rattle.pool_io.specs.Outside.{CountsFailure};
 ghost use Rattle.pool_io.specs.Steps.{steps_of};
-ghost use Rattle.pool_turns.specs.Ending.{DecideEnd, EndsCommand, is_read_fault};
+ghost use Rattle.pool_turns.specs.Ending.{DecideEnd, EndsCommand, is_read_fault, is_write_fault};
 ghost use Rattle.migrate_command.specs.Copying.{copying_duty};
 
 use ledger_audit::Auditor;
@@ -79,6 +79,9 @@ pub fn copy_ledger<S: Source>(alloc: Global, source: &mut S) -> Copied
         → DecideEnd copying_duty (steps_of told) result.end }
     ensures reads { CountsFailure (is_read_fault (Some result.end)) (S.faults source.old)
         (S.faults source.new) }
+
+    // Nothing is put to the outside here, so no put fails.
+    ensures unfailed { is_write_fault (Some result.end) ≡ false }
 {
     let mut sink = SureSink::of(Vec::new(alloc));
     let end = drive::<Copier, S, SureSink>(alloc, &(), source, &mut sink);

@@ -26,6 +26,7 @@ returns-clause-row g c =
       ran = rw c.in-Ok.ensures.told at c.copy_ledger-copied.ensures.ran;
       decided = rw c.in-Ok.ensures.told at c.copy_ledger-copied.ensures.decided;
       reads = rw c.in-Ok.ensures.fresh at c.copy_ledger-copied.ensures.reads;
+      unfailed = c.copy_ledger-copied.ensures.unfailed;
       follows = c.finish-status.ensures.row;
       openings = c.done_sink.ensures.openings;
       sinks = rw (sink_back, finished, source_back, put, given) (record { lent = omega arith; back = refl });
