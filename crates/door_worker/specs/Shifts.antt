@@ -1,6 +1,7 @@
 -- What a worker did at its door, from its first asking to its last (this project's own).
 use Rattle.std.specs.Prelude.{◌≡◌, ℕ, ◌+◌, ◌-◌, ◌<◌, Bool, true, false, List, [], ◌∷◌, ◌++◌, map, Option, None, Some, IfSome, Result, Ok, Err}
 use Rattle.std.specs.Option.{option_map}
+use Rattle.pool_io.specs.declared.turn.Turn.{Turn}
 use Rattle.pool_io.specs.Outside.{CountsFailure}
 use Rattle.pool_doors.specs.declared.door.Arrival.{Arrival}
 use Rattle.pool_doors.specs.declared.door.Arrival.TheVariants as arrival
@@ -20,6 +21,23 @@ pub record DoorTelling (D L : Type 0) : Type 0 where
   pub back : D → Option (List L)
   pub faults : D → ℕ
   pub link : Telling L
+
+-- the same by the meanings of a door and of its links
+abbrev pub telling_of : {D L : Type 0} → (D → Option (List (Arrival L))) → (D → ℕ)
+    → (D → Option (List L)) → (D → ℕ) → (L → Option (List Turn)) → (L → Option (List ℕ)) → (L → ℕ)
+    → (L → ℕ) → DoorTelling D L
+telling_of coming out back faults left held read_faults write_faults = record {
+  coming = coming;
+  out = out;
+  back = back;
+  faults = faults;
+  link = record {
+    left = left;
+    held = held;
+    read_faults = read_faults;
+    write_faults = write_faults;
+  };
+}
 
 -- one answer of a door: nobody came, or somebody, who was then served
 pub data Asked (L : Type 0) : Type 0 where

@@ -2,7 +2,7 @@
 
 ghost use Rattle.std.specs.Prelude.{◌≡◌, ◌<◌};
 ghost use Rattle.pool_history.specs.declared.events.Role.TheVariants as role;
-ghost use Rattle.door_worker.specs.Shifts.{AsksDoorOnce, IsWelcomed, IsWorked};
+ghost use Rattle.door_worker.specs.Shifts.{AsksDoorOnce, IsWelcomed, IsWorked, telling_of};
 
 use desk_worker::DeskWorker;
 use link_session::serve_link;
@@ -38,18 +38,9 @@ pub fn work<R: Wait, K: Keeper, D: Door>(
     requires waits { (0 < limits.idle_turns) × (0 < limits.door_turns) }
     ensures desk { asker.new.pass.now.table ≡ asker.new.desk.now.table }
     ensures pass { asker.new.pass.ghost_name ≡ asker.old.pass.ghost_name }
-    ensures worked { IsWorked (record {
-      coming = D.coming;
-      out = D.out;
-      back = D.back;
-      faults = D.faults;
-      link = record {
-        left = D.L.left;
-        held = D.L.held;
-        read_faults = D.L.read_faults;
-        write_faults = D.L.write_faults;
-      };
-    }) (record { role = role.Miner; rolling = rolling; idle_turns = limits.idle_turns })
+    ensures worked { IsWorked (telling_of D.coming D.out D.back D.faults D.L.left D.L.held
+        D.L.read_faults D.L.write_faults)
+        (record { role = role.Miner; rolling = rolling; idle_turns = limits.idle_turns })
         limits.door_turns door.old door.new
         (record { pass = asker.old.pass.now; faults = asker.old.faults })
         (record { pass = asker.new.pass.now; faults = asker.new.faults }) result }
@@ -80,18 +71,9 @@ fn ask_door<R: Wait, K: Keeper, D: Door>(
     requires turns { 0 < turns }
     ensures desk { asker.new.pass.now.table ≡ asker.new.desk.now.table }
     ensures pass { asker.new.pass.ghost_name ≡ asker.old.pass.ghost_name }
-    ensures next { AsksDoorOnce (record {
-      coming = D.coming;
-      out = D.out;
-      back = D.back;
-      faults = D.faults;
-      link = record {
-        left = D.L.left;
-        held = D.L.held;
-        read_faults = D.L.read_faults;
-        write_faults = D.L.write_faults;
-      };
-    }) (record { role = role.Miner; rolling = rolling; idle_turns = limits.idle_turns })
+    ensures next { AsksDoorOnce (telling_of D.coming D.out D.back D.faults D.L.left D.L.held
+        D.L.read_faults D.L.write_faults)
+        (record { role = role.Miner; rolling = rolling; idle_turns = limits.idle_turns })
         limits.door_turns turns door.old door.new
         (record { pass = asker.old.pass.now; faults = asker.old.faults })
         (record { pass = asker.new.pass.now; faults = asker.new.faults }) result }
@@ -123,18 +105,9 @@ fn welcome<R: Wait, K: Keeper, D: Door>(
     requires out { 0 < D.out door.old }
     ensures desk { asker.new.pass.now.table ≡ asker.new.desk.now.table }
     ensures pass { asker.new.pass.ghost_name ≡ asker.old.pass.ghost_name }
-    ensures served { IsWelcomed (record {
-      coming = D.coming;
-      out = D.out;
-      back = D.back;
-      faults = D.faults;
-      link = record {
-        left = D.L.left;
-        held = D.L.held;
-        read_faults = D.L.read_faults;
-        write_faults = D.L.write_faults;
-      };
-    }) (record { role = role.Miner; rolling = rolling; idle_turns = limits.idle_turns }) link
+    ensures served { IsWelcomed (telling_of D.coming D.out D.back D.faults D.L.left D.L.held
+        D.L.read_faults D.L.write_faults)
+        (record { role = role.Miner; rolling = rolling; idle_turns = limits.idle_turns }) link
         door.old door.new (record { pass = asker.old.pass.now; faults = asker.old.faults })
         (record { pass = asker.new.pass.now; faults = asker.new.faults }) }
 {

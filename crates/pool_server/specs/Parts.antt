@@ -18,6 +18,14 @@ pub record Service (D L : Type 0) : Type 0 where
   pub idle_turns : ℕ
   pub door_turns : ℕ
 
+abbrev pub service_of : {D L : Type 0} → DoorTelling D L → Bool → ℕ → ℕ → Service D L
+service_of door rolling idle_turns door_turns = record {
+  door = door;
+  rolling = rolling;
+  idle_turns = idle_turns;
+  door_turns = door_turns;
+}
+
 abbrev pub manner_of : {D L : Type 0} → Service D L → Role → Manner
 manner_of service role = record {
   role = role;

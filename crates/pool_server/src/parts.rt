@@ -1,7 +1,8 @@
 //! What one thread has in hand, and its work.
 
 ghost use Rattle.std.specs.Prelude.{◌≡◌, ◌<◌};
-ghost use Rattle.pool_server.specs.Parts.{IsAttended};
+ghost use Rattle.door_worker.specs.Shifts.{telling_of};
+ghost use Rattle.pool_server.specs.Parts.{IsAttended, service_of};
 
 use desk::{Desk, Pass};
 use desk_worker::DeskWorker;
@@ -39,23 +40,9 @@ pub(crate) fn attend<R: Wait, K: Keeper, D: Door>(
 )
     requires desk { part.old.pass.table ≡ desk.now.table }
     requires waits { (0 < limits.idle_turns) × (0 < limits.door_turns) }
-    ensures { IsAttended (record {
-      door = record {
-        coming = D.coming;
-        out = D.out;
-        back = D.back;
-        faults = D.faults;
-        link = record {
-          left = D.L.left;
-          held = D.L.held;
-          read_faults = D.L.read_faults;
-          write_faults = D.L.write_faults;
-        };
-      };
-      rolling = rolling;
-      idle_turns = limits.idle_turns;
-      door_turns = limits.door_turns;
-    }) part.old part.new }
+    ensures { IsAttended (service_of (telling_of D.coming D.out D.back D.faults D.L.left
+        D.L.held D.L.read_faults D.L.write_faults) rolling limits.idle_turns limits.door_turns)
+        part.old part.new }
 {
     let ThreadPart { task, pass, faults } = part;
     let mut asker = DeskWorker {

@@ -2,7 +2,8 @@
 
 ghost use Rattle.std.specs.Prelude.{◌≡◌, ◌<◌, ◌≤◌, ◌+◌, [], All, length, vec_len};
 ghost use Rattle.std.specs.Vec.{vec_capacity};
-ghost use Rattle.pool_server.specs.Parts.{AttendsByPlace, IsAttended};
+ghost use Rattle.door_worker.specs.Shifts.{telling_of};
+ghost use Rattle.pool_server.specs.Parts.{AttendsByPlace, IsAttended, service_of};
 ghost use Rattle.pool_server.specs.Tending.{IsTended};
 
 use crate::pairing::{Tended, pair, unpair};
@@ -30,23 +31,9 @@ where
     requires some { 0 < length parts.old }
     requires desk { All (λ part. part.pass.table ≡ desk.now.table) parts.old }
     requires waits { (0 < limits.idle_turns) × (0 < limits.door_turns) }
-    ensures { AttendsByPlace (record {
-      door = record {
-        coming = D.coming;
-        out = D.out;
-        back = D.back;
-        faults = D.faults;
-        link = record {
-          left = D.L.left;
-          held = D.L.held;
-          read_faults = D.L.read_faults;
-          write_faults = D.L.write_faults;
-        };
-      };
-      rolling = rolling;
-      idle_turns = limits.idle_turns;
-      door_turns = limits.door_turns;
-    }) parts.old parts.new }
+    ensures { AttendsByPlace (service_of (telling_of D.coming D.out D.back D.faults D.L.left
+        D.L.held D.L.read_faults D.L.write_faults) rolling limits.idle_turns limits.door_turns)
+        parts.old parts.new }
 {
     let threads = parts.len();
     thread::for_each_mut(
@@ -56,23 +43,9 @@ where
         &|_place: usize, part: &mut ThreadPart<D, D::L, K>|
             requires { (part.now.pass.table ≡ desk.now.table)
                 × (0 < limits.idle_turns) × (0 < limits.door_turns) }
-            ensures { IsAttended (record {
-              door = record {
-                coming = D.coming;
-                out = D.out;
-                back = D.back;
-                faults = D.faults;
-                link = record {
-                  left = D.L.left;
-                  held = D.L.held;
-                  read_faults = D.L.read_faults;
-                  write_faults = D.L.write_faults;
-                };
-              };
-              rolling = rolling;
-              idle_turns = limits.idle_turns;
-              door_turns = limits.door_turns;
-            }) part.entry.now part.exit.now }
+            ensures { IsAttended (service_of (telling_of D.coming D.out D.back D.faults D.L.left
+                D.L.held D.L.read_faults D.L.write_faults) rolling limits.idle_turns limits.door_turns)
+                part.entry.now part.exit.now }
         { attend(rt, alloc, desk, rolling, limits, part) },
     );
 }
@@ -97,23 +70,9 @@ where
     requires empty { parts.items ≡ [] }
     requires room { vec_len doors + 1 ≤ vec_capacity parts }
     requires waits { (0 < limits.idle_turns) × (0 < limits.door_turns) }
-    ensures { IsTended (record {
-      door = record {
-        coming = D.coming;
-        out = D.out;
-        back = D.back;
-        faults = D.faults;
-        link = record {
-          left = D.L.left;
-          held = D.L.held;
-          read_faults = D.L.read_faults;
-          write_faults = D.L.write_faults;
-        };
-      };
-      rolling = rolling;
-      idle_turns = limits.idle_turns;
-      door_turns = limits.door_turns;
-    }) doors.items feed passes.items result }
+    ensures { IsTended (service_of (telling_of D.coming D.out D.back D.faults D.L.left
+        D.L.held D.L.read_faults D.L.write_faults) rolling limits.idle_turns limits.door_turns)
+        doors.items feed passes.items result }
 {
     pair(&mut doors, &mut passes, feed, &mut parts);
     attend_each(rt, alloc, desk, rolling, limits, parts.as_mut_slice());

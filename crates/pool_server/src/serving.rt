@@ -2,7 +2,9 @@
 
 ghost use Rattle.std.specs.Prelude.{◌≡◌, ◌<◌, ◌-◌, ◌^◌, All, vec_len};
 ghost use Rattle.desk.specs.Closing.{HasEveryWorker};
+ghost use Rattle.door_worker.specs.Shifts.{telling_of};
 ghost use Rattle.pool_server.specs.Ending.{HasServed, IsFinished};
+ghost use Rattle.pool_server.specs.Parts.{service_of};
 
 use crate::pairing::Tended;
 use crate::running::run;
@@ -50,23 +52,9 @@ where
     D::L: Send,
     requires few { vec_len doors < 2 ^ 32 - 1 }
     requires waits { (0 < limits.idle_turns) × (0 < limits.door_turns) }
-    ensures { HasServed (record {
-      door = record {
-        coming = D.coming;
-        out = D.out;
-        back = D.back;
-        faults = D.faults;
-        link = record {
-          left = D.L.left;
-          held = D.L.held;
-          read_faults = D.L.read_faults;
-          write_faults = D.L.write_faults;
-        };
-      };
-      rolling = rolling;
-      idle_turns = limits.idle_turns;
-      door_turns = limits.door_turns;
-    }) (record { records = K.records; faults = K.faults }) book doors feed result }
+    ensures { HasServed (service_of (telling_of D.coming D.out D.back D.faults D.L.left
+        D.L.held D.L.read_faults D.L.write_faults) rolling limits.idle_turns limits.door_turns)
+        (record { records = K.records; faults = K.faults }) book doors feed result }
 {
     let Ok(parts) = Vec::with_capacity(alloc, doors.len() + 1) else {
         return Served::Memory(book, doors, feed);
