@@ -1,6 +1,5 @@
 -- What `migrate OLD NEW` owes at each status (this project's own).
 use Rattle.std.specs.Prelude.{ℕ, ◌≡◌, ◌⊎◌, List, [], Option, Some, Result, Ok, Err, codes, false}
-use Rattle.pool_base.specs.Lists.{Begins}
 use Rattle.pool_history.specs.Summary.{line}
 use Rattle.pool_io.specs.declared.host.HostError.{HostError}
 use Rattle.pool_io.specs.declared.keeper.KeeperFailed.{KeeperFailed}
@@ -9,7 +8,7 @@ use Rattle.pool_io.specs.declared.opening.Opening.TheVariants as opening
 use Rattle.pool_io.specs.declared.turn.Turn.{Turn}
 use Rattle.pool_io.specs.Lending.{nothing_left}
 use Rattle.pool_io.specs.Openings.{openings_and}
-use Rattle.pool_io.specs.Outside.{AddsBytes, CountsFailure, is_failed_append, next_count}
+use Rattle.pool_io.specs.Outside.{CountsFailure, is_failed_append}
 use Rattle.pool_io.specs.Steps.{steps_of}
 use Rattle.pool_turns.specs.Ending.{DecideEnd, EndsCommand, is_read_fault, is_write_fault}
 use Rattle.pool_turns.specs.Rows.{CameBack}
@@ -22,24 +21,9 @@ use Rattle.audit_command.specs.Row.{IsRefusedFile, IsRefusedOutput}
 use Rattle.settings_file.specs.Views.{HostView}
 use Rattle.solo_command.specs.Row.{IsKeeperGiven, IsRefusedKeeper, meanings_of, with_keeper_back}
 use Rattle.solo_session.specs.Solo.{Accounts}
+use Rattle.text_output.specs.Putting.{PutsText}
 use Rattle.migrate_command.specs.declared.copying.Copied.{Copied}
 use Rattle.migrate_command.specs.Copying.{KeepsAnew, copying_duty}
-
--- a front of a text was put, and why not all
-pub record PutsFront {T : Type 0} (held : T → Option (List ℕ)) (faults : T → ℕ) (old new : T)
-    (text : List ℕ) (answer : Status) : Type 0 where
-  pub front : List ℕ
-  pub begins : Begins front text
-  pub put : AddsBytes (held old) (held new) front
-  pub cause : ((answer ≡ status.WriteFault) × (faults new ≡ next_count (faults old)))
-      ⊎ ((answer ≡ status.Memory) × (faults new ≡ faults old))
-
--- a text was put, and this is answered; or a front of it
-abbrev pub PutsText : {T : Type 0} → (T → Option (List ℕ)) → (T → ℕ) → T → T → List ℕ → Status
-    → Status → Type 0
-PutsText held faults old new text wanted answer =
-    ((answer ≡ wanted) × AddsBytes (held old) (held new) text × (faults new ≡ faults old))
-    ⊎ PutsFront held faults old new text answer
 
 -- the number of events was put
 abbrev pub PutsCount : {T : Type 0} → (T → Option (List ℕ)) → (T → ℕ) → T → T → ℕ → Status → Type 0

@@ -6,14 +6,15 @@ ghost use Rattle.pool_io.specs.Outside.{CountsFailure};
 ghost use Rattle.pool_turns.specs.Statuses.{status_code};
 ghost use Rattle.settings_file.specs.Views.{IsHandedBack, view_of};
 ghost use Rattle.solo_command.specs.Row.{accounts_of};
-ghost use Rattle.migrate_command.specs.Row.{FinishRow, KeepRow, MigrateRow, PutsCount, PutsText, status_of_keeper};
+ghost use Rattle.migrate_command.specs.Row.{FinishRow, KeepRow, MigrateRow, PutsCount, status_of_keeper};
 
 use crate::copying::{Copied, copy_ledger};
 use crate::pieces::append_ledger;
-use pool_io::{Host, KeeperFailed, Sink, SinkFailed};
+use pool_io::{Host, KeeperFailed, Sink};
 use pool_summary::put_line;
-use pool_turns::{End, Status, put_all, refusal_status};
+use pool_turns::{End, Status, refusal_status};
 use std::alloc::Global;
+use text_output::put_text;
 
 /// Keeps the ledger in the file of a name anew, in a new file of the other name, and puts how many
 /// events it has to standard output.
@@ -125,16 +126,5 @@ fn put_count<T: Sink>(alloc: Global, sink: &mut T, count: u64) -> Status
     match put_line(&mut text, b"migrated", count) {
         Ok(()) => put_text(sink, &text, Status::Done),
         Err(_) => Status::Memory,
-    }
-}
-
-/// Puts a text, and answers this status if all of it was put.
-fn put_text<T: Sink>(sink: &mut T, text: &[u8], status: Status) -> Status
-    ensures { PutsText T.held T.faults sink.old sink.new text.now status result }
-{
-    match put_all(sink, text) {
-        Ok(()) => status,
-        Err(SinkFailed::Failed) => Status::WriteFault,
-        Err(SinkFailed::Memory) => Status::Memory,
     }
 }

@@ -1,0 +1,37 @@
+-- What contracts see of a network, and what one call does to it (this project's own).
+use Rattle.std.specs.Prelude.{◌≡◌, ℕ, List, [], ◌∷◌, ◌++◌, Option, None, Some, Result, Ok, Err}
+use Rattle.pool_io.specs.declared.host.HostError.{HostError}
+use Rattle.pool_io.specs.declared.host.HostError.TheVariants as host
+use Rattle.pool_io.specs.Lending.{Lending}
+use Rattle.pool_network.specs.declared.network.Reaching.{Reaching}
+
+-- a network with links L, that opens doors D
+pub record NetworkView (L D : Type 0) : Type 0 where
+  -- how often it has failed
+  pub faults : ℕ
+  -- the calls that named an address so far, in their order, where they are told
+  pub calls : Option (List Reaching)
+  -- the links that it will give, and the doors, where they are told
+  pub to_dial : Option (List L)
+  pub to_open : Option (List D)
+  -- the links that are out, and those that came back; the same of the lists of doors
+  pub links : Lending L
+  pub doors : Lending (List D)
+
+-- one more call, where the calls are told
+abbrev pub reaching_and : Option (List Reaching) → Reaching → Option (List Reaching)
+reaching_and None call = None
+reaching_and (Some calls) call = Some (calls ++ call ∷ [])
+
+-- once a call has answered, it is told; one that found no memory isn't told
+abbrev pub calls_after : {A : Type 0} → Reaching → Result A HostError → Option (List Reaching)
+    → Option (List Reaching)
+calls_after call (Ok given) calls = reaching_and calls call
+calls_after call (Err host.Failed) calls = reaching_and calls call
+calls_after call (Err host.Memory) calls = calls
+
+-- what was given are the next ones of those that are told; one that told nothing tells nothing
+abbrev pub GivesNext : {A : Type 0} → Option (List A) → Option (List A) → List A → Type 0
+GivesNext None new given = new ≡ None
+GivesNext {A} (Some told) new given =
+    (left : List A) × (new ≡ Some left) × (told ≡ given ++ left)

@@ -1,0 +1,118 @@
+-- What was done on a network (this project's own).
+use Rattle.std.specs.Prelude.{◌≡◌, ◌⊎◌, ℕ, List, [], ◌∷◌, Option, Ok, Err, length}
+use Rattle.pool_base.specs.Counts.{Rose}
+use Rattle.pool_io.specs.declared.host.HostError.{HostError}
+use Rattle.pool_io.specs.declared.host.HostError.TheVariants as host
+use Rattle.pool_io.specs.Outside.{CountsFailure, is_failed_gift}
+use Rattle.pool_turns.specs.Rows.{CameBack}
+use Rattle.pool_network.specs.declared.network.Reaching.{Reaching}
+use Rattle.pool_network.specs.declared.network.Reaching.TheVariants as reaching
+use Rattle.pool_network.specs.Networks.{GivesNext, NetworkView, calls_after}
+use Rattle.share_ledger.specs.Books.{BookSeen}
+use Rattle.session_steps.specs.declared.ends.SessionEnd.{SessionEnd}
+use Rattle.pool_server.specs.Parts.{Service}
+use Rattle.pool_server.specs.Serving.{HasRun, KeeperTelling}
+use Rattle.serve_command.specs.declared.serving.Reached.{Reached}
+use Rattle.serve_command.specs.declared.serving.Reached.TheVariants as reached
+
+-- where the feed is, where miners come, and how many are served at once
+pub record Places : Type 0 where
+  pub feed : List ℕ
+  pub address : List ℕ
+  pub workers : ℕ
+
+-- the network's calls once it gave a link to the feed, and once it was then asked for doors
+abbrev pub calls_for_feed : Places → Option (List Reaching) → Option (List Reaching)
+calls_for_feed places calls = calls_after {A = Unit {0}} (reaching.Dial places.feed) (Ok tt) calls
+
+abbrev pub call_for_doors : Places → Reaching
+call_for_doors places = reaching.Doors places.address places.workers
+
+abbrev pub calls_for_both : Places → Option (List Reaching) → Option (List Reaching)
+calls_for_both places calls =
+    calls_after {A = Unit {0}} (call_for_doors places) (Ok tt) (calls_for_feed places calls)
+
+-- a link to the feed and as many doors as workers were given, and all came back
+pub record GivesBoth {D L : Type 0} (places : Places) (old new : NetworkView L D) (link link_back : L)
+    (doors doors_back : List D) : Type 0 where
+  pub dialled : GivesNext old.to_dial new.to_dial (link ∷ [])
+  pub opened : GivesNext old.to_open new.to_open doors
+  pub as_many : length doors ≡ places.workers
+  pub links : CameBack old.links new.links link_back
+  pub lists : CameBack old.doors new.doors doors_back
+  pub faults : new.faults ≡ old.faults
+  pub calls : new.calls ≡ calls_for_both places old.calls
+
+-- none of these doors' counts rose
+abbrev pub NoDoorFailed : {D : Type 0} → (D → ℕ) → List D → List D → Type 0
+NoDoorFailed faults [] news = Unit {0}
+NoDoorFailed faults (old ∷ olds) [] = Unit {0}
+NoDoorFailed faults (old ∷ olds) (new ∷ news) =
+    ¬ Rose (faults old) (faults new) × NoDoorFailed faults olds news
+
+-- The feed's link was served by the first worker, and each door by a later one, all on one book.
+pub record ServedOnNetwork {K D L : Type 0} (service : Service D L) (keeper : KeeperTelling K)
+    (places : Places) (old new : NetworkView L D) (begun ended : BookSeen K) (reason : SessionEnd)
+    (ledger_faults door_faults door_memory : ℕ) : Type 0 where
+  pub link : L
+  pub link_back : L
+  pub doors : List D
+  pub doors_back : List D
+  pub gives : GivesBoth places old new link link_back doors doors_back
+  pub ran : HasRun service keeper (record { book = begun; doors = doors; feed = link })
+      (record { book = ended; doors = doors_back; feed = link_back }) reason ledger_faults
+      door_faults door_memory
+  -- a fault of the keeper is counted only where its count rose, and one of doors only where one's did
+  pub keeper_unfailed : ¬ Rose (keeper.faults begun.keeper) (keeper.faults ended.keeper)
+      → ledger_faults ≡ 0
+  pub doors_unfailed : NoDoorFailed service.door.faults doors doors_back → door_faults ≡ 0
+
+-- the network gave no link: nothing else changed
+pub record HasNoLink {D L : Type 0} (places : Places) (old new : NetworkView L D)
+    (error : HostError) : Type 0 where
+  pub stays : new ≡ record old { faults = new.faults; calls = new.calls }
+  pub calls : new.calls
+      ≡ calls_after {A = Unit {0}} (reaching.Dial places.feed) (Err error) old.calls
+  pub counts : CountsFailure (is_failed_gift {A = Unit {0}} (Err error)) old.faults new.faults
+
+-- it gave a link and no doors: the link came back as it was given
+pub record HasNoDoors {D L : Type 0} (places : Places) (old new : NetworkView L D)
+    (error : HostError) : Type 0 where
+  pub link : L
+  pub dialled : GivesNext old.to_dial new.to_dial (link ∷ [])
+  pub links : CameBack old.links new.links link
+  pub stays : new ≡ record old {
+    faults = new.faults;
+    calls = new.calls;
+    to_dial = new.to_dial;
+    links = new.links;
+  }
+  pub calls : new.calls
+      ≡ calls_after {A = Unit {0}} (call_for_doors places) (Err error)
+      (calls_for_feed places old.calls)
+  pub counts : CountsFailure (is_failed_gift {A = Unit {0}} (Err error)) old.faults new.faults
+
+-- there was no memory to serve them: link and doors came back as they were given
+pub record HasNoMemory {D L : Type 0} (places : Places) (old new : NetworkView L D)
+    (error : HostError) : Type 0 where
+  pub link : L
+  pub doors : List D
+  pub gives : GivesBoth places old new link link doors doors
+  pub error_is : error ≡ host.Memory
+
+-- no session began
+abbrev pub IsUnserved :
+    {D L : Type 0} → Places → NetworkView L D → NetworkView L D → HostError → Type 0
+IsUnserved places old new error =
+    HasNoLink places old new error ⊎ HasNoDoors places old new error
+    ⊎ HasNoMemory places old new error
+
+-- what was done with a book
+abbrev pub ServesOnNetwork : {K D L : Type 0} → Service D L → KeeperTelling K → Places
+    → NetworkView L D → NetworkView L D → BookSeen K → Reached K → Type 0
+ServesOnNetwork service keeper places old new begun
+    (reached.Ran ended reason ledger_faults door_faults door_memory) =
+    ServedOnNetwork service keeper places old new begun ended reason ledger_faults door_faults
+    door_memory
+ServesOnNetwork service keeper places old new begun (reached.Unserved ended error) =
+    (ended ≡ begun) × IsUnserved places old new error

@@ -1,0 +1,177 @@
+//! The command: settings, keeper, feed and doors are opened in this order, and the output when all
+//! sessions are over; all that was given is handed back.
+
+ghost use Rattle.std.specs.Prelude.{◌≡◌, ◌<◌, ◌-◌};
+ghost use Rattle.door_worker.specs.Shifts.{telling_of};
+ghost use Rattle.pool_settings.specs.Reading.{AreInRange};
+ghost use Rattle.settings_file.specs.Views.{IsHandedBack, view_of};
+ghost use Rattle.share_ledger.specs.Books.{IsUnused};
+ghost use Rattle.solo_command.specs.Row.{accounts_of};
+ghost use Rattle.serve_command.specs.Row.{ServesOnBook, FinishesServing, ServesWithKeeper, ServeRow};
+
+use crate::report::print_report;
+use crate::serving::{Reached, serve_on_network};
+use crate::status::{served_status, start_status};
+use pool_doors::Door;
+use pool_io::Host;
+use pool_network::Network;
+use pool_settings::Settings;
+use pool_turns::{Status, refusal_status};
+use settings_file::open_settings;
+use share_ledger::Book;
+use std::alloc::Global;
+use std::sync::Wait;
+use std::thread::Threads;
+
+/// Serves a feed and miners by the settings file of a name, and keeps their history in a new file of
+/// the other name. Each session has a thread, where threads can be made.
+pub fn serve_by_settings<R: Threads + Wait + Sync, H: Host, N: Network>(
+    rt: &R,
+    alloc: Global,
+    host: &mut H,
+    network: &mut N,
+    settings_name: &str,
+    ledger_name: &str,
+) -> Status
+where
+    H::K: Send,
+    N::D: Send,
+    <N::D as Door>::L: Send,
+    ensures row { ServeRow
+        (accounts_of H.S.left H.T.held H.K.records H.S.faults H.T.faults H.K.faults)
+        (telling_of N.D.coming N.D.out N.D.back N.D.faults N.D.L.left N.D.L.held N.D.L.read_faults
+        N.D.L.write_faults) settings_name.now ledger_name.now
+        (record { host = view_of H.seen H.openings host.old; network = N.seen network.old })
+        (record { host = view_of H.seen H.openings host.new; network = N.seen network.new })
+        result }
+
+    // Everything that the host and the network gave has come back.
+    ensures back { IsHandedBack (view_of H.seen H.openings host.old)
+        (view_of H.seen H.openings host.new) }
+    ensures links { (N.seen network.new).links.lent ≡ (N.seen network.old).links.lent }
+    ensures doors { (N.seen network.new).doors.lent ≡ (N.seen network.old).doors.lent }
+{
+    match open_settings(alloc, host, settings_name) {
+        Ok(settings) => serve_with_keeper(rt, alloc, host, network, settings, ledger_name),
+        Err(no_settings) => no_settings.status(),
+    }
+}
+
+/// The same by these settings.
+fn serve_with_keeper<R: Threads + Wait + Sync, H: Host, N: Network>(
+    rt: &R,
+    alloc: Global,
+    host: &mut H,
+    network: &mut N,
+    settings: Settings,
+    ledger_name: &str,
+) -> Status
+where
+    H::K: Send,
+    N::D: Send,
+    <N::D as Door>::L: Send,
+    requires ranges { AreInRange settings }
+    ensures row { ServesWithKeeper
+        (accounts_of H.S.left H.T.held H.K.records H.S.faults H.T.faults H.K.faults)
+        (telling_of N.D.coming N.D.out N.D.back N.D.faults N.D.L.left N.D.L.held N.D.L.read_faults
+        N.D.L.write_faults) settings ledger_name.now
+        (record { host = view_of H.seen H.openings host.old; network = N.seen network.old })
+        (record { host = view_of H.seen H.openings host.new; network = N.seen network.new })
+        result }
+    ensures back { IsHandedBack (view_of H.seen H.openings host.old)
+        (view_of H.seen H.openings host.new) }
+    ensures links { (N.seen network.new).links.lent ≡ (N.seen network.old).links.lent }
+    ensures doors { (N.seen network.new).doors.lent ≡ (N.seen network.old).doors.lent }
+{
+    match host.open_keeper(ledger_name) {
+        Ok(keeper) => serve_book(rt, alloc, host, network, settings, keeper),
+        Err(error) => refusal_status(error),
+    }
+}
+
+/// The same on a book that this keeper keeps.
+fn serve_book<R: Threads + Wait + Sync, H: Host, N: Network>(
+    rt: &R,
+    alloc: Global,
+    host: &mut H,
+    network: &mut N,
+    settings: Settings,
+    keeper: H::K,
+) -> Status
+where
+    H::K: Send,
+    N::D: Send,
+    <N::D as Door>::L: Send,
+    requires ranges { AreInRange settings }
+    requires out { 0 < (H.openings host.old).keepers.lent }
+    requires unused { IsUnused (H.K.records keeper) }
+    ensures row { ServesOnBook
+        (accounts_of H.S.left H.T.held H.K.records H.S.faults H.T.faults H.K.faults)
+        (telling_of N.D.coming N.D.out N.D.back N.D.faults N.D.L.left N.D.L.held N.D.L.read_faults
+        N.D.L.write_faults) settings keeper
+        (record { host = view_of H.seen H.openings host.old; network = N.seen network.old })
+        (record { host = view_of H.seen H.openings host.new; network = N.seen network.new })
+        result }
+    ensures sources { (H.seen host.new).sources.lent ≡ (H.seen host.old).sources.lent }
+    ensures sinks { (H.seen host.new).sinks.lent ≡ (H.seen host.old).sinks.lent }
+    ensures keepers { (H.openings host.new).keepers.lent
+        ≡ (H.openings host.old).keepers.lent - 1 }
+    ensures links { (N.seen network.new).links.lent ≡ (N.seen network.old).links.lent }
+    ensures doors { (N.seen network.new).doors.lent ≡ (N.seen network.old).doors.lent }
+{
+    let Settings {
+        rules,
+        limits,
+        workers,
+        address,
+        feed,
+        ..
+    } = settings;
+    let rolling = rules.version_rolling;
+    match Book::new(alloc, rules, keeper) {
+        Ok(book) => {
+            let feed = feed.text();
+            let address = address.text();
+            let reached = serve_on_network(
+                rt, alloc, network, book, feed, address, workers, rolling, limits,
+            );
+            finish(alloc, host, reached)
+        }
+        Err((keeper, cause)) => {
+            host.done_keeper(keeper);
+            start_status(cause)
+        }
+    }
+}
+
+/// Prints what there is to report, and hands the keeper back.
+fn finish<H: Host>(alloc: Global, host: &mut H, reached: Reached<H::K>) -> Status
+    requires out { 0 < (H.openings host.old).keepers.lent }
+    ensures row { FinishesServing
+        (accounts_of H.S.left H.T.held H.K.records H.S.faults H.T.faults H.K.faults)
+        (view_of H.seen H.openings host.old) (view_of H.seen H.openings host.new) reached result }
+    ensures sources { (H.seen host.new).sources.lent ≡ (H.seen host.old).sources.lent }
+    ensures sinks { (H.seen host.new).sinks.lent ≡ (H.seen host.old).sinks.lent }
+    ensures keepers { (H.openings host.new).keepers.lent
+        ≡ (H.openings host.old).keepers.lent - 1 }
+{
+    match reached {
+        Reached::Ran {
+            book,
+            feed_end,
+            ledger_faults,
+            door_faults,
+            door_memory,
+        } => {
+            let printed = print_report(alloc, host, &book, feed_end);
+            let (keeper, _history) = book.into_parts();
+            host.done_keeper(keeper);
+            served_status(ledger_faults, door_faults, door_memory, printed)
+        }
+        Reached::Unserved(book, error) => {
+            let (keeper, _history) = book.into_parts();
+            host.done_keeper(keeper);
+            refusal_status(error)
+        }
+    }
+}

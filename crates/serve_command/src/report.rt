@@ -1,0 +1,90 @@
+//! What is printed when all sessions are over.
+
+ghost use Rattle.std.specs.Prelude.{◌≡◌, ◌==◌, ◌++◌, IfOk};
+ghost use Rattle.pool_io.specs.Outside.{CountsFailure};
+ghost use Rattle.settings_file.specs.Views.{view_of};
+ghost use Rattle.pool_turns.specs.declared.status.Status.TheVariants as status;
+ghost use Rattle.text_output.specs.Putting.{PutsText};
+ghost use Rattle.solo_command.specs.Row.{accounts_of};
+ghost use Rattle.serve_command.specs.Row.{PrintsReport};
+ghost use Rattle.serve_command.specs.Words.{report_text, word_of_end};
+
+use pool_core::SessionEnd;
+use pool_io::{Host, Keeper, Sink};
+use pool_turns::{Status, refusal_status};
+use share_ledger::Book;
+use std::alloc::{AllocError, Global};
+use text_output::put_text;
+
+/// The word for how a session ended.
+fn end_word(end: SessionEnd) -> &'static str
+    ensures { result.now ≡ word_of_end end }
+{
+    match end {
+        SessionEnd::Done => "done",
+        SessionEnd::CutFrame(_) => "cut",
+        SessionEnd::TooLong(_) => "too-long",
+        SessionEnd::BadSetup => "bad-setup",
+        SessionEnd::BadMessage(_) => "bad-message",
+        SessionEnd::IdleOut => "idle-out",
+        SessionEnd::BytesOut => "bytes-out",
+        SessionEnd::PoolFull => "pool-full",
+        SessionEnd::ReadFault => "read-fault",
+        SessionEnd::WriteFault => "write-fault",
+        SessionEnd::LedgerFault => "ledger-fault",
+        SessionEnd::Memory => "memory",
+    }
+}
+
+/// That it has served, how the feed's session ended, and the summary of the history.
+fn report_of<K: Keeper>(
+    alloc: Global,
+    book: &Book<K>,
+    feed_end: SessionEnd,
+) -> Result<Vec<u8>, AllocError>
+    ensures { IfOk result (λ text. text.items ≡ report_text feed_end book.now.events) }
+{
+    let mut text = Vec::new(alloc);
+    text.extend_from_slice(b"served\nfeed ")?;
+    text.extend_from_slice(end_word(feed_end).as_bytes())?;
+    text.extend_from_slice(b"\n")?;
+    book.summary(&mut text)?;
+    Ok(text)
+}
+
+/// Puts the report to a sink.
+fn put_report<K: Keeper, T: Sink>(
+    alloc: Global,
+    book: &Book<K>,
+    feed_end: SessionEnd,
+    sink: &mut T,
+) -> Status
+    ensures { PutsText T.held T.faults sink.old sink.new (report_text feed_end book.now.events)
+        status.Done result }
+{
+    match report_of(alloc, book, feed_end) {
+        Ok(text) => put_text(sink, &text, Status::Done),
+        Err(_) => Status::Memory,
+    }
+}
+
+/// Puts the report to standard output.
+pub(crate) fn print_report<H: Host>(
+    alloc: Global,
+    host: &mut H,
+    book: &Book<H::K>,
+    feed_end: SessionEnd,
+) -> Status
+    ensures { PrintsReport
+        (accounts_of H.S.left H.T.held H.K.records H.S.faults H.T.faults H.K.faults)
+        (report_text feed_end book.now.events) (view_of H.seen H.openings host.old)
+        (view_of H.seen H.openings host.new) result }
+{
+    let mut sink = match host.output() {
+        Ok(sink) => sink,
+        Err(error) => return refusal_status(error),
+    };
+    let printed = put_report(alloc, book, feed_end, &mut sink);
+    host.done_sink(sink);
+    printed
+}

@@ -1,0 +1,95 @@
+//! Sessions on a network, from the dialling of the feed to the return of the doors.
+
+ghost use Rattle.std.specs.Prelude.{◌≡◌, ◌<◌, ◌≤◌};
+ghost use Rattle.door_worker.specs.Shifts.{telling_of};
+ghost use Rattle.pool_server.specs.Parts.{service_of};
+ghost use Rattle.serve_command.specs.Serving.{ServesOnNetwork};
+
+use pool_core::SessionEnd;
+use pool_doors::Door;
+use pool_io::{HostError, Keeper, Limits};
+use pool_network::Network;
+use pool_server::{Served, serve};
+use share_ledger::Book;
+use std::alloc::Global;
+use std::sync::Wait;
+use std::thread::Threads;
+
+/// What became of a book on a network.
+pub(crate) enum Reached<K: Keeper> {
+    /// All sessions are over.
+    Ran {
+        book: Book<K>,
+        feed_end: SessionEnd,
+        ledger_faults: u64,
+        door_faults: u64,
+        door_memory: u64,
+    },
+    /// The network gave no link or no doors, or there was no memory: no session began.
+    Unserved(Book<K>, HostError),
+}
+
+/// Dials the feed, opens as many doors as workers, serves all of them on the book, and hands the
+/// link and the doors back.
+pub(crate) fn serve_on_network<R: Threads + Wait + Sync, K: Keeper + Send, N: Network>(
+    rt: &R,
+    alloc: Global,
+    network: &mut N,
+    book: Book<K>,
+    feed: &str,
+    address: &str,
+    workers: u32,
+    rolling: bool,
+    limits: Limits,
+) -> Reached<K>
+where
+    N::D: Send,
+    <N::D as Door>::L: Send,
+    requires few { workers ≤ 64 }
+    requires waits { (0 < limits.idle_turns) × (0 < limits.door_turns) }
+    ensures served { ServesOnNetwork (service_of (telling_of N.D.coming N.D.out N.D.back N.D.faults
+        N.D.L.left N.D.L.held N.D.L.read_faults N.D.L.write_faults) rolling limits.idle_turns
+        limits.door_turns) (record { records = K.records; faults = K.faults })
+        (record { feed = feed.now; address = address.now; workers = workers })
+        (N.seen network.old) (N.seen network.new) book result }
+    ensures links { (N.seen network.new).links.lent ≡ (N.seen network.old).links.lent }
+    ensures doors { (N.seen network.new).doors.lent ≡ (N.seen network.old).doors.lent }
+{
+    let link = match network.dial(feed) {
+        Ok(link) => link,
+        Err(error) => return Reached::Unserved(book, error),
+    };
+    let doors = match network.open_doors(address, workers) {
+        Ok(doors) => doors,
+        Err(error) => {
+            network.done_link(link);
+            return Reached::Unserved(book, error);
+        }
+    };
+    match serve(rt, alloc, book, doors, link, rolling, limits) {
+        Served::Ran {
+            book,
+            doors,
+            feed: link,
+            feed_end,
+            ledger_faults,
+            door_faults,
+            door_memory,
+        } => {
+            network.done_doors(doors);
+            network.done_link(link);
+            Reached::Ran {
+                book,
+                feed_end,
+                ledger_faults,
+                door_faults,
+                door_memory,
+            }
+        }
+        Served::Memory(book, doors, link) => {
+            network.done_doors(doors);
+            network.done_link(link);
+            Reached::Unserved(book, HostError::Memory)
+        }
+    }
+}
