@@ -6,7 +6,7 @@ use Rattle.std.proofs.lemmas.Nat.{from_le_bytes-to_le_bytes_4}
 use Rattle.fixed_job.specs.declared.judge.Job.{Job}
 use Rattle.pool_cli.specs.Numbers.{IsNumber}
 use Rattle.pool_cli.specs.declared.words.Form.{Form}
-use Rattle.pool_cli.specs.declared.words.Form.TheVariants.{SoloFixed, Frames, Solo, Audit, Migrate}
+use Rattle.pool_cli.specs.declared.words.Form.TheVariants.{SoloFixed, Frames, Solo, Serve, Audit, Migrate}
 use Rattle.pool_cli.specs.Forms.{IsJob, IsSoloFixed, IsForm}
 use Rattle.pool_cli.specs.Running.{IsWithinLimits}
 
@@ -67,10 +67,22 @@ one_form words Migrate Solo is also = absurd (let both = sym also.spelled ∙ is
 one_form words Audit Migrate is also = absurd (let both = sym is.spelled ∙ also.spelled in cc)
 one_form words Migrate Audit is also = absurd (let both = sym also.spelled ∙ is.spelled in cc)
 one_form words Migrate Migrate is also = refl
+one_form words (SoloFixed class job) Serve is also = absurd (let both = sym is.spelled ∙ also.spelled in cc)
+one_form words Serve (SoloFixed class job) is also = absurd (let both = sym also.spelled ∙ is.spelled in cc)
+one_form words Frames Serve is also = absurd (let both = sym is ∙ also.spelled in cc)
+one_form words Serve Frames is also = absurd (let both = sym also ∙ is.spelled in cc)
+one_form words Solo Serve is also = absurd (let both = sym is.spelled ∙ also.spelled in cc)
+one_form words Serve Solo is also = absurd (let both = sym also.spelled ∙ is.spelled in cc)
+one_form words Audit Serve is also = absurd (let both = sym is.spelled ∙ also.spelled in cc)
+one_form words Serve Audit is also = absurd (let both = sym also.spelled ∙ is.spelled in cc)
+one_form words Migrate Serve is also = absurd (let both = sym is.spelled ∙ also.spelled in cc)
+one_form words Serve Migrate is also = absurd (let both = sym also.spelled ∙ is.spelled in cc)
+one_form words Serve Serve is also = refl
 
 pub within_limits : (words : List (List ℕ)) (form : Form) → IsForm words form → IsWithinLimits form
 within_limits words (SoloFixed class job) is = is.limit
 within_limits words Frames is = tt
 within_limits words Solo is = tt
+within_limits words Serve is = tt
 within_limits words Audit is = tt
 within_limits words Migrate is = tt

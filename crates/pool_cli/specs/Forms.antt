@@ -4,7 +4,7 @@ use Rattle.std.specs.Int.{w32, to_le_bytes}
 use Rattle.hex.specs.Hex.{decode_sized}
 use Rattle.fixed_job.specs.declared.judge.Job.{Job}
 use Rattle.pool_cli.specs.declared.words.Form.{Form}
-use Rattle.pool_cli.specs.declared.words.Form.TheVariants.{SoloFixed, Frames, Solo, Audit, Migrate}
+use Rattle.pool_cli.specs.declared.words.Form.TheVariants.{SoloFixed, Frames, Solo, Serve, Audit, Migrate}
 use Rattle.pool_cli.specs.Numbers.{IsNumber}
 
 -- the bytes are the job's previous hash, merkle root and nbits, as they stand in a header
@@ -35,6 +35,12 @@ pub record IsSolo (words : List (List ℕ)) : Type 0 where
   pub ledger : List ℕ
   pub spelled : words ≡ codes "solo" ∷ settings ∷ ledger ∷ []
 
+-- `serve SETTINGS LEDGER`: the names of two files
+pub record IsServe (words : List (List ℕ)) : Type 0 where
+  pub settings : List ℕ
+  pub ledger : List ℕ
+  pub spelled : words ≡ codes "serve" ∷ settings ∷ ledger ∷ []
+
 -- `audit LEDGER`: the name of a file
 pub record IsAudit (words : List (List ℕ)) : Type 0 where
   pub ledger : List ℕ
@@ -51,6 +57,7 @@ abbrev pub IsForm : List (List ℕ) → Form → Type 0
 IsForm words (SoloFixed class job) = IsSoloFixed words class job
 IsForm words Frames = IsFrames words
 IsForm words Solo = IsSolo words
+IsForm words Serve = IsServe words
 IsForm words Audit = IsAudit words
 IsForm words Migrate = IsMigrate words
 

@@ -11,6 +11,9 @@ mod edge_tests;
 mod file_keeper;
 mod run;
 mod stream_host;
+mod tcp;
+#[cfg(test)]
+mod tcp_tests;
 #[cfg(test)]
 mod tests;
 mod words;
@@ -23,6 +26,7 @@ use std::process::ExitCode;
 use std::rt::Env;
 use std::{env, io};
 use stream_host::StreamHost;
+use tcp::TcpNetwork;
 use words::Word;
 
 /// The words after the program's name.
@@ -53,5 +57,6 @@ fn main(rt: HostRuntime) -> ExitCode {
         Err(_) => return ExitCode::from(Status::Memory.code()),
     };
     let mut host = StreamHost::new(rt.alloc(), rt.stdin(), rt.stdout(), rt);
-    ExitCode::from(run(rt.alloc(), &mut host, &words))
+    let mut network = TcpNetwork::new(rt.alloc(), rt);
+    ExitCode::from(run(&rt, rt.alloc(), &mut host, &mut network, &words))
 }

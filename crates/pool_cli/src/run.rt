@@ -4,81 +4,157 @@ ghost use Rattle.std.specs.Prelude.{◌≡◌, ◌==◌, ◌↔◌, ◌⊎◌};
 ghost use Rattle.pool_io.specs.Outside.{CountsFailure};
 ghost use Rattle.pool_turns.specs.declared.status.Status.{Status as Answer};
 ghost use Rattle.pool_turns.specs.Statuses.{status_code};
+ghost use Rattle.door_worker.specs.Shifts.{telling_of};
 ghost use Rattle.audit_command.specs.Row.{AuditRow};
 ghost use Rattle.migrate_command.specs.Row.{MigrateRow};
+ghost use Rattle.serve_command.specs.Row.{ServeRow};
 ghost use Rattle.settings_file.specs.Views.{IsHandedBack, view_of};
 ghost use Rattle.solo_command.specs.Row.{SoloRow, accounts_of, meanings_of};
 ghost use Rattle.pool_cli.specs.declared.words.Form.{Form as Asked};
-ghost use Rattle.pool_cli.specs.Forms.{IsAudit, IsForm, IsMigrate, IsSolo, HasNoForm};
-ghost use Rattle.pool_cli.specs.Running.{DoesForm, OwesRow, IsWithinLimits};
+ghost use Rattle.pool_cli.specs.Forms.{HasNoForm, IsAudit, IsForm, IsMigrate, IsServe, IsSolo};
+ghost use Rattle.pool_cli.specs.Running.{DoesForm, IsAlone, IsWithinLimits, OwesRow};
 
-use crate::words::{Form, Word, audit_name, form_of, migrate_names, solo_names};
+use crate::words::{Form, Word, audit_name, form_of, migrate_names, serve_names, solo_names};
 use audit_command::audit_ledger;
 use fixed_job::judge_shares;
 use frame_listing::list_frames;
 use migrate_command::migrate_ledger;
+use pool_doors::Door;
 use pool_io::Host;
+use pool_network::Network;
 use pool_turns::Status;
-use solo_command::serve_by_settings;
 use std::alloc::Global;
+use std::sync::Wait;
+use std::thread::Threads;
 
 /// Does what the words ask for, and answers the status of the process.
-pub fn run<H: Host>(alloc: Global, host: &mut H, words: &[Word]) -> u8
+pub fn run<R: Threads + Wait + Sync, H: Host, N: Network>(
+    rt: &R,
+    alloc: Global,
+    host: &mut H,
+    network: &mut N,
+    words: &[Word],
+) -> u8
+where
+    H::K: Send,
+    N::D: Send,
+    <N::D as Door>::L: Send,
     // 2 exactly where the words are none of the forms; then nothing was opened.
     ensures usage { result ≡ 2 ↔ HasNoForm words.now }
     ensures unopened { result ≡ 2 → H.seen host.new ≡ H.seen host.old }
     ensures uncalled { result ≡ 2 → H.openings host.new ≡ H.openings host.old }
 
     // What the words ask for was done: the answer is a status, and what the command owes at it
-    // stands. Where the host tells its opening calls, they are those that the words ask for, in
-    // their order, up to the first that was refused or to the step at which the command ended.
+    // stands. Where the host and the network tell their opening calls, they are those that the words
+    // ask for, in their order, up to the first that was refused or to the step at which the command
+    // ended.
     ensures does { (form : Asked) → IsForm words.now form → DoesForm
         (accounts_of H.S.left H.T.held H.K.records H.S.faults H.T.faults H.K.faults)
-        words.now form (view_of H.seen H.openings host.old)
-        (view_of H.seen H.openings host.new) result }
+        (telling_of N.D.coming N.D.out N.D.back N.D.faults N.D.L.left N.D.L.held N.D.L.read_faults
+        N.D.L.write_faults) words.now form
+        (record { host = view_of H.seen H.openings host.old; network = N.seen network.old })
+        (record { host = view_of H.seen H.openings host.new; network = N.seen network.new }) result }
 
     // So for each words: 2, or a form that they have was done.
     ensures formed { (result ≡ 2) ⊎ ((form : Asked) × IsForm words.now form × DoesForm
         (accounts_of H.S.left H.T.held H.K.records H.S.faults H.T.faults H.K.faults)
-        words.now form (view_of H.seen H.openings host.old)
-        (view_of H.seen H.openings host.new) result) }
+        (telling_of N.D.coming N.D.out N.D.back N.D.faults N.D.L.left N.D.L.held N.D.L.read_faults
+        N.D.L.write_faults) words.now form
+        (record { host = view_of H.seen H.openings host.old; network = N.seen network.old })
+        (record { host = view_of H.seen H.openings host.new; network = N.seen network.new }) result) }
 
-    // Whatever the words: there are no other statuses, everything that the host gave has come back,
-    // and 7 is answered exactly where the host's count rose, by one.
+    // Whatever the words: there are no other statuses, and everything that the host and the network
+    // gave has come back. Nothing but `serve` asks for anything at an address, and where the words
+    // don't ask for it, 7 is answered exactly where the host's count rose, by one.
     ensures statuses { (status : Answer) × (result ≡ status_code status) }
     ensures back { IsHandedBack (view_of H.seen H.openings host.old)
         (view_of H.seen H.openings host.new) }
-    ensures counts { CountsFailure (result == 7) (H.seen host.old).faults (H.seen host.new).faults }
+    ensures links { (N.seen network.new).links.lent ≡ (N.seen network.old).links.lent }
+    ensures doors { (N.seen network.new).doors.lent ≡ (N.seen network.old).doors.lent }
+    ensures alone { (IsServe words.now → ⊥) → N.seen network.new ≡ N.seen network.old }
+    ensures counts { (IsServe words.now → ⊥) → CountsFailure (result == 7)
+        (H.seen host.old).faults (H.seen host.new).faults }
 {
     match form_of(words) {
         None => Status::Usage.code(),
-        Some(form) => perform(alloc, host, words, form).code(),
+        Some(form) => perform(rt, alloc, host, network, words, form).code(),
     }
 }
 
 /// Does what a form asks for.
-fn perform<H: Host>(alloc: Global, host: &mut H, words: &[Word], form: Form) -> Status
+fn perform<R: Threads + Wait + Sync, H: Host, N: Network>(
+    rt: &R,
+    alloc: Global,
+    host: &mut H,
+    network: &mut N,
+    words: &[Word],
+    form: Form,
+) -> Status
+where
+    H::K: Send,
+    N::D: Send,
+    <N::D as Door>::L: Send,
     requires limits { IsWithinLimits form }
     requires names { IsForm words.now form }
     ensures row { OwesRow (accounts_of H.S.left H.T.held H.K.records H.S.faults H.T.faults H.K.faults)
-        words.now form (view_of H.seen H.openings host.old)
-        (view_of H.seen H.openings host.new) result }
+        (telling_of N.D.coming N.D.out N.D.back N.D.faults N.D.L.left N.D.L.held N.D.L.read_faults
+        N.D.L.write_faults) words.now form
+        (record { host = view_of H.seen H.openings host.old; network = N.seen network.old })
+        (record { host = view_of H.seen H.openings host.new; network = N.seen network.new }) result }
     ensures back { IsHandedBack (view_of H.seen H.openings host.old)
         (view_of H.seen H.openings host.new) }
-    ensures counts { CountsFailure (status_code result == 7) (H.seen host.old).faults
-        (H.seen host.new).faults }
+    ensures links { (N.seen network.new).links.lent ≡ (N.seen network.old).links.lent }
+    ensures doors { (N.seen network.new).doors.lent ≡ (N.seen network.old).doors.lent }
+    ensures alone { IsAlone form → N.seen network.new ≡ N.seen network.old }
+    ensures counts { IsAlone form → CountsFailure (status_code result == 7)
+        (H.seen host.old).faults (H.seen host.new).faults }
 {
     match form {
         Form::SoloFixed { class, job } => judge_shares(alloc, host, class, &job),
         Form::Frames => list_frames(alloc, host),
-        Form::Solo => serve_named(alloc, host, words),
+        Form::Solo => solo_named(alloc, host, words),
+        Form::Serve => serve_named(rt, alloc, host, network, words),
         Form::Audit => audit_named(alloc, host, words),
         Form::Migrate => migrate_named(alloc, host, words),
     }
 }
 
+/// Serves a feed and miners by the files that the words name.
+fn serve_named<R: Threads + Wait + Sync, H: Host, N: Network>(
+    rt: &R,
+    alloc: Global,
+    host: &mut H,
+    network: &mut N,
+    words: &[Word],
+) -> Status
+where
+    H::K: Send,
+    N::D: Send,
+    <N::D as Door>::L: Send,
+    requires names { IsServe words.now }
+    ensures row { (names : IsServe words.now) × ServeRow
+        (accounts_of H.S.left H.T.held H.K.records H.S.faults H.T.faults H.K.faults)
+        (telling_of N.D.coming N.D.out N.D.back N.D.faults N.D.L.left N.D.L.held N.D.L.read_faults
+        N.D.L.write_faults) names.settings names.ledger
+        (record { host = view_of H.seen H.openings host.old; network = N.seen network.old })
+        (record { host = view_of H.seen H.openings host.new; network = N.seen network.new }) result }
+    ensures back { IsHandedBack (view_of H.seen H.openings host.old)
+        (view_of H.seen H.openings host.new) }
+    ensures links { (N.seen network.new).links.lent ≡ (N.seen network.old).links.lent }
+    ensures doors { (N.seen network.new).doors.lent ≡ (N.seen network.old).doors.lent }
+{
+    match serve_names(words) {
+        Some((settings, ledger)) => {
+            let settings_name = settings.text();
+            let ledger_name = ledger.text();
+            serve_command::serve_by_settings(rt, alloc, host, network, settings_name, ledger_name)
+        }
+        None => unreachable!(),
+    }
+}
+
 /// Serves a session by the files that the words name.
-fn serve_named<H: Host>(alloc: Global, host: &mut H, words: &[Word]) -> Status
+fn solo_named<H: Host>(alloc: Global, host: &mut H, words: &[Word]) -> Status
     requires names { IsSolo words.now }
     ensures row { (names : IsSolo words.now) × SoloRow
         (accounts_of H.S.left H.T.held H.K.records H.S.faults H.T.faults H.K.faults)
@@ -93,7 +169,7 @@ fn serve_named<H: Host>(alloc: Global, host: &mut H, words: &[Word]) -> Status
         Some((settings, ledger)) => {
             let settings_name = settings.text();
             let ledger_name = ledger.text();
-            serve_by_settings(alloc, host, settings_name, ledger_name)
+            solo_command::serve_by_settings(alloc, host, settings_name, ledger_name)
         }
         None => unreachable!(),
     }

@@ -4,13 +4,18 @@ use crate::edge::{ReadSource, WriteSink};
 use crate::run::run;
 use crate::stream_host::StreamHost;
 use crate::words::Word;
+use pool_doors::MemDoor;
 use pool_io::{Host, MemHost, Opening, Piece, Script, Sink, SinkFailed, Source, Took, Turn};
+use pool_network::{MemLink, MemNetwork};
 use std::alloc::{AllocError, Global};
 use std::cell::Cell;
+use std::collections::VecDeque;
 use std::io;
 use std::io::{ErrorKind, Read, Write};
 use std::process::Abort;
+use std::sync::Wait;
 use std::test::Fail;
+use std::thread::Threads;
 
 /// Previous hash, merkle root and nbits of Bitcoin's first block, as they stand in its header.
 const FIRST_BLOCK: &str = "0000000000000000000000000000000000000000000000000000000000000000\
@@ -97,19 +102,36 @@ fn host(alloc: Global, turns: Vec<Turn>, failing: Failing) -> Result<MemHost, Al
     Ok(MemHost::new(alloc, input, output, listed(alloc, failing.2)?))
 }
 
+/// What a run of these words answers, beside a network that has nothing to give.
+fn status_of<R: Threads + Wait + Sync>(
+    rt: &R,
+    alloc: Global,
+    host: &mut MemHost,
+    words: &[Word],
+) -> u8 {
+    let mut network: MemNetwork<MemLink, MemDoor<MemLink>> = MemNetwork::new(
+        alloc,
+        VecDeque::new(alloc),
+        Vec::new(alloc),
+    );
+    run(rt, alloc, host, &mut network, words)
+}
+
 /// What a run of `solo fixed` answers, and what the sink that came back holds.
-fn outcome(
+fn outcome<R: Threads + Wait + Sync>(
+    rt: &R,
     alloc: Global,
     class: &str,
     turns: Vec<Turn>,
     failing: Failing,
 ) -> Result<(u8, Option<Vec<u8>>), Fail> {
     let line = format!(in alloc; "solo fixed {class} JOB")?;
-    outcome_of(alloc, line.as_str(), turns, failing)
+    outcome_of(rt, alloc, line.as_str(), turns, failing)
 }
 
 /// What a run of these words answers, and what the sink that came back holds.
-fn outcome_of(
+fn outcome_of<R: Threads + Wait + Sync>(
+    rt: &R,
     alloc: Global,
     line: &str,
     turns: Vec<Turn>,
@@ -117,7 +139,7 @@ fn outcome_of(
 ) -> Result<(u8, Option<Vec<u8>>), Fail> {
     let mut host = host(alloc, turns, failing)?;
     let words = words(alloc, line)?;
-    let status = run(alloc, &mut host, &words);
+    let status = status_of(rt, alloc, &mut host, &words);
     let held = match host.sinks() {
         [sink] => Some(sink.bytes().to_vec(alloc)?),
         _ => None,
@@ -146,7 +168,7 @@ fn shares_of_the_first_block_are_judged_as_worked(rt: HostRuntime) -> Result<(),
         ("43", "share 00801a190000 share", "credited", 3),
         ("43", "00801a180001 share", "", 3),
     ] {
-        let found = outcome(alloc, class, pieces(alloc, shares)?, NONE)?;
+        let found = outcome(&rt, alloc, class, pieces(alloc, shares)?, NONE)?;
         assert_eq!(rt;
             found,
             (status, Some(bytes(alloc, answers)?)),
@@ -191,7 +213,7 @@ fn frames_are_listed_with_their_status(rt: HostRuntime) -> Result<(), Fail> {
             "frame 0 ext 0000 kind 00 length 16 SetupConnection\n",
         ),
     ] {
-        let found = outcome_of(alloc, "frames", pieces(alloc, frames)?, failing)?;
+        let found = outcome_of(&rt, alloc, "frames", pieces(alloc, frames)?, failing)?;
         assert_eq!(rt;
             found,
             (status, Some(Vec::from_slice(alloc, text.as_bytes())?)),
@@ -218,7 +240,7 @@ fn input_that_stops_inside_a_frame_is_refused(rt: HostRuntime) -> Result<(), Fai
             "credited",
         ),
     ] {
-        let found = outcome(alloc, "43", pieces(alloc, shares)?, NONE)?;
+        let found = outcome(&rt, alloc, "43", pieces(alloc, shares)?, NONE)?;
         assert_eq!(rt; found, (3, Some(bytes(alloc, answers)?)), "at {shares}");
     }
     Ok(())
@@ -233,7 +255,7 @@ fn single_bytes_with_idle_turns_between_are_answered_alike(rt: HostRuntime) -> R
         turns.push(Turn::Idle)?;
     }
     turns.push(Turn::End)?;
-    let found = outcome(alloc, "43", turns, NONE)?;
+    let found = outcome(&rt, alloc, "43", turns, NONE)?;
     assert_eq!(rt; found, (0, Some(bytes(alloc, "credited")?)));
     Ok(())
 }
@@ -256,7 +278,7 @@ fn the_36000th_idle_answer_in_a_row_ends_the_run(rt: HostRuntime) -> Result<(), 
         for _ in 0..after {
             turns.push(Turn::Idle)?;
         }
-        let found = outcome(alloc, "43", turns, NONE)?;
+        let found = outcome(&rt, alloc, "43", turns, NONE)?;
         assert_eq!(rt; found, (status, Some(bytes(alloc, answers)?)));
     }
     Ok(())
@@ -275,7 +297,7 @@ fn each_failing_call_has_its_status_and_loses_nothing(rt: HostRuntime) -> Result
         (Failing(None, Some(1), None), 5, "credited"),
         (Failing(None, Some(2), None), 0, "credited duplicate"),
     ] {
-        let found = outcome(alloc, "43", pieces(alloc, "share share")?, failing)?;
+        let found = outcome(&rt, alloc, "43", pieces(alloc, "share share")?, failing)?;
         assert_eq!(rt;
             found,
             (status, Some(bytes(alloc, answers)?)),
@@ -293,7 +315,7 @@ fn a_failed_put_comes_before_a_bad_frame_of_the_same_piece(rt: HostRuntime) -> R
     if !piece.is_empty() {
         turns.push(Turn::Piece(Piece::of(piece)))?;
     }
-    let found = outcome(alloc, "43", turns, Failing(None, Some(0), None))?;
+    let found = outcome(&rt, alloc, "43", turns, Failing(None, Some(0), None))?;
     assert_eq!(rt; found, (5, Some(Vec::new(alloc))));
     Ok(())
 }
@@ -308,7 +330,7 @@ fn a_host_that_gives_nothing_gets_back_what_it_gave(rt: HostRuntime) -> Result<(
             Failing(None, None, Some(call)),
         )?;
         let words = words(alloc, "solo fixed 43 JOB")?;
-        assert_eq!(rt; run(alloc, &mut host, &words), 7);
+        assert_eq!(rt; status_of(&rt, alloc, &mut host, &words), 7);
         assert_eq!(rt; host.sources().len(), sources);
         assert_eq!(rt; host.sinks().len(), 0);
     }
@@ -332,25 +354,34 @@ fn words_of_no_form_open_nothing(rt: HostRuntime) -> Result<(), Fail> {
         ("solo fixed 18446744073709551659 JOB", 2),
         ("solo fixed 43 ", 2),
         ("solo fixed 43 00", 2),
+        ("serve", 2),
+        ("serve settings", 2),
+        ("serve settings ledger more", 2),
         ("solo fixed 0 JOB", 0),
         ("solo fixed 60 JOB", 0),
     ] {
         let mut host = host(alloc, Vec::new(alloc), NONE)?;
         let words = words(alloc, line)?;
-        assert_eq!(rt; run(alloc, &mut host, &words), status, "at {line}");
+        assert_eq!(rt;
+            status_of(&rt, alloc, &mut host, &words),
+            status,
+            "at {line}"
+        );
         assert_eq!(rt; host.sources().len(), if status == 2 { 0 } else { 1 });
     }
     Ok(())
 }
 
 #[test]
-fn two_words_behind_solo_are_names_of_files(rt: HostRuntime) -> Result<(), Fail> {
+fn two_words_behind_solo_or_serve_are_names_of_files(rt: HostRuntime) -> Result<(), Fail> {
     let alloc = rt.alloc();
-    let mut host = host(alloc, Vec::new(alloc), NONE)?;
-    let words = words(alloc, "solo fixed 43")?;
-    assert_eq!(rt; run(alloc, &mut host, &words), 7);
-    assert!(rt; matches!(host.calls(), [Opening::Source(name)] if name.text() == "fixed"));
-    assert_eq!(rt; host.sources().len(), 0);
+    for line in ["solo fixed 43", "serve fixed 43"] {
+        let mut host = host(alloc, Vec::new(alloc), NONE)?;
+        let words = words(alloc, line)?;
+        assert_eq!(rt; status_of(&rt, alloc, &mut host, &words), 7);
+        assert!(rt; matches!(host.calls(), [Opening::Source(name)] if name.text() == "fixed"));
+        assert_eq!(rt; host.sources().len(), 0);
+    }
     Ok(())
 }
 
@@ -360,7 +391,10 @@ fn job_digits_of_either_case_are_the_same(rt: HostRuntime) -> Result<(), Fail> {
     let upper = FIRST_BLOCK.to_ascii_uppercase(alloc)?;
     let line = format!(in alloc; "solo fixed 43 {upper}")?;
     let mut host = host(alloc, pieces(alloc, "share")?, NONE)?;
-    assert_eq!(rt; run(alloc, &mut host, &words(alloc, line.as_str())?), 0);
+    assert_eq!(rt;
+        status_of(&rt, alloc, &mut host, &words(alloc, line.as_str())?),
+        0
+    );
     assert_eq!(rt; host.sinks().len(), 1);
     assert_eq!(rt;
         host.sinks()[0].bytes(),

@@ -5,7 +5,7 @@ ghost use Rattle.std.specs.Prelude.{IfSome, IfNone, Ok, [], ◌∷◌, codes};
 ghost use Rattle.hex.specs.Hex.{decode_sized};
 ghost use Rattle.pool_cli.specs.Numbers.{IsNumber};
 ghost use Rattle.fixed_job.specs.declared.judge.Job.{Job as Work};
-ghost use Rattle.pool_cli.specs.Forms.{IsAudit, IsJob, IsMigrate, IsSolo, IsSoloFixed, IsFrames, IsForm};
+ghost use Rattle.pool_cli.specs.Forms.{IsAudit, IsForm, IsFrames, IsJob, IsMigrate, IsServe, IsSolo, IsSoloFixed};
 
 use fixed_job::Job;
 use hex::FromHex;
@@ -54,6 +54,8 @@ pub enum Form {
     Frames,
     /// `solo SETTINGS LEDGER`
     Solo,
+    /// `serve SETTINGS LEDGER`
+    Serve,
     /// `audit LEDGER`
     Audit,
     /// `migrate OLD NEW`
@@ -70,6 +72,9 @@ pub fn form_of(words: &[Word]) -> Option<Form>
     }
     if solo_names(words).is_some() {
         return Some(Form::Solo);
+    }
+    if serve_names(words).is_some() {
+        return Some(Form::Serve);
     }
     if audit_name(words).is_some() {
         return Some(Form::Audit);
@@ -97,6 +102,15 @@ pub fn solo_names(words: &[Word]) -> Option<(&Word, &Word)>
     ensures none { IfNone result (IsSolo words.now → ⊥) }
 {
     names_behind(words, "solo")
+}
+
+/// The words behind `serve`, where there are two: the names of the settings file and of the ledger.
+pub fn serve_names(words: &[Word]) -> Option<(&Word, &Word)>
+    ensures found { IfSome result (λ names. words.now
+        ≡ codes "serve" ∷ names.0.now ∷ names.1.now ∷ []) }
+    ensures none { IfNone result (IsServe words.now → ⊥) }
+{
+    names_behind(words, "serve")
 }
 
 /// The words behind `migrate`, where there are two: the names of the old and the new ledger.

@@ -1,0 +1,246 @@
+//! Connections and doors over TCP. They tell nothing of what they bring or hold.
+
+ghost use Rattle.std.specs.Prelude.{◌≡◌, ◌<◌, [], IfOk, vec_len};
+ghost use Rattle.pool_io.specs.Lending.{with_back};
+ghost use Rattle.pool_io.specs.Outside.{next_count};
+ghost use Rattle.pool_doors.specs.declared.door.Came.TheVariants as came;
+
+use crate::edge::{ReadSource, WriteSink};
+use pool_doors::{Came, Door};
+use pool_io::{HostError, Shelf, Sink, SinkFailed, Source, Took};
+use pool_links::Link;
+use pool_network::Network;
+use std::alloc::Global;
+use std::io::ErrorKind;
+use std::net::{Net, TcpListener, TcpStream};
+use std::time::{Clock, Duration};
+use std::{io, thread};
+
+/// A stream, by one handle for what is read and one for what is written.
+#[derive(Drop)]
+pub struct TcpLink {
+    source: ReadSource<TcpStream>,
+    sink: WriteSink<TcpStream>,
+}
+
+impl Link for TcpLink {
+    ghost use Rattle.std.specs.Prelude.{None};
+
+    ghost read_faults = { λ link. link.source.faults };
+
+    ghost write_faults = { λ link. link.sink.faults };
+
+    ghost left = { λ _. None };
+
+    ghost held = { λ _. None };
+
+    fn take(&mut self, buffer: &mut [u8]) -> Took {
+        self.source.take(buffer)
+    }
+
+    fn put(&mut self, piece: &[u8]) -> Result<usize, SinkFailed> {
+        self.sink.put(piece)
+    }
+}
+
+/// A read that waits longer is Idle, and so is a door.
+const TURN_MILLIS: u64 = 100;
+
+/// A write that waits longer has failed.
+const WRITE_MILLIS: u64 = 5_000;
+
+/// A stream as a link, with its time limits.
+fn link_over(stream: TcpStream) -> io::Result<TcpLink>
+    ensures { IfOk result (λ link. (link.source.faults ≡ 0) × (link.sink.faults ≡ 0)) }
+{
+    stream.set_nodelay(true)?;
+    stream.set_read_timeout(Some(Duration::from_millis(TURN_MILLIS)))?;
+    stream.set_write_timeout(Some(Duration::from_millis(WRITE_MILLIS)))?;
+    let reading = stream.try_clone()?;
+    Ok(TcpLink {
+        source: ReadSource::new(reading),
+        sink: WriteSink::new(stream),
+    })
+}
+
+/// A listener at an address, whose `accept` doesn't wait.
+fn listener_at<N: Net<Listener = TcpListener, Stream = TcpStream>>(
+    system: &N,
+    address: &str,
+) -> io::Result<TcpListener> {
+    let listener = TcpListener::bind(system, address)?;
+    listener.set_nonblocking(true)?;
+    Ok(listener)
+}
+
+/// A listener as a door. Where nobody has called it waits a turn and is Idle; it is never closed.
+#[derive(Drop)]
+pub struct TcpDoor<C: Clock + Drop> {
+    listener: TcpListener,
+    clock: C,
+    out: u64,
+    faults: u64,
+}
+
+impl<C: Clock + Drop> TcpDoor<C> {
+    /// A door at a listener that doesn't wait.
+    fn new(listener: TcpListener, clock: C) -> TcpDoor<C>
+        ensures { (result.out ≡ 0) × (result.faults ≡ 0) }
+    {
+        TcpDoor {
+            listener,
+            clock,
+            out: 0,
+            faults: 0,
+        }
+    }
+
+    /// One more failure.
+    fn fail(&mut self) -> Came<TcpLink>
+        ensures failed { result ≡ came.Failed }
+        ensures counts { self.new ≡ record self.old { faults = next_count self.old.faults } }
+    {
+        self.faults = self.faults.saturating_add(1);
+        Came::Failed
+    }
+}
+
+impl<C: Clock + Drop> Door for TcpDoor<C> {
+    ghost use Rattle.std.specs.Prelude.{None};
+
+    type L = TcpLink;
+
+    ghost faults = { λ door. door.faults };
+
+    ghost coming = { λ _. None };
+
+    ghost out = { λ door. door.out };
+
+    ghost back = { λ _. None };
+
+    fn accept(&mut self) -> Came<TcpLink> {
+        if self.out == u64::MAX {
+            return Came::Memory;
+        }
+        match self.listener.accept() {
+            Ok((stream, _)) => match link_over(stream) {
+                Ok(link) => {
+                    self.out += 1;
+                    Came::Caller(link)
+                }
+                Err(_) => self.fail(),
+            },
+            Err(error) => match error.kind() {
+                ErrorKind::Interrupted | ErrorKind::WouldBlock | ErrorKind::ConnectionAborted => {
+                    thread::sleep(&self.clock, Duration::from_millis(TURN_MILLIS));
+                    Came::Idle
+                }
+                _ => self.fail(),
+            },
+        }
+    }
+
+    fn done(&mut self, _link: TcpLink) {
+        self.out -= 1;
+    }
+}
+
+/// The network of a system `N`. It tells neither its calls nor what they will give.
+#[derive(Drop)]
+pub struct TcpNetwork<N: Net<Listener = TcpListener, Stream = TcpStream> + Clock + Copy + Drop> {
+    alloc: Global,
+    system: N,
+    faults: u64,
+    links: Shelf<TcpLink>,
+    doors: Shelf<Vec<TcpDoor<N>>>,
+}
+
+impl<N: Net<Listener = TcpListener, Stream = TcpStream> + Clock + Copy + Drop> TcpNetwork<N> {
+    /// A network that has given nothing.
+    pub fn new(alloc: Global, system: N) -> TcpNetwork<N>
+        ensures fresh { result.faults ≡ 0 }
+        ensures links { result.links ≡ record { lent = 0; back = [] } }
+        ensures doors { result.doors ≡ record { lent = 0; back = [] } }
+    {
+        TcpNetwork {
+            alloc,
+            system,
+            faults: 0,
+            links: Shelf::new(alloc),
+            doors: Shelf::new(alloc),
+        }
+    }
+
+    /// So many doors at one listener, each by a handle of its own.
+    fn doors_at(&self, address: &str, count: u32) -> Result<Vec<TcpDoor<N>>, HostError>
+        ensures { IfOk result (λ doors. vec_len doors ≡ count) }
+    {
+        let listener = listener_at(&self.system, address).map_err(|_| HostError::Failed)?;
+        let mut doors = Vec::new(self.alloc);
+        while doors.len() < count as usize {
+            let Ok(another) = listener.try_clone() else {
+                return Err(HostError::Failed);
+            };
+            let door = TcpDoor::new(another, self.system);
+            doors.push(door).map_err(|_| HostError::Memory)?;
+        }
+        Ok(doors)
+    }
+}
+
+impl<N: Net<Listener = TcpListener, Stream = TcpStream> + Clock + Copy + Drop> Network
+    for TcpNetwork<N> {
+    ghost use Rattle.std.specs.Prelude.{None, map};
+
+    type D = TcpDoor<N>;
+
+    ghost seen = { λ network. record {
+      faults = network.faults;
+      calls = None;
+      to_dial = None;
+      to_open = None;
+      links = network.links;
+      doors = record {
+        lent = network.doors.lent;
+        back = map (λ doors. doors.items) network.doors.back;
+      };
+    } };
+
+    fn dial(&mut self, address: &str) -> Result<TcpLink, HostError> {
+        let dialled = TcpStream::connect(&self.system, address).and_then(link_over);
+        let Ok(link) = dialled else {
+            self.faults = self.faults.saturating_add(1);
+            return Err(HostError::Failed);
+        };
+        if self.links.lend().is_err() {
+            return Err(HostError::Memory);
+        }
+        Ok(link)
+    }
+
+    fn open_doors(&mut self, address: &str, count: u32) -> Result<Vec<TcpDoor<N>>, HostError> {
+        let doors = match self.doors_at(address, count) {
+            Ok(doors) => doors,
+            Err(HostError::Failed) => {
+                self.faults = self.faults.saturating_add(1);
+                return Err(HostError::Failed);
+            }
+            Err(HostError::Memory) => return Err(HostError::Memory),
+        };
+        if self.doors.lend().is_err() {
+            return Err(HostError::Memory);
+        }
+        Ok(doors)
+    }
+
+    fn done_link(&mut self, link: TcpLink) {
+        self.links.take_back(link);
+    }
+
+    fn done_doors(&mut self, doors: Vec<TcpDoor<N>>)
+        requires { 0 < self.old.doors.lent }
+        ensures { self.new ≡ record self.old { doors = with_back self.old.doors doors } }
+    {
+        self.doors.take_back(doors);
+    }
+}
