@@ -1,2 +1,4 @@
+pub mod Crossing
 pub mod Found
 pub mod Pushed
+pub mod Replies

@@ -1,7 +1,6 @@
 -- One push more, in turn.
-use Rattle.std.proofs.Common.{◌≡◌, ℕ, ◌+◌, ◌*◌, ◌%◌, ◌<◌, suc, None, map, get_or, List, [], ◌∷◌, ◌++◌, length, refl, sym, ap, ap₂, ◌∙◌, subst, arith}
+use Rattle.std.proofs.Common.{◌≡◌, ℕ, ◌+◌, ◌*◌, ◌%◌, ◌<◌, suc, None, map, get_or, List, [], ◌∷◌, ◌++◌, length, sym, ap, ◌∙◌, subst, arith}
 use Rattle.std.proofs.lemmas.List.{get_or-map, length-map}
-use Rattle.pool_history.specs.Crediting.{Booked}
 use Rattle.payouts.specs.Tallies.{Remembers, RemembersPush, Weighing}
 use Rattle.bench.specs.Pushes.{IsToldInTurn, credits_in_turn}
 

@@ -1,9 +1,14 @@
-//! A machine that many threads call: it keeps numbers, and answers how many it had.
+//! A machine that many threads call: it keeps numbers, and answers how many it had. So what is timed
+//! is the taking of turns.
 
 ghost use Rattle.std.specs.Prelude.{◌≡◌, ◌+◌, ◌<◌, ◌^◌, [], ◌∷◌, length, true};
 
+use crate::turns::{Asked, Sharing, call_in_threads};
+use anyhow::{Result, bail};
 use desk::Machine;
 use std::alloc::{AllocError, Global};
+use std::sync::Wait;
+use std::thread::Threads;
 
 /// The most numbers that it takes.
 const MOST: usize = (1 << 62) - 1;
@@ -54,4 +59,28 @@ impl Machine for Counter {
         self.numbers.push(request)?;
         Ok(before as u64)
     }
+}
+
+impl Asked for Counter {
+    fn request(_worker: u32, number: u32, _reply: Option<u64>) -> u64 {
+        u64::from(number)
+    }
+}
+
+/// Has so many threads call a counter, each so often, and tells how many calls it took.
+pub fn report<R: Threads + Wait + Sync>(
+    rt: &R,
+    alloc: Global,
+    sharing: Sharing,
+    threads: u32,
+    count: u32,
+) -> Result<String> {
+    if threads == 0 {
+        bail!("want at least one thread");
+    }
+    let counter = Counter::new(alloc);
+    let Some(counter) = call_in_threads(rt, alloc, sharing, counter, threads, count) else {
+        bail!("no memory");
+    };
+    Ok(format!(in alloc; "calls {}", counter.length())?)
 }

@@ -2,9 +2,11 @@
 //! It measures no time: the scripts that call it do.
 #![tactic(auto)]
 
+mod book_turns;
 mod books;
 mod bytes;
 mod counter;
+mod entering;
 mod frames;
 mod hash;
 mod jobs;
@@ -17,15 +19,20 @@ mod stream;
 mod tests;
 mod turns;
 
+use crate::turns::Sharing;
 use anyhow::{Context, Result, bail};
+use std::alloc::Global;
 use std::env::{self, Args};
 use std::fs;
+use std::io::Write;
+use std::sync::Wait;
+use std::thread::Threads;
 
 /// What each first word wants behind it.
 const USAGE: &str =
     "want: hash COUNT, bytes LENGTH COUNT, shares SIBLINGS COUNT, channels OPEN COUNT, \
         payouts WINDOW COUNT, jobs COUNT, book HELD COUNT, desk THREADS COUNT, lock THREADS COUNT, \
-        frames or messages";
+        book-desk THREADS COUNT, book-lock THREADS COUNT, frames or messages";
 
 fn main(rt: HostRuntime) -> Result<()> {
     let alloc = rt.alloc();
@@ -36,34 +43,47 @@ fn main(rt: HostRuntime) -> Result<()> {
     };
     let line = match what.as_str() {
         "hash" => hash::report(alloc, number(&mut words)?)?,
-        "bytes" => bytes::report(alloc, number(&mut words)?, number(&mut words)?)?,
-        "shares" => shares::report(alloc, number(&mut words)?, number(&mut words)?)?,
-        "payouts" => pushes::report(alloc, number(&mut words)?, number(&mut words)?)?,
         "jobs" => {
             let newest = jobs::report(alloc, number(&mut words)?)?;
             let status = fs::read_to_string(&rt, "/proc/self/status")?;
             format!(in alloc; "{newest} {}", jobs::greatest_memory(status.as_str()))?
         }
-        "channels" => openings::report(
-            alloc,
-            number(&mut words)?,
-            number(&mut words)?,
-            &mut rt.stdout(),
-        )?,
-        "book" => books::report(
-            alloc,
-            number(&mut words)?,
-            number(&mut words)?,
-            &mut rt.stdout(),
-        )?,
-        "desk" => turns::report_desk(&rt, alloc, number(&mut words)?, number(&mut words)?)?,
-        "lock" => turns::report_lock(&rt, alloc, number(&mut words)?, number(&mut words)?)?,
         "frames" => frames::report(alloc, &mut rt.stdin())?,
         "messages" => messages::report(alloc, &mut rt.stdin())?,
-        _ => bail!("{USAGE}"),
+        word => by_two_numbers(
+            &rt,
+            alloc,
+            word,
+            number(&mut words)?,
+            number(&mut words)?,
+            &mut rt.stdout(),
+        )?,
     };
     println!(rt; "{line}")?;
     Ok(())
+}
+
+/// What comes of a word that wants two numbers, of which the second is a count.
+fn by_two_numbers<R: Threads + Wait + Sync, W: Write>(
+    rt: &R,
+    alloc: Global,
+    word: &str,
+    first: u32,
+    count: u32,
+    output: &mut W,
+) -> Result<String> {
+    match word {
+        "bytes" => bytes::report(alloc, first, count),
+        "shares" => shares::report(alloc, first, count),
+        "payouts" => pushes::report(alloc, first, count),
+        "channels" => openings::report(alloc, first, count, output),
+        "book" => books::report(alloc, first, count, output),
+        "desk" => counter::report(rt, alloc, Sharing::Desk, first, count),
+        "lock" => counter::report(rt, alloc, Sharing::Lock, first, count),
+        "book-desk" => book_turns::report(rt, alloc, Sharing::Desk, first, count, output),
+        "book-lock" => book_turns::report(rt, alloc, Sharing::Lock, first, count, output),
+        _ => bail!("{USAGE}"),
+    }
 }
 
 /// The next word as a number.

@@ -4,32 +4,17 @@ ghost use Rattle.std.specs.Prelude.{◌≡◌};
 
 use anyhow::Result;
 use channels::Channels;
-use pool_history::{Kind, OpenAsk, Rules, Users};
+use pool_history::{Kind, OpenAsk, Rules};
+use pool_trials::example_rules;
 use std::alloc::{AllocError, Global};
 use std::io::Write;
-use sv2_types::{Blob, Str255, U256};
+use sv2_types::{Str255, U256};
 
 /// The most channels that a session opens here.
 const OF_A_SESSION: u32 = 1000;
 
 /// The session that opens and closes.
 const LAST: u32 = u32::MAX;
-
-/// Rules by which each user is known.
-fn open_rules(alloc: Global) -> Rules
-    ensures { result.least_class ≡ 0 }
-{
-    Rules {
-        pool_script: Blob::from_vec(Vec::new(alloc)),
-        least_class: 0,
-        fee: 0,
-        window: None,
-        ntime_window: 600,
-        credit_limit: 1,
-        version_rolling: true,
-        users: Users::of(Vec::new(alloc)),
-    }
-}
 
 /// What each opening asks for: a standard channel of the user a.
 fn standard_ask(alloc: Global) -> Result<OpenAsk, AllocError> {
@@ -67,7 +52,7 @@ fn open_and_close(channels: &mut Channels, count: u32, ask: &OpenAsk, rules: &Ru
 
 /// Opens so many channels and says so, and then opens and closes one more so many times.
 pub fn report<W: Write>(alloc: Global, held: u32, count: u32, output: &mut W) -> Result<String> {
-    let (rules, ask) = (open_rules(alloc), standard_ask(alloc)?);
+    let (rules, ask) = (example_rules(alloc, true, 1)?, standard_ask(alloc)?);
     let mut channels = Channels::new(alloc)?;
     fill(&mut channels, held, &ask, &rules)?;
     writeln!(output, "open {held}")?;

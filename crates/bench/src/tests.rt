@@ -1,7 +1,8 @@
 //! What each benchmark prints. The hashes were worked out apart, by Python's `hashlib`, and the
 //! streams were written by hand.
 
-use crate::{bytes, frames, hash, jobs, messages, openings, pushes, shares, turns};
+use crate::turns::Sharing;
+use crate::{book_turns, bytes, counter, frames, hash, jobs, messages, openings, pushes, shares};
 use anyhow::Result;
 
 /// A SetupConnection, a NewTemplate and a SubmitSharesExtended, a frame with the kind of a
@@ -81,14 +82,21 @@ fn channels_are_opened(rt: HostRuntime) -> Result<()> {
 
 #[test]
 fn calls_of_two_threads_are_taken(rt: HostRuntime) -> Result<()> {
-    let alloc = rt.alloc();
-    assert_eq!(rt;
-        turns::report_desk(&rt, alloc, 2, 100)?.as_str(),
-        "calls 200"
-    );
-    assert_eq!(rt;
-        turns::report_lock(&rt, alloc, 2, 100)?.as_str(),
-        "calls 200"
-    );
+    for sharing in [Sharing::Desk, Sharing::Lock] {
+        let line = counter::report(&rt, rt.alloc(), sharing, 2, 100)?;
+        assert_eq!(rt; line.as_str(), "calls 200");
+    }
+    Ok(())
+}
+
+/// Each of two threads has ten shares credited, behind seven events.
+#[test]
+fn shares_of_two_threads_are_credited(rt: HostRuntime) -> Result<()> {
+    let mut output = Vec::new(rt.alloc());
+    for sharing in [Sharing::Desk, Sharing::Lock] {
+        let line = book_turns::report(&rt, rt.alloc(), sharing, 2, 20, &mut output)?;
+        assert_eq!(rt; line.as_str(), "events 27");
+    }
+    assert_eq!(rt; output.as_slice(), b"sessions 2\nsessions 2\n".as_slice());
     Ok(())
 }
