@@ -9,10 +9,9 @@ use Rattle.pool_history.specs.declared.events.Event.{Event}
 use Rattle.pool_history.specs.declared.refusals.BookError.{BookError}
 use Rattle.pool_history.specs.declared.replies.Reply.{Reply}
 use Rattle.pool_history.specs.Answering.{Answer}
-use Rattle.pool_history.specs.Calls.{GoodPoolCalls, PoolCall, wants_memory}
+use Rattle.pool_history.specs.Calls.{GoodPoolCalls, PoolCall, has_keeper_failed, wants_memory}
 use Rattle.pool_sessions.specs.declared.acting.Acted.{Acted}
 use Rattle.pool_sessions.specs.Answerers.{outcome_of}
-use Rattle.share_ledger.specs.Books.{is_start_fault}
 
 -- what contracts see of a pass of a book's desk
 abbrev pub PoolPass : Type 0
@@ -49,11 +48,6 @@ pub record AddsCalls (old : PoolPass) (calls : List PoolCall) (new : PoolPass) :
   pub numbers : RiseFrom old.known calls new.known
   pub fronts : FrontsRise (length old.seen) calls (length new.seen)
   pub same : IsSamePass old new
-
--- the keeper failed at a call
-abbrev pub has_keeper_failed : Outcome Reply BookError → Bool
-has_keeper_failed (Replied answer) = false
-has_keeper_failed (Faulted cause) = is_start_fault cause
 
 -- a count of the calls at which the keeper failed, after one more call and after all of these
 abbrev pub faults_after : ℕ → Outcome Reply BookError → ℕ

@@ -1,9 +1,9 @@
 //! The pass at its desk.
 
 ghost use Rattle.std.specs.Prelude.{◌≡◌, ◌<◌, ◌^◌, List};
-ghost use Rattle.pool_history.specs.Calls.{PoolCall};
+ghost use Rattle.pool_history.specs.Calls.{PoolCall, has_keeper_failed};
 ghost use Rattle.pool_sessions.specs.Answerers.{Acts, RollsAsBriefed, outcome_of};
-ghost use Rattle.desk_worker.specs.Calling.{AddsCalls, CallsDesk, IsCallOf, PoolPass, has_keeper_failed};
+ghost use Rattle.desk_worker.specs.Calling.{AddsCalls, CallsDesk, IsCallOf, PoolPass};
 
 use desk::{Desk, Pass};
 use history_laws::briefs_roll;

@@ -41,7 +41,7 @@ use Rattle.history_laws.proofs.Entrances.{none-some, within-holds}
 use Rattle.history_laws.proofs.Holding.{bytes_eq-self, first_free-length}
 use Rattle.history_laws.proofs.Legalities.{one_more_legal, some-none}
 use Rattle.history_laws.proofs.Ranges.{class-fits, lead-fits, least-range, legal-rules}
-use Rattle.history_laws.proofs.Served.{IsServed, own-served}
+use Rattle.history_laws.proofs.Served.{HasItsAccount, own-served}
 use Rattle.pool_base.specs.Results.{◌>>=◌}
 use Rattle.pool_history.specs.Jobs.{jobs_of}
 
@@ -193,7 +193,7 @@ open-legal rules past worker session entered ask p may is lead found =
     ∙ provided-so (is_next_lead past ask.kind lead) cause.BadLead None (lead-next past ask lead is.size found)
 
 -- a channel gets its account
-pub nameless : (c : OpenChannel) → IsServed c → is_empty c.account ≡ true → is_nameless c.kind c.account ≡ true
+pub nameless : (c : OpenChannel) → HasItsAccount c → is_empty c.account ≡ true → is_nameless c.kind c.account ≡ true
 nameless c s e = ap (λ k. is_nameless k c.account) (s e) ∙ e
 
 pub name-legal : (rules : Rules) (past : List Event) (worker session : ℕ) (entered : Entrance) (id : ℕ) (account : List ℕ)

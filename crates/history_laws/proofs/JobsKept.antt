@@ -16,7 +16,7 @@ use Rattle.pool_history.specs.Judging.{is_known_state, is_mineable}
 use Rattle.pool_history.specs.Sessions.{past_of}
 use Rattle.pool_history.proofs.PlacesOfJobs.{jobs_are_by_places}
 use Rattle.pool_history.proofs.PlacesOfStates.{counts-jobs}
-use Rattle.history_laws.specs.KeptJobs.{KeptJobs, KeptJobsMove, KeptJobsSuffice, OwnJob, is_mineable_by, is_number_of, is_others, kept_after, kept_of, own_of}
+use Rattle.history_laws.specs.KeptJobs.{KeptJobs, KeptJobsMove, KeptJobsSuffice, OwnJob, is_mineable_by, is_number_of, is_others, kept_after, kept_jobs_of, own_of}
 use Rattle.history_laws.proofs.Legalities.{past-one}
 
 -- one job more
@@ -38,8 +38,8 @@ with-count n own future live s = record { count = n; own = own; future = future;
 pub kept-move : KeptJobsMove
 unfolding with-count
 kept-move (Came at session template) s = by template.future_template where
-  by : (b : Bool) → kept_of (Rattle.pool_history.specs.Jobs.with_template (template_job (length s.all + 1) at session template) b s)
-      ≡ Rattle.history_laws.specs.KeptJobs.keeping_template (template_job (length s.all + 1) at session template) b (kept_of s)
+  by : (b : Bool) → kept_jobs_of (Rattle.pool_history.specs.Jobs.with_template (template_job (length s.all + 1) at session template) b s)
+      ≡ Rattle.history_laws.specs.KeptJobs.keeping_template (template_job (length s.all + 1) at session template) b (kept_jobs_of s)
   by true =
       let j : Job = template_job (length s.all + 1) at session template in
       let future : List Job = Rattle.pool_history.specs.Jobs.last 16 (s.future ++ j ∷ []) in
@@ -183,13 +183,13 @@ numbers-from n count =
     (λ h. let high : n < 1 + count = ltb-true n (1 + count) h in le-leb n count (omega (arith, high)))
     (λ h. let high : n ≤ count = leb-true n count h in lt-ltb n (1 + count) (omega (arith, high))))
 
-mineable-kept : (h : List Event) (c n : ℕ) → is_mineable c (job_numbered n (jobs_of (past_of h)).all) ≡ is_mineable_by (kept_of (jobs_of (past_of h))) c n
+mineable-kept : (h : List Event) (c n : ℕ) → is_mineable c (job_numbered n (jobs_of (past_of h)).all) ≡ is_mineable_by (kept_jobs_of (jobs_of (past_of h))) c n
 mineable-kept h c n =
     let all : (jobs_of (past_of h)).all ≡ jobs_in h = (jobs_are_by_places h).all in
     subst (λ jobs. is_mineable c (job_numbered n jobs) ≡ ((nat_le 1 n && nat_le n (length jobs)) && not (list_any (is_others c n) (owns jobs)))) (sym all)
     (mines-by c 0 1 n h ∙ ap (λ b. b && not (list_any (is_others c n) (owns (jobs_in h)))) (numbers-from n (length (jobs_in h))))
 
-has-kept : (h : List Event) (n : ℕ) → has_number n (jobs_of (past_of h)).all ≡ is_number_of (kept_of (jobs_of (past_of h))) n
+has-kept : (h : List Event) (n : ℕ) → has_number n (jobs_of (past_of h)).all ≡ is_number_of (kept_jobs_of (jobs_of (past_of h))) n
 has-kept h n =
     let all : (jobs_of (past_of h)).all ≡ jobs_in h = (jobs_are_by_places h).all in
     let counts = counts-jobs 0 1 n h in

@@ -14,18 +14,18 @@ use Rattle.pool_history.specs.Sessions.{past_of}
 use Rattle.pool_history.specs.Spaces.{first_free}
 use Rattle.pool_history.proofs.Given.{template_of, tip_of, tipped}
 use Rattle.pool_history.proofs.OwnJobs.{brings, granted, offer}
-use Rattle.history_laws.specs.KeptJobs.{KeptJobs, is_mineable_by, kept_of, state_by}
+use Rattle.history_laws.specs.KeptJobs.{KeptJobs, is_mineable_by, kept_jobs_of, state_by}
 use Rattle.history_laws.specs.News.{owed_from}
 
 -- a template's job and a miner's own on channel 1, and both after the next tip
 abbrev pub with_own : KeptJobs
-with_own = kept_of (jobs_of (brings ∷ granted))
+with_own = kept_jobs_of (jobs_of (brings ∷ granted))
 
 abbrev pub past_tip : List Event
 past_tip = event.Tip 0 (tip_of 6 0x22) ∷ event.Template 0 (template_of 6 true) ∷ brings ∷ granted
 
 abbrev pub behind_tip : KeptJobs
-behind_tip = kept_of (jobs_of past_tip)
+behind_tip = kept_jobs_of (jobs_of past_tip)
 
 pub kept-counts : with_own.count ≡ 2
 kept-counts = refl

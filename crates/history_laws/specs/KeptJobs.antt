@@ -33,8 +33,8 @@ own_of number (FromTemplate template) = []
 own_of number (FromMiner custom) = record { number = number; channel = custom.channel_id } ∷ []
 
 -- what is kept of the jobs
-abbrev pub kept_of : Standing → KeptJobs
-kept_of standing = record {
+abbrev pub kept_jobs_of : Standing → KeptJobs
+kept_jobs_of standing = record {
   count = length standing.all;
   own = flat_map (λ job. own_of job.number job.source) standing.all;
   future = standing.future;
@@ -77,7 +77,7 @@ kept_after (Brought at custom) kept = record kept {
 abbrev pub KeptJobsMove : Type 0
 KeptJobsMove =
     (move : JobMove) (standing : Standing)
-    → kept_of (after_move move standing) ≡ kept_after move (kept_of standing)
+    → kept_jobs_of (after_move move standing) ≡ kept_after move (kept_jobs_of standing)
 
 -- a number is that of a job
 abbrev pub is_number_of : KeptJobs → ℕ → Bool
@@ -103,17 +103,17 @@ is_mineable_by kept channel number =
 -- what is read of the jobs is read of what is kept; what is read besides these is one of the lists
 -- that are kept whole, the tip or the count
 pub record ReadsTheKept (history : List Event) (standing : Standing) : Type 0 where
-  pub state : (number : ℕ) → state_of standing number ≡ state_by (kept_of standing) number
+  pub state : (number : ℕ) → state_of standing number ≡ state_by (kept_jobs_of standing) number
   pub mineable : (channel number : ℕ)
       → is_mineable channel (job_numbered number standing.all)
-      ≡ is_mineable_by (kept_of standing) channel number
+      ≡ is_mineable_by (kept_jobs_of standing) channel number
   pub known : (share : Share)
       → is_known_job standing share
-      ≡ (is_known_state (state_by (kept_of standing) share.job)
-      && is_mineable_by (kept_of standing) share.channel share.job)
+      ≡ (is_known_state (state_by (kept_jobs_of standing) share.job)
+      && is_mineable_by (kept_jobs_of standing) share.channel share.job)
   pub newest_came : (session : ℕ) (template : TemplateData)
       → last_of (jobs_of (past_of (history ++ event.Template session template ∷ []))).all
-      ≡ Some (template_job ((kept_of standing).count + 1) (length history) session template)
+      ≡ Some (template_job ((kept_jobs_of standing).count + 1) (length history) session template)
 
 -- so it is with the jobs of each history
 abbrev pub KeptJobsSuffice : Type 0

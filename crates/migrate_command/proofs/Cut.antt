@@ -22,19 +22,19 @@ use Rattle.ledger_audit.specs.declared.format.Format.TheVariants.{Plain, Chained
 use Rattle.ledger_audit.specs.Units.{hash_len}
 use Rattle.ledger_audit.specs.Verdicts.{BeginsLegal}
 use Rattle.migrate_command.specs.Copying.{AddsRecords, AreLedgerOf, AreRecordsOf, KeepsAll, KeepsAnew, KeepsFront, KeepsRecords, records_text}
-use Rattle.migrate_command.specs.Cutting.{IsCutOff, IsSplit, IsWholeRecord}
+use Rattle.migrate_command.specs.Cutting.{IsCutOff, ComesApart, IsWholeRecord}
 
 -- the pieces that are kept of a history: none of one without events
-abbrev pub kept_of : List Event → List (List ℕ)
-kept_of [] = []
-kept_of (first ∷ more) = kept_records (first ∷ more)
+abbrev pub records_so_far : List Event → List (List ℕ)
+records_so_far [] = []
+records_so_far (first ∷ more) = kept_records (first ∷ more)
 
 -- the magic stands in the first piece
 abbrev pub head_of : List Event → List ℕ
 head_of [] = magic_2
 head_of (first ∷ more) = []
 
-grown : (done : List Event) (e : Event) → kept_of (done ++ e ∷ []) ≡ kept_of done ++ (head_of done ++ record_of e ++ hash_after (done ++ e ∷ [])) ∷ []
+grown : (done : List Event) (e : Event) → records_so_far (done ++ e ∷ []) ≡ records_so_far done ++ (head_of done ++ record_of e ++ hash_after (done ++ e ∷ [])) ∷ []
 grown [] e = (pieces e [] e).begins
 grown (f ∷ d) e = (pieces f d e).goes_on
 
@@ -47,7 +47,7 @@ pub record IsCopying (format : Format) (first : Event) (more : List Event) (rest
   pub rest_is : rest ≡ records_text format (hash_after done) todo
   pub hash_is : hash ≡ hash_after done
   pub head_is : head ≡ head_of done
-  pub kept : AddsRecords old now (kept_of done)
+  pub kept : AddsRecords old now (records_so_far done)
   pub counted : count ≡ length done
 
 adds_none : (old : Option (List (List ℕ))) → AddsRecords old old []
@@ -138,9 +138,9 @@ module _ (format : Format) (first : Event) (more : List Event) (rest head hash :
           hash_is = after;
           head_is = sym (no_head is.done e);
           kept = subst (AddsRecords old next) (sym (grown is.done e))
-              (subst (λ p. AddsRecords old next (kept_of is.done ++ p ∷ []))
+              (subst (λ p. AddsRecords old next (records_so_far is.done ++ p ∷ []))
               (ap (λ h. h ++ one ++ next_hash) is.head_is ∙ ap (λ r. head_of is.done ++ r ++ next_hash) outer.front ∙ ap (λ h. head_of is.done ++ record_of e ++ h) after)
-              (adds_more old now next (kept_of is.done) (head ++ one ++ next_hash) is.kept adds));
+              (adds_more old now next (records_so_far is.done) (head ++ one ++ next_hash) is.kept adds));
           counted = omega (arith, is.counted, length-append is.done (e ∷ []));
         }
       where
@@ -156,7 +156,7 @@ module _ (format : Format) (first : Event) (more : List Event) (rest head hash :
         let all : is.done ≡ first ∷ more = sym (append-nil is.done) ∙ ap (λ l. is.done ++ l) (sym none) ∙ is.parts in
         record {
           counted = is.counted ∙ ap length all;
-          kept = subst (AddsRecords old now) (ap kept_of all) is.kept;
+          kept = subst (AddsRecords old now) (ap records_so_far all) is.kept;
         }
     by_todo (e ∷ todo) some =
         let before : List ℕ = hash_after is.done in
@@ -176,7 +176,7 @@ module _ (format : Format) (first : Event) (more : List Event) (rest head hash :
   -- those up to here are a front
   pub copied_front : KeepsFront (first ∷ more) old now
   copied_front = record {
-    front = kept_of is.done;
+    front = records_so_far is.done;
     begins = by_done is.done is.todo is.parts;
     kept = is.kept;
   } where
@@ -186,7 +186,7 @@ module _ (format : Format) (first : Event) (more : List Event) (rest head hash :
         let later : Begins (chained (chain before (record_of e)) a) (chained (chain before (record_of e)) (a ++ b)) = chained-begins (chain before (record_of e)) a b in
         (later.0, ap (λ l. (record_of e ++ chain before (record_of e)) ∷ l) later.1)
 
-    by_done : (done todo : List Event) → done ++ todo ≡ first ∷ more → Begins (kept_of done) (kept_records (first ∷ more))
+    by_done : (done todo : List Event) → done ++ todo ≡ first ∷ more → Begins (records_so_far done) (kept_records (first ∷ more))
     by_done [] todo parts = (kept_records (first ∷ more), refl)
     by_done (f ∷ d) todo parts = subst (λ h. Begins (kept_records (f ∷ d)) (kept_records h)) parts (front f d todo) where
       front : (f : Event) (d t : List Event) → Begins (kept_records (f ∷ d)) (kept_records (f ∷ d ++ t))
@@ -221,7 +221,7 @@ whole_record format bytes one behind hash len said short hash_is whole front bac
 }
 
 -- what is behind the first eight bytes, where there are so many
-pub split_chained : (bytes magic records : List ℕ) (n : ℕ) → magic ≡ take n bytes → records ≡ drop n bytes → magic ≡ magic_2 → IsSplit Chained bytes records
+pub split_chained : (bytes magic records : List ℕ) (n : ℕ) → magic ≡ take n bytes → records ≡ drop n bytes → magic ≡ magic_2 → ComesApart Chained bytes records
 split_chained bytes magic records n front back is = sym (take-append-drop n bytes) ∙ ap (λ m. m ++ drop n bytes) (sym front ∙ is) ∙ ap (λ r. magic_2 ++ r) (sym back)
 
 drop_more : (bytes : List ℕ) (n : ℕ) → n ≡ min 8 (length bytes) → drop n bytes ≡ drop 8 bytes
@@ -231,7 +231,7 @@ drop_more bytes n is = by_length (cases_lt (length bytes) 8) where
   by_length (inr many) = let all : n ≡ 8 = omega (arith, is, many) in ap (λ m. drop m bytes) all
 
 pub split_plain : (bytes magic records : List ℕ) (n : ℕ) → n ≡ min 8 (length bytes) → magic ≡ take n bytes → records ≡ drop n bytes → (magic ≡ magic_2 → ⊥)
-    → IsSplit Plain bytes records
+    → ComesApart Plain bytes records
 split_plain bytes magic records n at front back other = (
   λ rest is. (let all : n ≡ 8 = omega (arith, at, ap length is, length-append magic_2 rest) in other (front ∙ ap (take n) is ∙ ap (λ m. take m (magic_2 ++ rest)) all)),
   back ∙ drop_more bytes n at,
@@ -242,10 +242,10 @@ pub record HasRecordsText (format : Format) (history : List Event) (records : Li
   pub each : AllCanBeKept history
   pub text : records ≡ records_text format (sha256 magic_2) history
 
-pub split_ledger : (format : Format) (history : List Event) (bytes records : List ℕ) → AreLedgerOf history bytes → IsSplit format bytes records
+pub split_ledger : (format : Format) (history : List Event) (bytes records : List ℕ) → AreLedgerOf history bytes → ComesApart format bytes records
     → HasRecordsText format history records
 split_ledger format history bytes records ledger split = by_formats ledger.format format ledger.whole split where
-  by_formats : (f g : Format) → BeginsLegal f history bytes [] → IsSplit g bytes records → HasRecordsText g history records
+  by_formats : (f g : Format) → BeginsLegal f history bytes [] → ComesApart g bytes records → HasRecordsText g history records
   by_formats Plain Plain whole split = record {
     each = whole.kept.has_ledger;
     text = split.1 ∙ ap (drop 8) (whole.text ∙ append-nil (ledger_text_1 history));
@@ -268,7 +268,7 @@ none_text Plain before = refl
 none_text Chained before = refl
 
 -- a ledger without records is that of no event
-pub keeps_magic : (format : Format) (bytes records appended : List ℕ) (old new : Option (List (List ℕ))) → IsSplit format bytes records → records ≡ []
+pub keeps_magic : (format : Format) (bytes records appended : List ℕ) (old new : Option (List (List ℕ))) → ComesApart format bytes records → records ≡ []
     → appended ≡ magic_2 → AddsRecord old new appended → (history : List Event) → AreLedgerOf history bytes → KeepsAll history old new 0
 keeps_magic format bytes records appended old new split none is adds [] ledger = record {
   counted = refl;
@@ -278,7 +278,7 @@ keeps_magic format bytes records appended old new split none is adds (e ∷ hist
     absurd (some_text format (sha256 magic_2) e history (sym (split_ledger format (e ∷ history) bytes records ledger split).text ∙ none))
 
 -- and one with records is that of some
-pub keeps_ledger : (format : Format) (bytes records : List ℕ) (old new : Option (List (List ℕ))) (result : Result ℕ KeeperFailed) → IsSplit format bytes records
+pub keeps_ledger : (format : Format) (bytes records : List ℕ) (old new : Option (List (List ℕ))) (result : Result ℕ KeeperFailed) → ComesApart format bytes records
     → (records ≡ [] → ⊥) → KeepsRecords format records old new result → KeepsAnew bytes old new result
 keeps_ledger format bytes records old new (Ok count) split some kept = of where
   of : (history : List Event) → AreLedgerOf history bytes → KeepsAll history old new count

@@ -3,7 +3,6 @@
 #![tactic(auto)]
 
 mod door;
-mod failing;
 mod memory;
 
 pub use door::{Arrival, Came, Door};

@@ -4,8 +4,7 @@ ghost use Rattle.std.specs.Prelude.{◌≡◌, [], Some};
 ghost use Rattle.pool_doors.specs.Memory.{arrivals_of, door_faults, links_back, links_out};
 
 use crate::door::{Arrival, Came, Door};
-use crate::failing::FailingCalls;
-use pool_io::Shelf;
+use pool_io::{FailingCalls, Shelf};
 use pool_links::Link;
 use std::alloc::Global;
 use std::collections::VecDeque;

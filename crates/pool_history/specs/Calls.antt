@@ -2,7 +2,7 @@
 -- (this project's own).
 -- Computed on four calls with a fault and a poll among them (`CallRows`).
 use Rattle.std.specs.Prelude.{Bool, true, false, List}
-use Rattle.calls.specs.Calls.{Call, GoodCalls, IsGoodCall}
+use Rattle.calls.specs.Calls.{Call, Faulted, GoodCalls, IsGoodCall, Outcome, Replied}
 use Rattle.pool_history.specs.declared.asking.Request.{Request}
 use Rattle.pool_history.specs.declared.events.Event.{Event}
 use Rattle.pool_history.specs.declared.refusals.BookError.{BookError}
@@ -14,6 +14,16 @@ use Rattle.pool_history.specs.Answering.{Answer}
 abbrev pub wants_memory : BookError → Bool
 wants_memory KeeperFault = false
 wants_memory Memory = true
+
+-- the keeper's fault; want of memory is none
+abbrev pub blames_keeper : BookError → Bool
+blames_keeper KeeperFault = true
+blames_keeper Memory = false
+
+-- the keeper failed at a call
+abbrev pub has_keeper_failed : Outcome Reply BookError → Bool
+has_keeper_failed (Replied answer) = false
+has_keeper_failed (Faulted cause) = blames_keeper cause
 
 -- a call of a pool
 abbrev pub PoolCall : Type 0

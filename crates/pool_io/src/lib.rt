@@ -15,6 +15,7 @@ mod turn;
 pub use host::{Host, HostError};
 pub use keeper::{Keeper, KeeperFailed};
 pub use limits::Limits;
+pub use memory::failing::FailingCalls;
 pub use memory::host::{MemFile, MemHost, Script};
 pub use memory::keeper::{KeptRecord, MemKeeper, SureKeeper};
 pub use memory::sink::{MemSink, SureSink};

@@ -12,8 +12,7 @@ use Rattle.pool_history.specs.declared.refusals.BookError.{BookError}
 use Rattle.pool_history.specs.declared.refusals.BookError.TheVariants as fault
 use Rattle.pool_history.specs.declared.replies.Reply.{Reply}
 use Rattle.pool_history.specs.Answering.{Answer}
-use Rattle.pool_history.specs.Calls.{GoodPoolCalls, PoolCall, wants_memory}
-use Rattle.desk_worker.specs.Calling.{has_keeper_failed}
+use Rattle.pool_history.specs.Calls.{GoodPoolCalls, PoolCall, has_keeper_failed, wants_memory}
 use Rattle.door_worker.specs.Shifts.{Shift}
 use Rattle.session_steps.specs.declared.ends.SessionEnd.{SessionEnd}
 use Rattle.pool_server.specs.Counting.{capped, count_if, failed_in, faulted_in}

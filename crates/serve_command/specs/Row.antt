@@ -7,6 +7,7 @@ use Rattle.pool_io.specs.Openings.{openings_after, openings_and}
 use Rattle.pool_io.specs.Outside.{CountsFailure, is_failed_gift}
 use Rattle.pool_history.specs.declared.events.Event.TheVariants as event
 use Rattle.pool_history.specs.declared.refusals.BookError.{BookError}
+use Rattle.pool_history.specs.Calls.{blames_keeper}
 use Rattle.pool_network.specs.Networks.{NetworkView}
 use Rattle.pool_settings.specs.declared.settings.Settings.{Settings}
 use Rattle.pool_turns.specs.Rows.{CameBack}
@@ -16,7 +17,7 @@ use Rattle.pool_turns.specs.declared.status.Status.TheVariants as status
 use Rattle.settings_file.specs.Opened.{OpensSettings, status_of_no_settings}
 use Rattle.settings_file.specs.Views.{HostView}
 use Rattle.settings_file.specs.declared.opening.NoSettings.{NoSettings}
-use Rattle.share_ledger.specs.Books.{BookSeen, KeepsInstead, is_start_fault}
+use Rattle.share_ledger.specs.Books.{BookSeen, KeepsInstead}
 use Rattle.solo_command.specs.Row.{IsKeeperGiven, IsRefusedKeeper, with_keeper_back}
 use Rattle.solo_session.specs.Solo.{Accounts}
 use Rattle.text_output.specs.Putting.{PutsText}
@@ -121,7 +122,7 @@ pub record HasNoStart {S T K D L : Type 0} (told : Accounts S T K) (keeper : K)
   pub cause : BookError
   pub keeper_back : K
   pub records : told.records keeper_back ≡ told.records keeper
-  pub counts : CountsFailure (is_start_fault cause) (told.keeper_faults keeper)
+  pub counts : CountsFailure (blames_keeper cause) (told.keeper_faults keeper)
       (told.keeper_faults keeper_back)
   pub back : GivesKeeperBack old.host new.host keeper_back
   pub network : new.network ≡ old.network

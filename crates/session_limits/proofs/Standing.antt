@@ -15,7 +15,7 @@ use Rattle.pool_history.specs.declared.refusals.BookError.{BookError}
 use Rattle.pool_history.specs.declared.refusals.BookError.TheVariants as fault
 use Rattle.pool_history.specs.declared.replies.Reply.{Reply}
 use Rattle.pool_history.specs.declared.replies.Reply.TheVariants as reply
-use Rattle.pool_history.specs.Calls.{PoolCall}
+use Rattle.pool_history.specs.Calls.{PoolCall, blames_keeper, has_keeper_failed}
 use Rattle.pool_history.specs.Headers.{Briefing}
 use Rattle.session_steps.specs.declared.about.About.{About}
 use Rattle.session_steps.specs.declared.about.About.TheVariants as topic
@@ -26,7 +26,7 @@ use Rattle.session_steps.specs.declared.meeting.Step.TheVariants as step
 use Rattle.session_steps.specs.States.{State, Stage, Asking, Committing, Greeting, Leaving, Over, Polling, Reading, Refusing, Put, answered_stage, briefed_stage, end_stage, fault_end, hears, input_end, new_state, news_stage, next_stage, put_stage}
 use Rattle.session_steps.specs.Steps as steps
 use Rattle.session_steps.specs.Steps.{CanCall, CanStep, Follows, SessionStep, after_asking, after_booking, after_call, after_news, after_step, call_in, calls_in, end_after, met_stage, put_in, turn_in, turns_in}
-use Rattle.session_limits.specs.Ends.{has_missed, has_turned_away, has_unkept, has_unwritten, is_full, is_keepers, is_missed, is_turned_away, is_unkept, is_unwritten, session_bounds}
+use Rattle.session_limits.specs.Ends.{has_missed, has_turned_away, has_unkept, has_unwritten, is_full, is_missed, is_turned_away, is_unwritten, session_bounds}
 
 -- what an end says of the steps that led to it
 abbrev pub EndShows : Bounds → List SessionStep → SessionEnd → Type 0
@@ -81,7 +81,7 @@ module _ (bounds : Bounds) (done : List SessionStep) (x : SessionStep) where
   shows_more quiet end.PoolFull shows =
       ap has_turned_away (calls_in-more done x) ∙ any_more (λ call. is_turned_away call.outcome) (calls_in done) (call_in x) shows
   shows_more quiet end.LedgerFault shows =
-      ap has_unkept (calls_in-more done x) ∙ any_more (λ call. is_unkept call.outcome) (calls_in done) (call_in x) shows
+      ap has_unkept (calls_in-more done x) ∙ any_more (λ call. has_keeper_failed call.outcome) (calls_in done) (call_in x) shows
   shows_more quiet end.ReadFault shows = any_more is_missed done (x ∷ []) shows
   shows_more quiet end.WriteFault shows = any_more (λ step. is_unwritten (put_in step).fault) done (x ∷ []) shows
   shows_more quiet end.Done shows = tt
@@ -97,10 +97,10 @@ module _ (bounds : Bounds) (done : List SessionStep) (x : SessionStep) where
 
 -- the calls, with one more
 module _ (done : List SessionStep) (call : PoolCall) (put : Put) where
-  unkept_now : (cause : BookError) → call.outcome ≡ Faulted cause → is_keepers cause ≡ true → has_unkept (calls_in (done ++ steps.Called call put ∷ [])) ≡ true
+  unkept_now : (cause : BookError) → call.outcome ≡ Faulted cause → blames_keeper cause ≡ true → has_unkept (calls_in (done ++ steps.Called call put ∷ [])) ≡ true
   unkept_now cause is keepers =
       ap has_unkept (calls_in-more done (steps.Called call put))
-      ∙ any_last (λ c. is_unkept c.outcome) (calls_in done) call (ap is_unkept is ∙ keepers)
+      ∙ any_last (λ c. has_keeper_failed c.outcome) (calls_in done) call (ap has_keeper_failed is ∙ keepers)
 
   turned_away_now : (answer : Reply) → call.outcome ≡ Replied answer → is_full answer ≡ true → has_turned_away (calls_in (done ++ steps.Called call put ∷ [])) ≡ true
   turned_away_now answer is full =
@@ -119,7 +119,7 @@ module _ (bounds : Bounds) (done : List SessionStep) (idles : ℕ) where
   put_shows (Some sink.Failed) entered stage unwritten shows = ended_shows entered end.WriteFault (unwritten refl)
   put_shows (Some sink.Memory) entered stage unwritten shows = ended_shows entered end.Memory tt
 
-  fault_shows : (cause : BookError) → (is_keepers cause ≡ true → has_unkept (calls_in done) ≡ true) → EndShows bounds done (fault_end cause)
+  fault_shows : (cause : BookError) → (blames_keeper cause ≡ true → has_unkept (calls_in done) ≡ true) → EndShows bounds done (fault_end cause)
   fault_shows fault.KeeperFault unkept = unkept refl
   fault_shows fault.Memory unkept = tt
 

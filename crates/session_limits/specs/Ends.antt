@@ -9,10 +9,9 @@ use Rattle.pool_history.specs.declared.asking.Request.{Request}
 use Rattle.pool_history.specs.declared.asking.Request.TheVariants as request
 use Rattle.pool_history.specs.declared.events.Role.{Role}
 use Rattle.pool_history.specs.declared.refusals.BookError.{BookError}
-use Rattle.pool_history.specs.declared.refusals.BookError.TheVariants as fault
 use Rattle.pool_history.specs.declared.replies.Reply.{Reply}
 use Rattle.pool_history.specs.declared.replies.Reply.TheVariants as reply
-use Rattle.pool_history.specs.Calls.{PoolCall}
+use Rattle.pool_history.specs.Calls.{PoolCall, has_keeper_failed}
 use Rattle.session_steps.specs.declared.ends.SessionEnd.{SessionEnd}
 use Rattle.session_steps.specs.declared.ends.SessionEnd.TheVariants as end
 use Rattle.session_steps.specs.States.{State, Over, most_bytes, new_state}
@@ -29,16 +28,6 @@ pub record ComesTo (worker idle_turns : ℕ) (role : Role) (rolling : Bool)
 abbrev pub session_bounds : ℕ → Bounds
 session_bounds idle_turns = record { idle_turns = idle_turns; bytes = most_bytes }
 
--- the keeper failed; want of memory is no failure
-abbrev pub is_keepers : BookError → Bool
-is_keepers fault.KeeperFault = true
-is_keepers fault.Memory = false
-
--- a call was answered so
-abbrev pub is_unkept : Outcome Reply BookError → Bool
-is_unkept (Replied answer) = false
-is_unkept (Faulted cause) = is_keepers cause
-
 -- the pool takes no more sessions
 abbrev pub is_full : Reply → Bool
 is_full (reply.PoolFull most) = true
@@ -51,7 +40,7 @@ is_turned_away (Faulted cause) = false
 
 -- the keeper failed at one of the calls
 abbrev pub has_unkept : List PoolCall → Bool
-has_unkept calls = list_any (λ call. is_unkept call.outcome) calls
+has_unkept calls = list_any (λ call. has_keeper_failed call.outcome) calls
 
 -- one of the calls was answered that the pool is full
 abbrev pub has_turned_away : List PoolCall → Bool

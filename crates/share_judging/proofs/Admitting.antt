@@ -31,16 +31,16 @@ mined_of job live_at tip = record { job = job; live_at = live_at; tip = tip }
 
 -- the jobs that are kept say which job a share is mined on
 mined-kept : (history : List Event) (share : Share)
-    → mined_for (jobs_of (past_of history)) share ≡ mined_by (keeping.kept_of (jobs_of (past_of history))) share
+    → mined_for (jobs_of (past_of history)) share ≡ mined_by (keeping.kept_jobs_of (jobs_of (past_of history))) share
 mined-kept history share =
     let reads : ReadsTheKept history (jobs_of (past_of history)) = kept-suffice history in
     ap (λ known. provided known failed.Job share >>= (λ _. found failed.Stale (live_job (jobs_of (past_of history)) share.job)
     >>= (λ job. found failed.Stale job.live_at >>= (λ live_at. found failed.Stale (jobs_of (past_of history)).tip
     >>= (λ tip. Ok (mined_of job live_at tip)))))) (reads.known share)
 
-mined-past : (past : List Event) (share : Share) → mined_for (jobs_of past) share ≡ mined_by (keeping.kept_of (jobs_of past)) share
+mined-past : (past : List Event) (share : Share) → mined_for (jobs_of past) share ≡ mined_by (keeping.kept_jobs_of (jobs_of past)) share
 mined-past past share =
-    subst (λ (p : List Event). mined_for (jobs_of p) share ≡ mined_by (keeping.kept_of (jobs_of p)) share) (reverse-reverse past) (mined-kept (reverse past) share)
+    subst (λ (p : List Event). mined_for (jobs_of p) share ≡ mined_by (keeping.kept_jobs_of (jobs_of p)) share) (reverse-reverse past) (mined-kept (reverse past) share)
 
 -- the steps one after the other
 abbrev pub stepped : Rules → List Event → ℕ → Share → Result Admitted Failed

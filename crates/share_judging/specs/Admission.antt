@@ -26,7 +26,7 @@ use Rattle.template_jobs.specs.Tables.{HasCoinbases, JobTable, kept_jobs}
 pub record ShowsShares (channels : ChannelTable) (jobs : JobTable) (past : List Event)
     : Type 0 where
   pub channels_are : channels.open_channels ≡ channels_of past
-  pub jobs_are : kept_jobs jobs ≡ keeping.kept_of (jobs_of past)
+  pub jobs_are : kept_jobs jobs ≡ keeping.kept_jobs_of (jobs_of past)
   pub coinbases : HasCoinbases (script_of past) jobs
 
 -- the channel that a share is sent on, by the first two conditions

@@ -9,7 +9,7 @@ use Rattle.history_laws.proofs.Legalities.{legal_starts, some-none}
 use Rattle.pool_history.specs.declared.settings.Rules.{Rules}
 use Rattle.pool_history.specs.Accounts.{are_in_range}
 use Rattle.pool_history.specs.Jobs.{jobs_told}
-use Rattle.history_laws.specs.KeptJobs.{kept_of}
+use Rattle.history_laws.specs.KeptJobs.{kept_jobs_of}
 use Rattle.ledger_laws.specs.Keeping.{IsKept, StartsAreKept}
 use Rattle.ledger_laws.specs.WellFormed.{AreRules, IsWellFormed}
 use Rattle.channels.specs.Tables.{IsTold}
@@ -39,7 +39,7 @@ first-there old is none =
 pub started : (rules : Rules) (tables : LedgerTables) → StartsAreKept → OtherEventsLeaveSessions → OtherEventsLeaveGrants → IsTrue (are_in_range rules)
     → tables.history.events ≡ event.Start rules ∷ []
     → ((first : Event) → slice_get tables.history.events 0 ≡ Some first → IsWellFormed first)
-    → ShowsSessions tables.sessions [] → IsTold tables.channels [] → kept_jobs tables.jobs ≡ kept_of (jobs_told [])
+    → ShowsSessions tables.sessions [] → IsTold tables.channels [] → kept_jobs tables.jobs ≡ kept_jobs_of (jobs_told [])
     → ((script : List ℕ) → HasCoinbases script tables.jobs) → ShowsGrants tables.grants [] → tables.tally.window ≡ rules.window
     → Remembers tables.tally [] → ((basis_points : ℕ) → HasSums tables.tally basis_points []) → ShowsHeaders tables.headers [] → AreTables tables
 started rules tables kept leave-sessions leave-grants ranged events fits sessions channels jobs coinbases grants window tally sums headers =

@@ -18,7 +18,7 @@ use Rattle.pool_history.specs.Answering.{Effect, step_in, with_event, without_ev
 use Rattle.pool_history.specs.Channels.{OpenChannel, channels_of}
 use Rattle.pool_history.specs.Jobs.{Job, jobs_of}
 use Rattle.pool_history.specs.Sessions.{past_of, rules_of, script_in, script_of}
-use Rattle.history_laws.specs.KeptJobs.{KeptJobs, kept_of}
+use Rattle.history_laws.specs.KeptJobs.{KeptJobs, kept_jobs_of}
 use Rattle.history_laws.proofs.Legalities.{some-same}
 use Rattle.history_laws.proofs.Ranges.{least-range, legal-rules, script-range}
 use Rattle.channels.specs.Histories.{TablesShowHistories}

@@ -13,6 +13,7 @@ use Rattle.pool_history.specs.Crediting.{first_failed}
 use Rattle.pool_history.specs.Judging.{Share}
 use Rattle.pool_history.specs.Ledger.{kept_records}
 use Rattle.pool_history.specs.Sessions.{past_of, present, rules_of}
+use Rattle.pool_history.specs.Calls.{blames_keeper}
 
 -- the events, and the keeper of their records
 pub record BookSeen (K : Type 0) : Type 0 where
@@ -36,14 +37,9 @@ KeepsInstead before after history = after ≡ option_map (λ records. kept_recor
 abbrev pub IsUnused : Option (List (List ℕ)) → Type 0
 IsUnused told = IfSome told (λ records. records ≡ [])
 
--- the keeper's fault; want of memory is none
-abbrev pub is_start_fault : BookError → Bool
-is_start_fault KeeperFault = true
-is_start_fault Memory = false
-
 abbrev pub is_keeper_fault : {X : Type 0} → Result X BookError → Bool
 is_keeper_fault (Ok x) = false
-is_keeper_fault (Err error) = is_start_fault error
+is_keeper_fault (Err error) = blames_keeper error
 
 -- it is the first condition that fails for a share of a worker's present session
 abbrev pub IsFirstFailed : List Event → ℕ → Share → Option Failed → Type 0

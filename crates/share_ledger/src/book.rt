@@ -42,9 +42,10 @@ impl<K: Keeper> Book<K> {
     ghost use Rattle.pool_history.specs.Judging.{share_of};
     ghost use Rattle.pool_history.specs.Sessions.{past_of, present};
     ghost use Rattle.pool_history.specs.Summary.{summary_of, summary_text};
+    ghost use Rattle.pool_history.specs.Calls.{blames_keeper};
     ghost use Rattle.ledger_laws.specs.Keeping.{IsKept};
     ghost use Rattle.pool_io.specs.Outside.{CountsFailure};
-    ghost use Rattle.share_ledger.specs.Books.{IsFirstFailed, IsReplied, IsUnused, KeepsInstead, KeepsLedger, is_keeper_fault, is_start_fault};
+    ghost use Rattle.share_ledger.specs.Books.{IsFirstFailed, IsReplied, IsUnused, KeepsInstead, KeepsLedger, is_keeper_fault};
 
     /// The book of a pool that starts, with a keeper that keeps nothing yet: the magic and the Start
     /// record are kept as one piece.
@@ -56,7 +57,7 @@ impl<K: Keeper> Book<K> {
             KeepsInstead (K.records keeper) (K.records book.keeper) book.events) }
         ensures counts { IfOk result (λ book. K.faults book.keeper ≡ K.faults keeper) }
         ensures refused { IfErr result (λ failed. K.records failed.0 ≡ K.records keeper) }
-        ensures fault { IfErr result (λ failed. CountsFailure (is_start_fault failed.1)
+        ensures fault { IfErr result (λ failed. CountsFailure (blames_keeper failed.1)
             (K.faults keeper) (K.faults failed.0)) }
     {
         let tables = match Tables::start(alloc, rules) {

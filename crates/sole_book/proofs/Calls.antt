@@ -14,18 +14,18 @@ use Rattle.pool_history.specs.declared.replies.Reply.{Reply}
 use Rattle.pool_history.specs.declared.replies.Reply.TheVariants as reply
 use Rattle.pool_history.specs.declared.shares.Submission.{Submission}
 use Rattle.pool_history.specs.Answering.{Answer}
-use Rattle.pool_history.specs.Calls.{PoolCall, wants_memory}
+use Rattle.pool_history.specs.Calls.{PoolCall, blames_keeper, wants_memory}
 use Rattle.pool_history.specs.Headers.{Briefing}
 use Rattle.pool_history.specs.Legal.{Legal}
 use Rattle.history_laws.specs.Answered.{AnswersKeepLegality, BriefsRoll}
 use Rattle.ledger_laws.specs.Requests.{IsWellFormedRequest}
 use Rattle.pool_sessions.specs.declared.acting.Acted.{Acted}
 use Rattle.pool_sessions.specs.Answerers.{Acts, RollsAsBriefed, outcome_of}
-use Rattle.share_ledger.specs.Books.{BookSeen, IsReplied, KeepsInstead, KeepsLedger, is_keeper_fault, is_start_fault}
+use Rattle.share_ledger.specs.Books.{BookSeen, IsReplied, KeepsInstead, KeepsLedger, is_keeper_fault}
 use Rattle.sole_book.specs.Calling.{CallsBook, GoesOn, StandInTurn, added_in}
 
 -- a fault that isn't want of memory was counted
-fault_rose : (cause : BookError) (before after : ℕ) → CountsFailure (is_start_fault cause) before after → wants_memory cause ≡ false → Rose before after
+fault_rose : (cause : BookError) (before after : ℕ) → CountsFailure (blames_keeper cause) before after → wants_memory cause ≡ false → Rose before after
 fault_rose fault.KeeperFault before after counts wanted = omega (arith, counts)
 fault_rose fault.Memory before after counts wanted = cc
 

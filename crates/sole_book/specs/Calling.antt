@@ -1,20 +1,15 @@
 -- What the calls of a book by itself do (this project's own).
 use Rattle.std.specs.Prelude.{◌≡◌, ℕ, Bool, false, Option, List, [], ◌∷◌, ◌++◌, length}
 use Rattle.std.specs.List.{flat_map}
-use Rattle.calls.specs.Calls.{IsOutcome, Outcome, Replied, Faulted}
+use Rattle.calls.specs.Calls.{IsOutcome}
 use Rattle.pool_history.specs.declared.events.Event.{Event}
 use Rattle.pool_history.specs.declared.refusals.BookError.{BookError}
 use Rattle.pool_history.specs.declared.replies.Reply.{Reply}
 use Rattle.pool_io.specs.Outside.{CountsFailure}
 use Rattle.pool_history.specs.Answering.{Answer}
-use Rattle.pool_history.specs.Calls.{PoolCall, wants_memory}
+use Rattle.pool_history.specs.Calls.{PoolCall, has_keeper_failed, wants_memory}
 use Rattle.pool_history.specs.Legal.{Legal}
-use Rattle.share_ledger.specs.Books.{BookSeen, KeepsInstead, KeepsLedger, is_start_fault}
-
--- the keeper failed at a call
-abbrev pub is_faulted : Outcome Reply BookError → Bool
-is_faulted (Replied reply) = false
-is_faulted (Faulted cause) = is_start_fault cause
+use Rattle.share_ledger.specs.Books.{BookSeen, KeepsInstead, KeepsLedger}
 
 -- one call: it stands at the whole history, and is answered by that or is a fault; what it added is
 -- what the history got, and a keeper that told its records then tells the history's ledger; the
@@ -27,7 +22,7 @@ pub record CallsBook {K : Type 0} (records : K → Option (List (List ℕ))) (fa
   pub kept : KeepsInstead (records old.keeper) (records new.keeper) new.events
   pub count_before : call.faults_before ≡ faults old.keeper
   pub count_after : call.faults_after ≡ faults new.keeper
-  pub counts : CountsFailure (is_faulted call.outcome) (faults old.keeper) (faults new.keeper)
+  pub counts : CountsFailure (has_keeper_failed call.outcome) (faults old.keeper) (faults new.keeper)
 
 -- the events that calls added
 abbrev pub added_in : List PoolCall → List Event

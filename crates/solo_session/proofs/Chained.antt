@@ -1,11 +1,11 @@
 -- What the calls of a session over a book of its own did to its keeper.
 use Rattle.std.proofs.Common.{ℕ, List, [], ◌∷◌, Option, Some, None, refl, sym, ap, subst}
 use Rattle.pool_history.specs.declared.events.Event.{Event}
-use Rattle.pool_history.specs.Calls.{PoolCall}
+use Rattle.pool_history.specs.Calls.{PoolCall, has_keeper_failed}
 use Rattle.pool_io.specs.Outside.{CountsFailure}
 use Rattle.pool_sessions.specs.Answerers.{Acts}
 use Rattle.share_ledger.specs.Books.{BookSeen, KeepsInstead, KeepsLedger}
-use Rattle.sole_book.specs.Calling.{CallsBook, is_faulted}
+use Rattle.sole_book.specs.Calling.{CallsBook}
 use Rattle.solo_session.specs.Solo.{CountsCalls}
 
 -- calls are those of what is seen of who answers
@@ -20,7 +20,7 @@ pub counts_calls : {K : Type 0} (records : K → Option (List (List ℕ))) (faul
 counts_calls {K} records faults old new [] acts = ap (λ (book : BookSeen K). faults book.keeper) acts
 counts_calls {K} records faults old new (call ∷ calls) acts =
     let first = acts.1 in
-    (first.count_before, subst (λ n. CountsFailure (is_faulted call.outcome) (faults old.keeper) n) (sym first.count_after) first.counts, subst (λ n. CountsCalls n calls (faults new.keeper)) (sym first.count_after) (counts_calls records faults acts.0 new calls acts.2))
+    (first.count_before, subst (λ n. CountsFailure (has_keeper_failed call.outcome) (faults old.keeper) n) (sym first.count_after) first.counts, subst (λ n. CountsCalls n calls (faults new.keeper)) (sym first.count_after) (counts_calls records faults acts.0 new calls acts.2))
 
 -- a keeper that began with a history's ledger and then went on with its calls has the ledger of all
 pub ledger_on : (before begun after : Option (List (List ℕ))) (start history : List Event) → KeepsInstead before begun start

@@ -16,24 +16,18 @@ use Rattle.pool_history.specs.declared.replies.Reply.{Reply}
 use Rattle.pool_history.specs.declared.replies.Reply.TheVariants as reply
 use Rattle.pool_history.specs.declared.settings.Rules.{Rules}
 use Rattle.pool_history.specs.Answering.{Answer}
-use Rattle.pool_history.specs.Calls.{PoolCall, wants_memory}
+use Rattle.pool_history.specs.Calls.{PoolCall, blames_keeper, has_keeper_failed, wants_memory}
 use Rattle.session_steps.specs.declared.ends.SessionEnd.{SessionEnd}
 use Rattle.session_steps.specs.declared.ends.SessionEnd.TheVariants as end
 use Rattle.session_steps.specs.Steps.{calls_in, turns_in}
 use Rattle.pool_sessions.specs.Good.{IsGoodEnd, IsGoodInput}
-use Rattle.session_limits.specs.Ends.{EntersFirst, IsWellEnded, has_turned_away, has_unkept, is_enter, is_turned_away, is_unkept, session_bounds}
+use Rattle.session_limits.specs.Ends.{EntersFirst, IsWellEnded, has_turned_away, has_unkept, is_enter, is_turned_away, session_bounds}
 use Rattle.session_limits.proofs.Entering.{enters_first}
 use Rattle.session_limits.proofs.Filling.{only_enters}
 use Rattle.session_limits.proofs.Standing.{EndShows, ends_show}
-use Rattle.share_ledger.specs.Books.{is_start_fault}
-use Rattle.sole_book.specs.Calling.{StandInTurn, is_faulted}
+use Rattle.sole_book.specs.Calling.{StandInTurn}
 use Rattle.solo_session.specs.Solo.{Accounts, CountsCalls, IsServedWell, IsSoloSession, Outsides, ServesGoodInput, sole_worker}
 use Rattle.solo_session.specs.declared.serving.SoloEnd.TheVariants as solo
-
-faulted_is : (outcome : Outcome Reply BookError) → is_faulted outcome ≡ is_unkept outcome
-faulted_is (Replied answer) = refl
-faulted_is (Faulted fault.KeeperFault) = refl
-faulted_is (Faulted fault.Memory) = refl
 
 -- no count falls, and a failure raises it
 counts_le : (failed : Bool) (before now : ℕ) → CountsFailure failed before now → before ≤ now
@@ -47,7 +41,7 @@ rose_by false before now is counts = cc
 calls_le : (before now : ℕ) (calls : List PoolCall) → CountsCalls before calls now → before ≤ now
 calls_le before now [] counts = omega (arith, counts)
 calls_le before now (call ∷ calls) counts =
-    omega (arith, counts_le (is_faulted call.outcome) before call.faults_after counts.1, calls_le call.faults_after now calls counts.2)
+    omega (arith, counts_le (has_keeper_failed call.outcome) before call.faults_after counts.1, calls_le call.faults_after now calls counts.2)
 
 rose_more : (before middle now : ℕ) → Rose before middle → middle ≤ now → Rose before now
 rose_more before middle now rose more = omega (arith, rose, more)
@@ -66,8 +60,8 @@ unkept_or false before after now calls one counts some more =
 unkept_rose : (before now : ℕ) (calls : List PoolCall) → CountsCalls before calls now → has_unkept calls ≡ true → Rose before now
 unkept_rose before now [] counts some = cc
 unkept_rose before now (call ∷ calls) counts some =
-    unkept_or (is_unkept call.outcome) before call.faults_after now calls
-    (subst (λ b. CountsFailure b before call.faults_after) (faulted_is call.outcome) counts.1) counts.2 some
+    unkept_or (has_keeper_failed call.outcome) before call.faults_after now calls
+    counts.1 counts.2 some
     (λ n later has. unkept_rose n now calls later has)
 
 neither : (b : Bool) → b ≡ true → b ≡ false → ⊥
@@ -103,7 +97,7 @@ all_in rules (call ∷ calls) turns first =
     ∙ later_in ((event.Start rules ∷ []) ++ call.added) calls turns.2 first.1
 
 -- no session began: the keeper failed, or memory was wanted
-pub unbegun_well : (cause : BookError) (before now : ℕ) → CountsFailure (is_start_fault cause) before now → ¬ Rose before now → IsServedWell (solo.Unbegun cause)
+pub unbegun_well : (cause : BookError) (before now : ℕ) → CountsFailure (blames_keeper cause) before now → ¬ Rose before now → IsServedWell (solo.Unbegun cause)
 unbegun_well fault.KeeperFault before now counts none = none (rose_by true before now refl counts)
 unbegun_well fault.Memory before now counts none = tt
 

@@ -10,9 +10,9 @@ use Rattle.pool_history.specs.declared.events.Role.TheVariants as role
 use Rattle.pool_history.specs.declared.refusals.BookError.{BookError}
 use Rattle.pool_history.specs.declared.refusals.BookError.TheVariants as fault
 use Rattle.pool_history.specs.declared.settings.Rules.{Rules}
-use Rattle.pool_history.specs.Calls.{PoolCall}
+use Rattle.pool_history.specs.Calls.{PoolCall, blames_keeper, has_keeper_failed}
 use Rattle.ledger_laws.specs.Keeping.{IsKept}
-use Rattle.share_ledger.specs.Books.{KeepsInstead, is_start_fault}
+use Rattle.share_ledger.specs.Books.{KeepsInstead}
 use Rattle.session_steps.specs.declared.ends.SessionEnd.{SessionEnd}
 use Rattle.session_steps.specs.States.{State, Over, new_state}
 use Rattle.session_steps.specs.Steps.{SessionStep, Follows, bytes_in_steps, calls_in, turns_in}
@@ -20,7 +20,7 @@ use Rattle.pool_sessions.specs.Causes.{is_read_end, is_write_end}
 use Rattle.pool_sessions.specs.Good.{IsGoodEnd, IsGoodInput}
 use Rattle.pool_sessions.specs.Running.{TakesAll, has_ended}
 use Rattle.session_limits.specs.Ends.{IsWellEnded, session_bounds}
-use Rattle.sole_book.specs.Calling.{StandInTurn, added_in, is_faulted}
+use Rattle.sole_book.specs.Calling.{StandInTurn, added_in}
 use Rattle.solo_session.specs.declared.serving.SoloEnd.{SoloEnd}
 use Rattle.solo_session.specs.declared.serving.SoloEnd.TheVariants as solo
 
@@ -49,7 +49,7 @@ abbrev pub CountsCalls : ℕ → List PoolCall → ℕ → Type 0
 CountsCalls before [] now = now ≡ before
 CountsCalls before (call ∷ calls) now =
     (call.faults_before ≡ before)
-    × CountsFailure (is_faulted call.outcome) before call.faults_after
+    × CountsFailure (has_keeper_failed call.outcome) before call.faults_after
     × CountsCalls call.faults_after calls now
 
 -- Steps that begin a session of both roles and come to this end. They took what the source brought
@@ -83,7 +83,7 @@ pub record IsUnbegun {S T K : Type 0} (told : Accounts S T K) (old new : Outside
   pub source : new.source ≡ old.source
   pub sink : new.sink ≡ old.sink
   pub records : told.records new.keeper ≡ told.records old.keeper
-  pub counts : CountsFailure (is_start_fault cause) (told.keeper_faults old.keeper)
+  pub counts : CountsFailure (blames_keeper cause) (told.keeper_faults old.keeper)
       (told.keeper_faults new.keeper)
 
 -- what was done, by how it ended

@@ -1,7 +1,7 @@
 -- What a table was told, and that its answers are those of the history that its calls stand for
 -- (this project's own).
 use Rattle.std.specs.Prelude.{◌≡◌, ℕ, List, ◌∷◌, ◌++◌, map}
-use Rattle.history_laws.specs.KeptJobs.{is_mineable_by, kept_of, state_by}
+use Rattle.history_laws.specs.KeptJobs.{is_mineable_by, kept_jobs_of, state_by}
 use Rattle.pool_history.specs.declared.events.Event.{Event}
 use Rattle.pool_history.specs.declared.templates.TemplateData.{TemplateData}
 use Rattle.pool_history.specs.Jobs.{JobMove, job_moves, job_numbered, jobs_of, jobs_told, state_of}
@@ -13,7 +13,7 @@ use Rattle.template_jobs.specs.Tables.{JobTable, TakesMove, held_jobs, kept_jobs
 
 -- a table was told these moves, the last of which stands first
 abbrev pub WasTold : JobTable → List JobMove → Type 0
-WasTold table moves = kept_jobs table ≡ kept_of (jobs_told moves)
+WasTold table moves = kept_jobs table ≡ kept_jobs_of (jobs_told moves)
 
 -- the move that a table takes is told to it, whatever it was told before
 abbrev pub MovesAreTold : Type 0

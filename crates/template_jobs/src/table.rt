@@ -77,7 +77,7 @@ impl Jobs {
     ghost use Rattle.std.specs.Prelude.{◌≡◌, ◌+◌, ◌^◌, ◌<◌, ◌≤◌, ◌++◌, List, ℕ, IfOk, IfSome, OnErr, OnOk, length, map, []};
     ghost use Rattle.std.specs.Option.{option_copied, option_map};
     ghost use Rattle.coinbase.specs.Custom.{custom_assembly};
-    ghost use Rattle.history_laws.specs.KeptJobs.{is_mineable_by, kept_of, state_by};
+    ghost use Rattle.history_laws.specs.KeptJobs.{is_mineable_by, kept_jobs_of, state_by};
     ghost use Rattle.pool_history.specs.Conditions.{found};
     ghost use Rattle.pool_history.specs.Jobs.{FromMiner, FromTemplate, Brought, Came, Tipped, future_in, job_numbered, jobs_told, last_of};
     ghost use Rattle.pool_history.specs.Judging.{custom_terms};
@@ -88,7 +88,7 @@ impl Jobs {
 
     /// No job was told, and no tip.
     pub fn new(alloc: Global) -> Jobs
-        ensures told { kept_jobs result ≡ kept_of (jobs_told []) }
+        ensures told { kept_jobs result ≡ kept_jobs_of (jobs_told []) }
         ensures coinbases { (script : List ℕ) → HasCoinbases script result }
     {
         Jobs {
