@@ -1,5 +1,6 @@
 //! The headers that were credited.
 
+use crate::keys::HeaderKey;
 use indexmap::IndexSet;
 use std::alloc::{AllocError, Global};
 use std::marker::Model;
@@ -7,7 +8,7 @@ use std::marker::Model;
 /// The headers of all credits. Contracts see them, and for how many more there is room.
 #[derive(Drop)]
 pub struct Headers {
-    set: IndexSet<[u8; 80]>,
+    set: IndexSet<HeaderKey>,
 }
 
 impl Model for Headers {
@@ -38,7 +39,7 @@ impl Headers {
     pub fn contains(&self, header: &[u8; 80]) -> bool
         ensures { result ≡ list_any (bytes_eq header.now) self.now.kept }
     {
-        self.set.contains(header)
+        self.set.contains(&HeaderKey::of(*header))
     }
 
     /// Room for one more.
@@ -55,6 +56,6 @@ impl Headers {
         ensures { (headers : List (List ℕ)) → ShowsHeaders self.old headers
             → ShowsHeaders self.new (header ∷ headers) }
     {
-        let _done = self.set.insert(header);
+        let _done = self.set.insert(HeaderKey::of(header));
     }
 }

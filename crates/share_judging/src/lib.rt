@@ -6,6 +6,7 @@
 mod admission;
 mod conditions;
 mod headers;
+mod keys;
 mod late;
 mod mined;
 mod passing;
