@@ -1,17 +1,20 @@
 -- That the pool is full is answered only to who asks to enter.
-use Rattle.std.proofs.Common.{◌≡◌, ℕ, ◌≤◌, true, false, Option, None, Some, Result, Ok, Err, List, [], refl, sym, ap, ◌∙◌}
+use Rattle.std.proofs.Common.{◌≡◌, ℕ, ◌<◌, ◌≤◌, ◌||◌, true, false, Option, None, Some, Result, Ok, Err, List, [], ◌∷◌, ◌++◌, refl, sym, ap, subst, ◌∙◌, arith}
 use Rattle.std.proofs.lemmas.Bool.{cond_both, ltb-false}
 use Rattle.std.specs.Prelude.{bit_and, length, nat_eq, nat_lt, ◌+◌}
+use Rattle.calls.specs.Calls.{IsOutcome, Outcome, Replied, Faulted}
 use Rattle.pool_history.specs.declared.asking.Request.{Request}
 use Rattle.pool_history.specs.declared.asking.Request.TheVariants as request
 use Rattle.pool_history.specs.declared.events.Event.{Event}
 use Rattle.pool_history.specs.declared.events.Event.TheVariants as event
+use Rattle.pool_history.specs.declared.refusals.BookError.{BookError}
 use Rattle.pool_history.specs.declared.refusals.Failed.{Failed}
 use Rattle.pool_history.specs.declared.replies.Reply.{Reply}
 use Rattle.pool_history.specs.declared.replies.Reply.TheVariants as reply
 use Rattle.pool_history.specs.declared.settings.Rules.{Rules}
 use Rattle.pool_history.specs.Accounts.{account_of, is_empty}
-use Rattle.pool_history.specs.Answering.{briefing, classing, closing, committing, crediting, granting, naming, opening, permits, step_as, step_by, step_for, step_in, step_under, with_event, without_event}
+use Rattle.pool_history.specs.Answering.{Answer, briefing, classing, closing, committing, crediting, granting, naming, opening, permits, step_as, step_by, step_for, step_in, step_under, with_event, without_event}
+use Rattle.pool_history.specs.Calls.{GoodPoolCalls, PoolCall, wants_memory}
 use Rattle.pool_history.specs.Channels.{OpenChannel, present_class}
 use Rattle.pool_history.specs.Crediting.{last_failed}
 use Rattle.pool_history.specs.Jobs.{jobs_of}
@@ -19,8 +22,9 @@ use Rattle.pool_history.specs.Judging.{Admitted, Share, admission, share_of}
 use Rattle.pool_history.specs.Legal.{allowed_flags}
 use Rattle.pool_history.specs.Refusing.{class_for, custom_refusal, grant_refusal, most_enters, nameable, openable, own_channel, template_refusal, tippable, updatable}
 use Rattle.pool_history.specs.Sessions.{Entrance, enters, entrance, grants, past_of, present, rules_of}
+use Rattle.history_laws.proofs.Legalities.{past-append}
 use Rattle.history_laws.proofs.RepliesFit.{found-reply, unless-reply}
-use Rattle.session_limits.specs.Ends.{is_enter, is_full}
+use Rattle.session_limits.specs.Ends.{has_turned_away, is_enter, is_full, is_turned_away}
 use Rattle.session_limits.specs.Laws.{OnlyEntersFindItFull}
 
 -- the reply isn't that the pool is full
@@ -115,3 +119,32 @@ step-full past worker asked (Some rules) is = step_by-full rules past worker ask
 
 pub only_enters : OnlyEntersFindItFull
 only_enters h worker asked events most a = step-full (past_of h) worker asked (rules_of (past_of h)) (ap is_full (sym a.reply_is))
+
+-- who is answered where few have entered isn't turned away
+pub few_entered : (events : List Event) (call : PoolCall) (outcome : Outcome Reply BookError)
+    → IsOutcome Answer wants_memory events call outcome → enters (past_of events) < most_enters → is_turned_away outcome ≡ false
+few_entered events call (Faulted cause) answered few = refl
+few_entered events call (Replied (reply.PoolFull most)) answered few =
+    (let full = (only_enters events call.worker call.asked call.added most answered).1 in absurd (omega (arith, full, few)))
+few_entered events call (Replied _) answered few = refl
+
+enters-more : (newer older : List Event) → enters older ≤ enters (newer ++ older)
+enters-more [] older = omega arith
+enters-more (event.Enter worker role flags ∷ newer) older = (let rest = enters-more newer older in omega (arith, rest))
+enters-more (e ∷ newer) older = enters-more newer older
+
+enters-front : (front rest : List Event) → enters (past_of front) ≤ enters (past_of (front ++ rest))
+enters-front front rest =
+    subst (λ past. enters (past_of front) ≤ enters past) (sym (past-append front rest)) (enters-more (past_of rest) (past_of front))
+
+-- nor is any call that stands in such a history
+pub few_let_in : (history : List Event) (calls : List PoolCall) → GoodPoolCalls history calls → enters (past_of history) < most_enters
+    → has_turned_away calls ≡ false
+few_let_in history [] good few = refl
+few_let_in history (call ∷ calls) good few =
+    let before = good.0.before in
+    let whole : enters (past_of before) ≤ enters (past_of history) =
+    subst (λ h. enters (past_of before) ≤ enters (past_of h)) (sym good.0.stands)
+    (omega (arith, enters-front before call.added, enters-front (before ++ call.added) good.0.after)) in
+    ap (λ b. b || has_turned_away calls) (few_entered before call call.outcome good.0.outcome (omega (arith, whole, few)))
+    ∙ few_let_in history calls good.1 few

@@ -1,4 +1,5 @@
 pub mod Entering
 pub mod Filling
+pub mod Rising
 pub mod Standing
 pub mod Whole

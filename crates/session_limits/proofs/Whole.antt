@@ -1,35 +1,70 @@
 -- Good input ends well where nothing else failed.
-use Rattle.std.proofs.Common.{◌≡◌, ℕ, true, false, List, sym, ◌∙◌, inl, inr}
+use Rattle.std.proofs.Common.{◌≡◌, ℕ, ◌<◌, Bool, true, false, List, Option, Some, refl, subst, inl, inr}
+use Rattle.pool_io.specs.declared.turn.Turn.{Turn}
+use Rattle.pool_io.specs.Outside.{CountsFailure}
+use Rattle.pool_io.specs.Steps.{Bounds, BringsSteps, IsAtLimit, IsFree, ReadStep, steps_of}
+use Rattle.pool_io.proofs.Stepping.{free_of}
+use Rattle.pool_history.specs.declared.events.Role.{Role}
 use Rattle.session_steps.specs.declared.ends.SessionEnd.{SessionEnd}
 use Rattle.session_steps.specs.declared.ends.SessionEnd.TheVariants as end
-use Rattle.session_steps.specs.Steps.{SessionStep}
+use Rattle.session_steps.specs.Steps.{SessionStep, calls_in, turns_in}
+use Rattle.pool_sessions.specs.Causes.{is_read_end, is_write_end}
 use Rattle.pool_sessions.specs.Good.{IsGoodEnd}
 use Rattle.pool_sessions.specs.Running.{has_ended}
 use Rattle.pool_sessions.proofs.Good.{ends_good, left_over, none_left, whole_told}
-use Rattle.session_limits.specs.Ends.{IsUnhindered, IsWellEnded, session_bounds}
+use Rattle.session_limits.specs.Ends.{ComesTo, Failures, HasNoHindrance, IsWellEnded, has_missed, has_turned_away, has_unkept, has_unwritten, session_bounds}
 use Rattle.session_limits.specs.Laws.{GoodInputEndsWell}
+use Rattle.session_limits.proofs.Rising.{CountsThrough, rose_by, unkept_rose}
 use Rattle.session_limits.proofs.Standing.{EndShows, ends_show}
 
+pub neither : (b : Bool) → b ≡ true → b ≡ false → ⊥
+neither true is not = cc
+neither false is not = cc
+
 -- no end but these two is left
-pub ends_well : (idle_turns : ℕ) (xs : List SessionStep) (reason : SessionEnd) → IsGoodEnd reason → EndShows (session_bounds idle_turns) xs reason
-    → IsUnhindered idle_turns xs → IsWellEnded reason
-ends_well idle_turns xs end.Done good shows free = tt
-ends_well idle_turns xs end.Memory good shows free = tt
-ends_well idle_turns xs (end.CutFrame count) good shows free = good
-ends_well idle_turns xs (end.TooLong len) good shows free = good
-ends_well idle_turns xs end.BadSetup good shows free = good
-ends_well idle_turns xs (end.BadMessage kind) good shows free = good
-ends_well idle_turns xs end.IdleOut good shows free = free.within (inl shows)
-ends_well idle_turns xs end.BytesOut good shows free = free.within (inr shows)
-ends_well idle_turns xs end.PoolFull good shows free = (let both : true ≡ false = sym shows ∙ free.let_in in cc)
-ends_well idle_turns xs end.LedgerFault good shows free = (let both : true ≡ false = sym shows ∙ free.kept in cc)
-ends_well idle_turns xs end.ReadFault good shows free = (let both : true ≡ false = sym shows ∙ free.read in cc)
-ends_well idle_turns xs end.WriteFault good shows free = (let both : true ≡ false = sym shows ∙ free.written in cc)
+ends_well : (bounds : Bounds) (xs : List SessionStep) (reason : SessionEnd) → IsGoodEnd reason → EndShows bounds xs reason
+    → (IsAtLimit bounds (turns_in xs) → ⊥) → (has_turned_away (calls_in xs) ≡ true → ⊥) → (has_unkept (calls_in xs) ≡ true → ⊥)
+    → (reason ≡ end.ReadFault → ⊥) → (reason ≡ end.WriteFault → ⊥) → IsWellEnded reason
+ends_well bounds xs end.Done good shows limit away unkept read written = tt
+ends_well bounds xs end.Memory good shows limit away unkept read written = tt
+ends_well bounds xs (end.CutFrame count) good shows limit away unkept read written = good
+ends_well bounds xs (end.TooLong len) good shows limit away unkept read written = good
+ends_well bounds xs end.BadSetup good shows limit away unkept read written = good
+ends_well bounds xs (end.BadMessage kind) good shows limit away unkept read written = good
+ends_well bounds xs end.IdleOut good shows limit away unkept read written = limit (inl shows)
+ends_well bounds xs end.BytesOut good shows limit away unkept read written = limit (inr shows)
+ends_well bounds xs end.PoolFull good shows limit away unkept read written = away shows
+ends_well bounds xs end.LedgerFault good shows limit away unkept read written = unkept shows
+ends_well bounds xs end.ReadFault good shows limit away unkept read written = read refl
+ends_well bounds xs end.WriteFault good shows limit away unkept read written = written refl
 
 pub good_ends_well : GoodInputEndsWell
 good_ends_well worker idle_turns role rolling xs reason told left positive comes brought all input free =
-    ends_well idle_turns xs reason
+    let shows = ends_show worker idle_turns role rolling xs comes.last reason positive comes.follows comes.over in
+    ends_well (session_bounds idle_turns) xs reason
     (ends_good worker idle_turns role rolling comes.last xs reason input.frames (left_over told left xs brought) comes.follows comes.over
     (whole_told told left xs brought input.frames input.whole)
     (λ ended. none_left told left xs brought (has_ended xs) ended all) input.good)
-    (ends_show worker idle_turns role rolling xs comes.last reason positive comes.follows comes.over) free
+    shows free.within (λ away. neither (has_turned_away (calls_in xs)) away free.let_in) (λ unkept. neither (has_unkept (calls_in xs)) unkept free.kept)
+    (λ is. neither (has_missed xs) (subst (EndShows (session_bounds idle_turns) xs) is shows) free.read)
+    (λ is. neither (has_unwritten xs) (subst (EndShows (session_bounds idle_turns) xs) is shows) free.written)
+
+-- what a source brings reaches no limit, so what was taken of it doesn't
+brought_free : (bounds : Bounds) (turns : List Turn) (left : Option (List Turn)) (taken : List ReadStep) → BringsSteps (Some turns) left taken
+    → IsFree bounds (steps_of turns) → IsAtLimit bounds taken → ⊥
+brought_free bounds turns left taken brought free at = free_of bounds (steps_of turns) taken (steps_of brought.0) free brought.2 at
+
+-- the same by the counts that go with a session
+pub unhindered_well : (worker idle_turns : ℕ) (role : Role) (rolling : Bool) (xs : List SessionStep) (reason : SessionEnd) (turns : List Turn) (left : Option (List Turn))
+    (old new : Failures) → 0 < idle_turns → ComesTo worker idle_turns role rolling xs reason → BringsSteps (Some turns) left (turns_in xs)
+    → CountsFailure (is_read_end reason) old.reads new.reads → CountsFailure (is_write_end reason) old.writes new.writes
+    → CountsThrough old.keeper (calls_in xs) new.keeper → has_turned_away (calls_in xs) ≡ false → IsGoodEnd reason
+    → HasNoHindrance idle_turns turns old new → IsWellEnded reason
+unhindered_well worker idle_turns role rolling xs reason turns left old new positive comes brought reads writes counts lets good free =
+    ends_well (session_bounds idle_turns) xs reason good
+    (ends_show worker idle_turns role rolling xs comes.last reason positive comes.follows comes.over)
+    (brought_free (session_bounds idle_turns) turns left (turns_in xs) brought free.within)
+    (λ away. neither (has_turned_away (calls_in xs)) away lets)
+    (λ unkept. free.keeper (unkept_rose old.keeper new.keeper (calls_in xs) counts unkept))
+    (λ is. free.reads (rose_by true old.reads new.reads refl (subst (λ r. CountsFailure (is_read_end r) old.reads new.reads) is reads)))
+    (λ is. free.writes (rose_by true old.writes new.writes refl (subst (λ r. CountsFailure (is_write_end r) old.writes new.writes) is writes)))

@@ -2,7 +2,9 @@
 use Rattle.std.specs.Prelude.{◌≡◌, ℕ, Bool, true, false, Option, None, Some, List, [], ◌∷◌}
 use Rattle.std.specs.List.{AllByRecursion, list_any}
 use Rattle.calls.specs.Calls.{Outcome, Replied, Faulted}
-use Rattle.pool_io.specs.Steps.{Bounds, IsAtLimit}
+use Rattle.pool_base.specs.Counts.{Rose}
+use Rattle.pool_io.specs.declared.turn.Turn.{Turn}
+use Rattle.pool_io.specs.Steps.{Bounds, IsAtLimit, IsFree, steps_of}
 use Rattle.pool_io.specs.declared.sink.SinkFailed.{SinkFailed}
 use Rattle.pool_io.specs.declared.sink.SinkFailed.TheVariants as sink
 use Rattle.pool_history.specs.declared.asking.Request.{Request}
@@ -82,6 +84,19 @@ pub record IsUnhindered (idle_turns : ℕ) (steps : List SessionStep) : Type 0 w
   pub let_in : has_turned_away (calls_in steps) ≡ false
   pub read : has_missed steps ≡ false
   pub written : has_unwritten steps ≡ false
+
+-- how often taking, putting and keeping have failed
+pub record Failures : Type 0 where
+  pub reads : ℕ
+  pub writes : ℕ
+  pub keeper : ℕ
+
+-- no limit is reached by these turns, and no count rose
+pub record HasNoHindrance (idle_turns : ℕ) (turns : List Turn) (old new : Failures) : Type 0 where
+  pub within : IsFree (session_bounds idle_turns) (steps_of turns)
+  pub reads : ¬ Rose old.reads new.reads
+  pub writes : ¬ Rose old.writes new.writes
+  pub keeper : ¬ Rose old.keeper new.keeper
 
 -- all was served, or memory was wanted
 abbrev pub IsWellEnded : SessionEnd → Type 0
