@@ -1,15 +1,20 @@
 -- What a session on a link did, to the link and to the pass that asked for it (this project's own).
-use Rattle.std.specs.Prelude.{◌≡◌, ℕ, Bool, List}
+use Rattle.std.specs.Prelude.{◌≡◌, ℕ, ◌<◌, Bool, List, Some}
+use Rattle.pool_io.specs.declared.turn.Turn.{Turn}
 use Rattle.pool_io.specs.Outside.{AddsBytes, CountsFailure}
 use Rattle.pool_io.specs.Steps.{BringsSteps}
 use Rattle.pool_history.specs.declared.events.Role.{Role}
 use Rattle.pool_history.specs.Calls.{PoolCall}
+use Rattle.pool_history.specs.Refusing.{most_enters}
+use Rattle.pool_history.specs.Sessions.{enters, past_of}
 use Rattle.session_steps.specs.declared.ends.SessionEnd.{SessionEnd}
 use Rattle.session_steps.specs.States.{State, Over, new_state}
 use Rattle.session_steps.specs.Steps.{SessionStep, Follows, bytes_in_steps, calls_in, turns_in}
 use Rattle.pool_sessions.specs.Causes.{is_read_end, is_write_end}
+use Rattle.pool_sessions.specs.Good.{IsGoodInput}
 use Rattle.pool_sessions.specs.Links.{Telling}
 use Rattle.pool_sessions.specs.Running.{TakesAll, has_ended}
+use Rattle.session_limits.specs.Ends.{Failures, HasNoHindrance, IsWellEnded}
 use Rattle.desk_worker.specs.Calling.{AddsCalls, PoolPass, faults_through}
 
 -- a pass, and how many of its calls were answered by the keeper's fault
@@ -67,3 +72,22 @@ pub record ServesLink {L : Type 0} (telling : Telling L) (manner : Manner) (befo
     reason = reason;
   })
   pub asks : AsksByPass old (calls_in steps) new
+
+-- how often the link has failed, and the keeper at calls of the pass
+abbrev pub failures_at : {L : Type 0} → Telling L → L → Asking → Failures
+failures_at telling link asking = record {
+  reads = telling.read_faults link;
+  writes = telling.write_faults link;
+  keeper = asking.faults;
+}
+
+-- good input is served to its end, or memory was wanted, where nothing else failed, no limit was
+-- reached, and fewer than 2^22 sessions have entered in all that the pass has seen
+abbrev pub ServesGoodLink :
+    {L : Type 0} → Telling L → Manner → L → L → Asking → Asking → SessionEnd → Type 0
+ServesGoodLink telling manner before after old new reason =
+    (turns : List Turn) → telling.left before ≡ Some turns
+    → IsGoodInput manner.role manner.rolling turns
+    → HasNoHindrance manner.idle_turns turns (failures_at telling before old)
+    (failures_at telling after new)
+    → enters (past_of new.pass.seen) < most_enters → IsWellEnded reason

@@ -1,5 +1,6 @@
 use Rattle.session_steps.specs.Steps.{calls_in}
 use Rattle.link_session.proofs.Asked.{pass_acts}
+use Rattle.link_session.proofs.Completing.{served_well}
 use Rattle.link_session.proofs.serving.serve_link.Goals as goal
 
 pub returns-clause-pass : goal.returns-clause-pass
@@ -29,3 +30,6 @@ returns-clause-served g c =
         faults = acts.2;
       };
     }
+
+pub returns-clause-complete : goal.returns-clause-complete
+returns-clause-complete g c = served_well c.requires.waits (returns-clause-served g c) c.converse.ensures.good
