@@ -1,9 +1,8 @@
 -- One session of both roles over a book of its own, from its keeper to its end (this project's own).
 use Rattle.std.specs.Prelude.{◌≡◌, ℕ, Option, Some, List, [], ◌∷◌}
-use Rattle.pool_base.specs.Counts.{Rose}
 use Rattle.pool_io.specs.declared.turn.Turn.{Turn}
 use Rattle.pool_io.specs.Outside.{AddsBytes, CountsFailure}
-use Rattle.pool_io.specs.Steps.{BringsSteps, IsFree, steps_of}
+use Rattle.pool_io.specs.Steps.{BringsSteps}
 use Rattle.pool_history.specs.declared.events.Event.{Event}
 use Rattle.pool_history.specs.declared.events.Event.TheVariants as event
 use Rattle.pool_history.specs.declared.events.Role.TheVariants as role
@@ -19,7 +18,7 @@ use Rattle.session_steps.specs.Steps.{SessionStep, Follows, bytes_in_steps, call
 use Rattle.pool_sessions.specs.Causes.{is_read_end, is_write_end}
 use Rattle.pool_sessions.specs.Good.{IsGoodEnd, IsGoodInput}
 use Rattle.pool_sessions.specs.Running.{TakesAll, has_ended}
-use Rattle.session_limits.specs.Ends.{IsWellEnded, session_bounds}
+use Rattle.session_limits.specs.Ends.{Failures, HasNoHindrance, IsWellEnded}
 use Rattle.sole_book.specs.Calling.{StandInTurn, added_in}
 use Rattle.solo_session.specs.declared.serving.SoloEnd.{SoloEnd}
 use Rattle.solo_session.specs.declared.serving.SoloEnd.TheVariants as solo
@@ -99,13 +98,13 @@ IsServedWell (solo.Unbegun fault.KeeperFault) = ⊥
 IsServedWell (solo.Unbegun fault.Memory) = Unit {0}
 IsServedWell (solo.Over reason) = IsWellEnded reason
 
--- no limit is reached by these turns, and no count rose
-pub record HasNoHindrance {S T K : Type 0} (told : Accounts S T K) (idle_turns : ℕ)
-    (old new : Outsides S T K) (turns : List Turn) : Type 0 where
-  pub within : IsFree (session_bounds idle_turns) (steps_of turns)
-  pub reads : ¬ Rose (told.read_faults old.source) (told.read_faults new.source)
-  pub writes : ¬ Rose (told.write_faults old.sink) (told.write_faults new.sink)
-  pub counts : ¬ Rose (told.keeper_faults old.keeper) (told.keeper_faults new.keeper)
+-- how often they have failed
+abbrev pub failures_of : {S T K : Type 0} → Accounts S T K → Outsides S T K → Failures
+failures_of told outsides = record {
+  reads = told.read_faults outsides.source;
+  writes = told.write_faults outsides.sink;
+  keeper = told.keeper_faults outsides.keeper;
+}
 
 -- good input is served to its end, or memory was wanted, where nothing else failed and no limit was
 -- reached
@@ -114,7 +113,8 @@ abbrev pub ServesGoodInput :
 ServesGoodInput told rules idle_turns old new end =
     (turns : List Turn) → told.left old.source ≡ Some turns
     → IsGoodInput role.Solo rules.version_rolling turns
-    → HasNoHindrance told idle_turns old new turns → IsServedWell end
+    → HasNoHindrance idle_turns turns (failures_of told old) (failures_of told new)
+    → IsServedWell end
 
 -- the input isn't to blame
 abbrev pub BlamesNoInput : SoloEnd → Type 0

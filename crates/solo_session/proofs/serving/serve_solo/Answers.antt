@@ -18,7 +18,7 @@ pub returns-in-Err-clause-good : goal.returns-in-Err-clause-good
 returns-in-Err-clause-good g c = λ told is input. tt
 
 pub returns-in-Err-clause-complete : goal.returns-in-Err-clause-complete
-returns-in-Err-clause-complete g c = λ turns is input free. unbegun_well c.in-Err.cause (g.K.Keeper.faults c.args.keeper) (g.K.Keeper.faults c.in-Err.keeper) c.in-Err.ensures.fault free.counts
+returns-in-Err-clause-complete g c = λ turns is input free. unbegun_well c.in-Err.cause (g.K.Keeper.faults c.args.keeper) (g.K.Keeper.faults c.in-Err.keeper) c.in-Err.ensures.fault free.keeper
 
 pub returns-clause-served : goal.returns-clause-served
 returns-clause-served g c =
