@@ -11,7 +11,7 @@ use Rattle.pool_network.specs.Networks.{GivesNext, NetworkView, calls_after, rea
 use Rattle.serve_command.specs.Serving.{GivesBoth, HasNoDoors, Places, call_for_doors}
 
 -- what was given comes back behind the others, and as many are out as before
-came_back : {T : Type 0} (old new : Lending T) (item : T) → new ≡ with_back (lent_one old) item → CameBack old new item
+pub came_back : {T : Type 0} (old new : Lending T) (item : T) → new ≡ with_back (lent_one old) item → CameBack old new item
 came_back {T} old new item is = record {
   lent = ap (λ (s : Lending T). s.lent) is ∙ (omega arith);
   back = ap (λ (s : Lending T). s.back) is;

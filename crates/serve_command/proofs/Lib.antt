@@ -1,2 +1,3 @@
+pub mod Failing
 pub mod Given
-pub mod Unfailed
+pub mod Reasons

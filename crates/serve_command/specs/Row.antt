@@ -1,32 +1,37 @@
 -- What `serve SETTINGS LEDGER` owes at each status (this project's own).
-use Rattle.std.specs.Prelude.{ℕ, ◌≡◌, ◌⊎◌, List, [], ◌∷◌, Result, Ok, Err}
+use Rattle.std.specs.Prelude.{ℕ, ◌<◌, ◌≡◌, ◌⊎◌, List, [], ◌∷◌, Option, None, Some, Result, Ok, Err}
+use Rattle.pool_base.specs.Counts.{Rose}
 use Rattle.pool_io.specs.declared.host.HostError.{HostError}
 use Rattle.pool_io.specs.declared.opening.Opening.TheVariants as opening
-use Rattle.pool_io.specs.Lending.{nothing_left}
+use Rattle.pool_io.specs.declared.turn.Turn.{Turn}
+use Rattle.pool_io.specs.Lending.{Lending, nothing_left}
 use Rattle.pool_io.specs.Openings.{openings_after, openings_and}
 use Rattle.pool_io.specs.Outside.{CountsFailure, is_failed_gift}
+use Rattle.pool_io.specs.Steps.{bytes_in, steps_of}
 use Rattle.pool_history.specs.declared.events.Event.TheVariants as event
 use Rattle.pool_history.specs.declared.refusals.BookError.{BookError}
 use Rattle.pool_history.specs.Calls.{blames_keeper}
-use Rattle.pool_network.specs.Networks.{NetworkView}
+use Rattle.pool_network.specs.Networks.{GivesNext, NetworkView}
 use Rattle.pool_settings.specs.declared.settings.Settings.{Settings}
+use Rattle.pool_settings.specs.Reading.{AreSettings}
 use Rattle.pool_turns.specs.Rows.{CameBack}
 use Rattle.pool_turns.specs.Statuses.{status_of_refusal}
 use Rattle.pool_turns.specs.declared.status.Status.{Status}
 use Rattle.pool_turns.specs.declared.status.Status.TheVariants as status
-use Rattle.settings_file.specs.Opened.{OpensSettings, status_of_no_settings}
+use Rattle.settings_file.specs.Opened.{OpensSettings, most_settings_bytes, status_of_no_settings}
 use Rattle.settings_file.specs.Views.{HostView}
 use Rattle.settings_file.specs.declared.opening.NoSettings.{NoSettings}
 use Rattle.share_ledger.specs.Books.{BookSeen, KeepsInstead}
 use Rattle.solo_command.specs.Row.{IsKeeperGiven, IsRefusedKeeper, with_keeper_back}
 use Rattle.solo_session.specs.Solo.{Accounts}
 use Rattle.text_output.specs.Putting.{PutsText}
+use Rattle.whole_input.specs.Reading.{IsWhole}
 use Rattle.door_worker.specs.Shifts.{DoorTelling}
 use Rattle.pool_server.specs.Parts.{Service, service_of}
 use Rattle.pool_server.specs.Serving.{KeeperTelling}
 use Rattle.serve_command.specs.declared.serving.Reached.{Reached}
 use Rattle.serve_command.specs.declared.serving.Reached.TheVariants as reached
-use Rattle.serve_command.specs.Serving.{Places, ServesOnNetwork}
+use Rattle.serve_command.specs.Serving.{Places, ServesOnNetwork, SomeDoorFailed}
 use Rattle.serve_command.specs.Statuses.{status_of_served, status_of_start}
 use Rattle.serve_command.specs.Words.{report_text}
 
@@ -153,13 +158,68 @@ ServesAfterSettings told telling ledger (Ok settings) old new status =
 ServesAfterSettings told telling ledger (Err no_settings) old new status =
     (new ≡ old) × (status ≡ status_of_no_settings no_settings)
 
--- the row of `serve SETTINGS LEDGER`: the settings file is read and handed back, then a keeper, a
--- link to the feed and doors are asked for, up to what is refused; when all sessions are over, the
--- output is asked for
-abbrev pub ServeRow : {S T K D L : Type 0} → Accounts S T K → DoorTelling D L → List ℕ → List ℕ
+-- the settings file is read and handed back, then a keeper, a link to the feed and doors are asked
+-- for, up to what is refused; when all sessions are over, the output is asked for
+abbrev pub ServesByNames : {S T K D L : Type 0} → Accounts S T K → DoorTelling D L → List ℕ → List ℕ
     → WorldView S T K L D → WorldView S T K L D → Status → Type 0
-ServeRow {S} {T} {K} told telling settings_name ledger_name old new status =
+ServesByNames {S} {T} {K} told telling settings_name ledger_name old new status =
     (answer : Result Settings NoSettings) × (read : HostView S T K)
     × OpensSettings told.left told.read_faults settings_name old.host read answer
     × ServesAfterSettings told telling ledger_name answer (record { host = read; network = old.network })
     new status
+
+-- one that came back between has failed
+abbrev pub HasFailedItem : {A : Type 0} → (A → ℕ) → Lending A → Lending A → Type 0
+HasFailedItem {A} faults old new = (item : A) × CameBack old new item × (0 < faults item)
+
+-- the doors that were given came back, and one of them has failed
+pub record HasFailedDoor {D L : Type 0} (telling : DoorTelling D L) (old new : NetworkView L D) :
+    Type 0 where
+  pub doors : List D
+  pub doors_back : List D
+  pub opened : GivesNext old.to_open new.to_open doors
+  pub lists : CameBack old.doors new.doors doors_back
+  pub failed : SomeDoorFailed telling.faults doors doors_back
+
+-- what failed where there were settings: nothing, or memory was wanted; a put of the report; the
+-- keeper; or the host, the network or a door
+abbrev pub HasFailure : {S T K D L : Type 0} → Accounts S T K → DoorTelling D L
+    → WorldView S T K L D → WorldView S T K L D → Status → Type 0
+HasFailure told telling old new status.Done = Unit {0}
+HasFailure told telling old new status.Memory = Unit {0}
+HasFailure told telling old new status.WriteFault =
+    HasFailedItem told.write_faults old.host.seen.sinks new.host.seen.sinks
+HasFailure told telling old new status.KeeperFault =
+    HasFailedItem told.keeper_faults old.host.openings.keepers new.host.openings.keepers
+HasFailure told telling old new status.HostFault =
+    Rose old.host.seen.faults new.host.seen.faults ⊎ Rose old.network.faults new.network.faults
+    ⊎ HasFailedDoor telling old.network new.network
+HasFailure told telling old new _ = ⊥
+
+-- the file is told, comes to its End within the limits, and is settings
+abbrev pub BringsSettings : Option (List Turn) → Type 0
+BringsSettings None = ⊥
+BringsSettings (Some turns) =
+    (settings : Settings) × IsWhole most_settings_bytes (steps_of turns)
+    × AreSettings (bytes_in (steps_of turns)) settings
+
+-- where each status comes from: 9 and 10 from the settings file, 4 from a read of it that failed,
+-- and 5, 6 and 7 from another failure. So with a file that brings settings, and with no count risen,
+-- the status is 0 or 8.
+abbrev pub HasReason : {S T K D L : Type 0} → Accounts S T K → DoorTelling D L → List ℕ
+    → WorldView S T K L D → WorldView S T K L D → Status → Type 0
+HasReason told telling settings_name old new status.BadSettings =
+    BringsSettings (old.host.openings.brings settings_name) → ⊥
+HasReason told telling settings_name old new status.Limit =
+    BringsSettings (old.host.openings.brings settings_name) → ⊥
+HasReason told telling settings_name old new status.ReadFault =
+    HasFailedItem told.read_faults old.host.seen.sources new.host.seen.sources
+HasReason told telling settings_name old new status = HasFailure told telling old new status
+
+-- the row of `serve SETTINGS LEDGER`
+pub record ServeRow {S T K D L : Type 0} (told : Accounts S T K) (telling : DoorTelling D L)
+    (settings_name ledger_name : List ℕ) (old new : WorldView S T K L D) (status : Status) : Type 0
+  where
+    pub serves : ServesByNames told telling settings_name ledger_name old new status
+    -- whatever the sessions send
+    pub complete : HasReason told telling settings_name old new status

@@ -1,5 +1,5 @@
 -- What was done on a network (this project's own).
-use Rattle.std.specs.Prelude.{◌≡◌, ◌⊎◌, ℕ, List, [], ◌∷◌, Option, Ok, Err, length}
+use Rattle.std.specs.Prelude.{◌≡◌, ◌⊎◌, ℕ, ◌<◌, List, [], ◌∷◌, Option, Ok, Err, length}
 use Rattle.pool_base.specs.Counts.{Rose}
 use Rattle.pool_io.specs.declared.host.HostError.{HostError}
 use Rattle.pool_io.specs.declared.host.HostError.TheVariants as host
@@ -43,12 +43,12 @@ pub record GivesBoth {D L : Type 0} (places : Places) (old new : NetworkView L D
   pub faults : new.faults ≡ old.faults
   pub calls : new.calls ≡ calls_for_both places old.calls
 
--- none of these doors' counts rose
-abbrev pub NoDoorFailed : {D : Type 0} → (D → ℕ) → List D → List D → Type 0
-NoDoorFailed faults [] news = Unit {0}
-NoDoorFailed faults (old ∷ olds) [] = Unit {0}
-NoDoorFailed faults (old ∷ olds) (new ∷ news) =
-    ¬ Rose (faults old) (faults new) × NoDoorFailed faults olds news
+-- the count of one of these doors rose
+abbrev pub SomeDoorFailed : {D : Type 0} → (D → ℕ) → List D → List D → Type 0
+SomeDoorFailed faults [] news = ⊥
+SomeDoorFailed faults (old ∷ olds) [] = ⊥
+SomeDoorFailed faults (old ∷ olds) (new ∷ news) =
+    Rose (faults old) (faults new) ⊎ SomeDoorFailed faults olds news
 
 -- The feed's link was served by the first worker, and each door by a later one, all on one book.
 pub record ServedOnNetwork {K D L : Type 0} (service : Service D L) (keeper : KeeperTelling K)
@@ -63,9 +63,9 @@ pub record ServedOnNetwork {K D L : Type 0} (service : Service D L) (keeper : Ke
       (record { book = ended; doors = doors_back; feed = link_back }) reason ledger_faults
       door_faults door_memory
   -- a fault of the keeper is counted only where its count rose, and one of doors only where one's did
-  pub keeper_unfailed : ¬ Rose (keeper.faults begun.keeper) (keeper.faults ended.keeper)
-      → ledger_faults ≡ 0
-  pub doors_unfailed : NoDoorFailed service.door.faults doors doors_back → door_faults ≡ 0
+  pub keeper_failed : 0 < ledger_faults
+      → Rose (keeper.faults begun.keeper) (keeper.faults ended.keeper)
+  pub doors_failed : 0 < door_faults → SomeDoorFailed service.door.faults doors doors_back
 
 -- the network gave no link: nothing else changed
 pub record HasNoLink {D L : Type 0} (places : Places) (old new : NetworkView L D)

@@ -2,7 +2,7 @@ use Rattle.std.proofs.Common.{arith, inl, inr, refl}
 use Rattle.std.specs.Global.{Vec}
 use Rattle.serve_command.specs.Serving.{Places}
 use Rattle.serve_command.proofs.Given.{gives_both, has_no_doors}
-use Rattle.serve_command.proofs.Unfailed.{doors_unfailed, keeper_unfailed}
+use Rattle.serve_command.proofs.Failing.{doors_failed, keeper_failed}
 use Rattle.serve_command.proofs.serving.serve_on_network.Goals as goal
 
 pub returns-in-Err-open_doors-clause-served : goal.returns-in-Err-open_doors-clause-served
@@ -37,8 +37,8 @@ returns-in-Ran-clause-served g c =
           c.in-Ran.doors.items c.in-Ok-open_doors.ensures.given (omega (arith, c.in-Ok-open_doors.doors.ok.0, c.in-Ok-open_doors.ensures.as_many)) c.in-Ok-open_doors.ensures.lent
           c.in-Ok-open_doors.ensures.stays c.in-Ok-open_doors.ensures.called c.done_doors.ensures.back c.done_link-in-Ran.ensures.back;
       ran = c.in-Ran.ensures;
-      keeper_unfailed = keeper_unfailed _ _ _ _ _ _ _ _ c.in-Ran.ensures;
-      doors_unfailed = doors_unfailed _ _ _ _ _ _ _ _ c.in-Ran.ensures;
+      keeper_failed = keeper_failed _ _ _ _ _ _ _ _ c.in-Ran.ensures;
+      doors_failed = doors_failed _ _ _ _ _ _ _ _ c.in-Ran.ensures;
     }
 
 pub returns-in-Memory-clause-served : goal.returns-in-Memory-clause-served
