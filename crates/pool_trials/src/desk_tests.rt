@@ -40,7 +40,10 @@ const SUMMARY: &[u8] =
     b"sessions 2\nevents 507\ncredits 500\nblocks 500\npool 5000\naccount a 500 495000\n";
 
 /// A desk for two, with its passes.
-fn opened<M: Machine + Drop>(alloc: Global, machine: M) -> Option<(Desk<M>, Pass<M>, Pass<M>)>
+pub(crate) fn opened<M: Machine + Drop>(
+    alloc: Global,
+    machine: M,
+) -> Option<(Desk<M>, Pass<M>, Pass<M>)>
     ensures { IfSome result (λ opened. (opened.1.table ≡ opened.0.table)
         × (opened.2.table ≡ opened.0.table)) }
 {
@@ -62,7 +65,7 @@ fn opened<M: Machine + Drop>(alloc: Global, machine: M) -> Option<(Desk<M>, Pass
 }
 
 /// Closes a desk by these two passes, and gives the machine.
-fn closed<M: Machine + Drop>(
+pub(crate) fn closed<M: Machine + Drop>(
     alloc: Global,
     desk: Desk<M>,
     first: Pass<M>,

@@ -10,6 +10,8 @@ mod asking;
 #[cfg(test)]
 mod desk_tests;
 #[cfg(test)]
+mod ends_tests;
+#[cfg(test)]
 mod examples;
 #[cfg(test)]
 mod polls_tests;
