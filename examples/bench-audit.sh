@@ -1,6 +1,7 @@
 #!/bin/sh
 # Records a second that `audit` reads, judges and hashes of ledgers of 2^12 and of 2^18 credits, and the bytes that it
-# holds a credit. Beside them the double hashes of as many coinbases and headers alone. All in one run on one machine.
+# holds a credit. Beside them the double hashes of as many coinbases and headers alone. All in one run on one machine,
+# by the processor time of each program.
 set -eu
 cd "$(dirname "$0")/.."
 few=${1:-4096}
@@ -42,25 +43,28 @@ def ledger(count):
             file.write(record + before)
     return path
 
-def audited(path, count):
-    """How long the command took, and the most memory that it was seen to have, in bytes."""
-    memory = 0
-    start = time.monotonic()
-    program = subprocess.Popen(["crates/pool_cli/out/pool_cli", "audit", path], stdout=subprocess.PIPE)
-    while program.poll() is None:
+def run(words):
+    """What a program prints, the processor time that it takes, and the most memory that it was seen to have, in bytes."""
+    program = subprocess.Popen(words, stdout=subprocess.PIPE)
+    memory = ended = 0
+    while not ended:
         with open(f"/proc/{program.pid}/status") as lines:
             memory = max([memory] + [1024 * int(line.split()[1]) for line in lines if line.startswith("VmHWM:")])
         time.sleep(0.001)
-    end = time.monotonic()
-    text = program.stdout.read().decode()
-    assert program.returncode == 0 and text.startswith(f"legal\nsessions 1\nevents {count + 5}\ncredits {count}\n"), text
-    return end - start, memory
+        ended, status, usage = os.wait4(program.pid, os.WNOHANG)
+    program.returncode = os.waitstatus_to_exitcode(status)
+    assert program.returncode == 0
+    return program.stdout.read().decode(), usage.ru_utime + usage.ru_stime, memory
+
+def audited(path, count):
+    """How long the command took, and the most memory that it was seen to have, in bytes."""
+    text, seconds, memory = run(["crates/pool_cli/out/pool_cli", "audit", path])
+    assert text.startswith(f"legal\nsessions 1\nevents {count + 5}\ncredits {count}\n"), text
+    return seconds, memory
 
 def hashed(count):
     """How long the double hashes of as many coinbases and headers took."""
-    start = time.monotonic()
-    subprocess.run(["crates/bench/out/bench", "shares", "0", str(count)], stdout=subprocess.DEVNULL, check=True)
-    return time.monotonic() - start
+    return run(["crates/bench/out/bench", "shares", "0", str(count)])[1]
 
 at_few, at_many = ledger(few), ledger(many)
 # Each is timed five times, in turns, and the least time counts; of the few many runs at once, so that what it takes
