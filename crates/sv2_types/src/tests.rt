@@ -192,7 +192,7 @@ fn each_type_reads_its_least_and_greatest_spelling(rt: HostRuntime) -> Result<()
 }
 
 /// As many byte strings as can be, each empty. Reading them goes through their lengths, so cutting
-/// the spelling at each byte is shared among three tests.
+/// the spelling at each byte is shared among five tests.
 fn most_strings(alloc: Global) -> Result<Vec<u8>, Fail> {
     behind(alloc, b"\xff\xff", 0, 65_535 * 3)
 }
@@ -210,17 +210,31 @@ fn the_most_strings_are_read_whole_and_short_in_the_first_half(
 }
 
 #[test]
-fn the_most_strings_are_short_in_the_third_quarter(rt: HostRuntime) -> Result<(), Fail> {
+fn the_most_strings_are_short_in_the_fifth_eighth(rt: HostRuntime) -> Result<(), Fail> {
     let spelled = most_strings(rt.alloc())?;
-    is_short(&rt, Field::SeqBytes, spelled.as_slice(), 98_304, 147_456);
+    is_short(&rt, Field::SeqBytes, spelled.as_slice(), 98_304, 122_880);
     Ok(())
 }
 
 #[test]
-fn the_most_strings_are_short_in_the_last_quarter(rt: HostRuntime) -> Result<(), Fail> {
+fn the_most_strings_are_short_in_the_sixth_eighth(rt: HostRuntime) -> Result<(), Fail> {
+    let spelled = most_strings(rt.alloc())?;
+    is_short(&rt, Field::SeqBytes, spelled.as_slice(), 122_880, 147_456);
+    Ok(())
+}
+
+#[test]
+fn the_most_strings_are_short_in_the_seventh_eighth(rt: HostRuntime) -> Result<(), Fail> {
+    let spelled = most_strings(rt.alloc())?;
+    is_short(&rt, Field::SeqBytes, spelled.as_slice(), 147_456, 172_032);
+    Ok(())
+}
+
+#[test]
+fn the_most_strings_are_short_in_the_last_eighth(rt: HostRuntime) -> Result<(), Fail> {
     let spelled = most_strings(rt.alloc())?;
     let spelled = spelled.as_slice();
-    is_short(&rt, Field::SeqBytes, spelled, 147_456, spelled.len());
+    is_short(&rt, Field::SeqBytes, spelled, 172_032, spelled.len());
     Ok(())
 }
 
