@@ -61,18 +61,6 @@ pub record AsksByPass (old : Asking) (calls : List PoolCall) (new : Asking) : Ty
   pub goes_on : AddsCalls old.pass calls new.pass
   pub faults : new.faults ≡ faults_through old.faults calls
 
--- a session on the link, whose calls are those that the pass made
-pub record ServesLink {L : Type 0} (telling : Telling L) (manner : Manner) (before after : L)
-    (old new : Asking) (reason : SessionEnd) : Type 0 where
-  pub steps : List SessionStep
-  pub visit : IsVisit telling manner old.pass.worker (record {
-    before = before;
-    after = after;
-    steps = steps;
-    reason = reason;
-  })
-  pub asks : AsksByPass old (calls_in steps) new
-
 -- how often the link has failed, and the keeper at calls of the pass
 abbrev pub failures_at : {L : Type 0} → Telling L → L → Asking → Failures
 failures_at telling link asking = record {
@@ -91,3 +79,16 @@ ServesGoodLink telling manner before after old new reason =
     → HasNoHindrance manner.idle_turns turns (failures_at telling before old)
     (failures_at telling after new)
     → enters (past_of new.pass.seen) < most_enters → IsWellEnded reason
+
+-- a session on the link, whose calls are those that the pass made; good input is served well
+pub record ServesLink {L : Type 0} (telling : Telling L) (manner : Manner) (before after : L)
+    (old new : Asking) (reason : SessionEnd) : Type 0 where
+  pub steps : List SessionStep
+  pub visit : IsVisit telling manner old.pass.worker (record {
+    before = before;
+    after = after;
+    steps = steps;
+    reason = reason;
+  })
+  pub asks : AsksByPass old (calls_in steps) new
+  pub complete : ServesGoodLink telling manner before after old new reason

@@ -3,7 +3,7 @@
 ghost use Rattle.std.specs.Prelude.{◌≡◌, ◌<◌, List, Some};
 ghost use Rattle.pool_io.specs.declared.turn.Turn.{Turn};
 ghost use Rattle.pool_sessions.specs.Good.{IsGoodEnd, IsGoodInput};
-ghost use Rattle.link_session.specs.Visits.{ServesGoodLink, ServesLink};
+ghost use Rattle.link_session.specs.Visits.{ServesLink};
 
 use desk_worker::{DeskWorker, desk_calls_go_on};
 use pool_core::SessionEnd;
@@ -39,16 +39,6 @@ pub fn serve_link<R: Wait, K: Keeper, L: Link>(
     // Input that is to blame for nothing isn't blamed.
     ensures good { (told : List Turn) → L.left link.old ≡ Some told
         → IsGoodInput role rolling told → IsGoodEnd result }
-
-    // And it is served to its end where nothing else fails and the pool isn't full.
-    ensures complete { ServesGoodLink (record {
-      left = L.left;
-      held = L.held;
-      read_faults = L.read_faults;
-      write_faults = L.write_faults;
-    }) (record { role = role; rolling = rolling; idle_turns = limits.idle_turns }) link.old link.new
-        (record { pass = asker.old.pass.now; faults = asker.old.faults })
-        (record { pass = asker.new.pass.now; faults = asker.new.faults }) result }
 {
     desk_calls_go_on();
     converse(alloc, link, asker, role, rolling, limits)

@@ -22,7 +22,7 @@ use Rattle.ledger_audit.specs.declared.format.Format.TheVariants.{Plain, Chained
 use Rattle.ledger_audit.specs.Units.{hash_len}
 use Rattle.ledger_audit.specs.Verdicts.{BeginsLegal}
 use Rattle.migrate_command.specs.Copying.{AddsRecords, AreLedgerOf, AreRecordsOf, KeepsAll, KeepsAnew, KeepsFront, KeepsRecords, records_text}
-use Rattle.migrate_command.specs.Cutting.{IsCutOff, ComesApart, IsWholeRecord}
+use Rattle.migrate_command.specs.Cutting.{IsCutOff, IsWholeRecord, SplitsMagic}
 
 -- the pieces that are kept of a history: none of one without events
 abbrev pub records_so_far : List Event → List (List ℕ)
@@ -221,7 +221,7 @@ whole_record format bytes one behind hash len said short hash_is whole front bac
 }
 
 -- what is behind the first eight bytes, where there are so many
-pub split_chained : (bytes magic records : List ℕ) (n : ℕ) → magic ≡ take n bytes → records ≡ drop n bytes → magic ≡ magic_2 → ComesApart Chained bytes records
+pub split_chained : (bytes magic records : List ℕ) (n : ℕ) → magic ≡ take n bytes → records ≡ drop n bytes → magic ≡ magic_2 → SplitsMagic Chained bytes records
 split_chained bytes magic records n front back is = sym (take-append-drop n bytes) ∙ ap (λ m. m ++ drop n bytes) (sym front ∙ is) ∙ ap (λ r. magic_2 ++ r) (sym back)
 
 drop_more : (bytes : List ℕ) (n : ℕ) → n ≡ min 8 (length bytes) → drop n bytes ≡ drop 8 bytes
@@ -231,7 +231,7 @@ drop_more bytes n is = by_length (cases_lt (length bytes) 8) where
   by_length (inr many) = let all : n ≡ 8 = omega (arith, is, many) in ap (λ m. drop m bytes) all
 
 pub split_plain : (bytes magic records : List ℕ) (n : ℕ) → n ≡ min 8 (length bytes) → magic ≡ take n bytes → records ≡ drop n bytes → (magic ≡ magic_2 → ⊥)
-    → ComesApart Plain bytes records
+    → SplitsMagic Plain bytes records
 split_plain bytes magic records n at front back other = (
   λ rest is. (let all : n ≡ 8 = omega (arith, at, ap length is, length-append magic_2 rest) in other (front ∙ ap (take n) is ∙ ap (λ m. take m (magic_2 ++ rest)) all)),
   back ∙ drop_more bytes n at,
@@ -242,10 +242,10 @@ pub record HasRecordsText (format : Format) (history : List Event) (records : Li
   pub each : AllCanBeKept history
   pub text : records ≡ records_text format (sha256 magic_2) history
 
-pub split_ledger : (format : Format) (history : List Event) (bytes records : List ℕ) → AreLedgerOf history bytes → ComesApart format bytes records
+pub split_ledger : (format : Format) (history : List Event) (bytes records : List ℕ) → AreLedgerOf history bytes → SplitsMagic format bytes records
     → HasRecordsText format history records
 split_ledger format history bytes records ledger split = by_formats ledger.format format ledger.whole split where
-  by_formats : (f g : Format) → BeginsLegal f history bytes [] → ComesApart g bytes records → HasRecordsText g history records
+  by_formats : (f g : Format) → BeginsLegal f history bytes [] → SplitsMagic g bytes records → HasRecordsText g history records
   by_formats Plain Plain whole split = record {
     each = whole.kept.has_ledger;
     text = split.1 ∙ ap (drop 8) (whole.text ∙ append-nil (ledger_text_1 history));
@@ -268,7 +268,7 @@ none_text Plain before = refl
 none_text Chained before = refl
 
 -- a ledger without records is that of no event
-pub keeps_magic : (format : Format) (bytes records appended : List ℕ) (old new : Option (List (List ℕ))) → ComesApart format bytes records → records ≡ []
+pub keeps_magic : (format : Format) (bytes records appended : List ℕ) (old new : Option (List (List ℕ))) → SplitsMagic format bytes records → records ≡ []
     → appended ≡ magic_2 → AddsRecord old new appended → (history : List Event) → AreLedgerOf history bytes → KeepsAll history old new 0
 keeps_magic format bytes records appended old new split none is adds [] ledger = record {
   counted = refl;
@@ -278,7 +278,7 @@ keeps_magic format bytes records appended old new split none is adds (e ∷ hist
     absurd (some_text format (sha256 magic_2) e history (sym (split_ledger format (e ∷ history) bytes records ledger split).text ∙ none))
 
 -- and one with records is that of some
-pub keeps_ledger : (format : Format) (bytes records : List ℕ) (old new : Option (List (List ℕ))) (result : Result ℕ KeeperFailed) → ComesApart format bytes records
+pub keeps_ledger : (format : Format) (bytes records : List ℕ) (old new : Option (List (List ℕ))) (result : Result ℕ KeeperFailed) → SplitsMagic format bytes records
     → (records ≡ [] → ⊥) → KeepsRecords format records old new result → KeepsAnew bytes old new result
 keeps_ledger format bytes records old new (Ok count) split some kept = of where
   of : (history : List Event) → AreLedgerOf history bytes → KeepsAll history old new count

@@ -20,7 +20,7 @@ IsCutOff format bytes = (length bytes < 4) ⊎ (300000 < said_body_len bytes)
     ⊎ (length bytes < unit_len format bytes)
 
 -- the magic of format 2 and what is behind it; or there is none, and this is behind eight bytes
-abbrev pub ComesApart : Format → List ℕ → List ℕ → Type 0
-ComesApart Chained bytes records = bytes ≡ magic_2 ++ records
-ComesApart Plain bytes records =
+abbrev pub SplitsMagic : Format → List ℕ → List ℕ → Type 0
+SplitsMagic Chained bytes records = bytes ≡ magic_2 ++ records
+SplitsMagic Plain bytes records =
     ((rest : List ℕ) → bytes ≢ magic_2 ++ rest) × (records ≡ drop 8 bytes)

@@ -4,7 +4,7 @@ ghost use Rattle.std.specs.Prelude.{◌≡◌, ◌↔◌, ◌+◌, ◌≤◌, �
 ghost use Rattle.pool_io.specs.Outside.{AddsRecord, CountsFailure, is_failed_append};
 ghost use Rattle.pool_history.specs.Ledger as ledger;
 ghost use Rattle.migrate_command.specs.Copying.{KeepsAnew, KeepsRecords};
-ghost use Rattle.migrate_command.specs.Cutting.{IsCutOff, ComesApart, IsWholeRecord};
+ghost use Rattle.migrate_command.specs.Cutting.{IsCutOff, IsWholeRecord, SplitsMagic};
 
 use ledger_audit::{BODY_LIMIT, Format, HEAD_LEN, body_len};
 use ledger_records::{MAGIC, chain, magic_hash};
@@ -32,7 +32,7 @@ pub fn append_ledger<K: Keeper>(
 
 /// The format of a ledger, and what stands behind its magic.
 fn split_magic(bytes: &[u8]) -> (Format, &[u8])
-    ensures { ComesApart result.0 bytes.now result.1.now }
+    ensures { SplitsMagic result.0 bytes.now result.1.now }
 {
     let (magic, records) = bytes.split_at(MAGIC.len().min(bytes.len()));
     if is_magic(magic) {

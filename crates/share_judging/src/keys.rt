@@ -11,7 +11,7 @@ use std::hash::{Hash, Hasher};
 use std::marker::Model;
 
 /// A header that is hashed in one write. An array's own hash takes one for each of its bytes, which
-/// costs about as much as a block of SHA-256. Contracts see the bytes.
+/// costs nearly half a block of SHA-256. Contracts see the bytes.
 #[derive(Drop)]
 pub(crate) struct HeaderKey {
     bytes: [u8; 80],

@@ -18,7 +18,7 @@ use Rattle.settings_file.specs.declared.opening.NoSettings.{NoSettings}
 use Rattle.share_ledger.specs.Books.{IsUnused}
 use Rattle.solo_command.specs.Statuses.{status_of_solo}
 use Rattle.solo_session.specs.declared.serving.SoloEnd.{SoloEnd}
-use Rattle.solo_session.specs.Solo.{Accounts, BlamesNoInput, IsServed, Outsides, ServesGoodInput}
+use Rattle.solo_session.specs.Solo.{Accounts, BlamesNoInput, Outsides, ServesSession}
 
 -- what a host's sources, sinks and keepers tell, and how often they failed
 abbrev pub accounts_of : {S T K : Type 0} → (S → Option (List Turn)) → (T → Option (List ℕ))
@@ -60,13 +60,11 @@ pub record ServedOnHost {S T K : Type 0} (told : Accounts S T K) (settings : Set
   pub sink_given : told.held given.sink ≡ old.seen.output
   pub unread : told.read_faults given.source ≡ 0
   pub unwritten : told.write_faults given.sink ≡ 0
-  -- what the session did, by its end
-  pub served : IsServed told settings.rules settings.limits.idle_turns given back end
+  -- what the session did, by its end, and that good input was served to its end where nothing failed
+  pub served : ServesSession told settings.rules settings.limits.idle_turns given back end
   -- input that is to blame for nothing isn't blamed
   pub good : (turns : List Turn) → told.left given.source ≡ Some turns
       → IsGoodInput role.Solo settings.rules.version_rolling turns → BlamesNoInput end
-  -- and it is served to its end where nothing else failed
-  pub complete : ServesGoodInput told settings.rules settings.limits.idle_turns given back end
   pub sources : CameBack old.seen.sources new.seen.sources back.source
   pub sinks : CameBack old.seen.sinks new.seen.sinks back.sink
   pub input : new.seen.input ≡ nothing_left old.seen.input

@@ -24,7 +24,7 @@ use Rattle.session_limits.proofs.Filling.{few_entered, only_enters}
 use Rattle.session_limits.proofs.Rising.{CountsThrough, rose_by}
 use Rattle.session_limits.proofs.Whole.{neither, unhindered_well}
 use Rattle.sole_book.specs.Calling.{StandInTurn}
-use Rattle.solo_session.specs.Solo.{Accounts, CountsCalls, IsServedWell, IsSoloSession, Outsides, ServesGoodInput, failures_of, sole_worker}
+use Rattle.solo_session.specs.Solo.{Accounts, CountsCalls, IsServedWell, IsSoloSession, Outsides, ServesGoodInput, ServesSession, failures_of, sole_worker}
 use Rattle.solo_session.specs.declared.serving.SoloEnd.TheVariants as solo
 
 -- the counts round the calls go through them
@@ -59,7 +59,7 @@ unbegun_well fault.KeeperFault before now counts none = none (rose_by true befor
 unbegun_well fault.Memory before now counts none = tt
 
 -- a session that began
-pub over_well : {S T K : Type 0} {told : Accounts S T K} {rules : Rules} {idle_turns : ℕ} {old new : Outsides S T K} {reason : SessionEnd} → 0 < idle_turns
+over_well : {S T K : Type 0} {told : Accounts S T K} {rules : Rules} {idle_turns : ℕ} {old new : Outsides S T K} {reason : SessionEnd} → 0 < idle_turns
     → IsSoloSession told rules idle_turns old new reason
     → ((turns : List Turn) → told.left old.source ≡ Some turns → IsGoodInput role.Solo rules.version_rolling turns → IsGoodEnd reason)
     → ServesGoodInput told rules idle_turns old new (solo.Over reason)
@@ -70,3 +70,9 @@ over_well {told = told} {rules = rules} {idle_turns = idle_turns} {old = old} {n
     (all_in rules (calls_in session.steps) session.turns
     (enters_first sole_worker idle_turns role.Solo rules.version_rolling session.steps session.last session.follows))
     (good turns is input) free
+
+pub serves_session : {S T K : Type 0} {told : Accounts S T K} {rules : Rules} {idle_turns : ℕ} {old new : Outsides S T K} {reason : SessionEnd} → 0 < idle_turns
+    → IsSoloSession told rules idle_turns old new reason
+    → ((turns : List Turn) → told.left old.source ≡ Some turns → IsGoodInput role.Solo rules.version_rolling turns → IsGoodEnd reason)
+    → ServesSession told rules idle_turns old new (solo.Over reason)
+serves_session waits session good = record { did = session; complete = over_well waits session good }

@@ -116,6 +116,12 @@ ServesGoodInput told rules idle_turns old new end =
     → HasNoHindrance idle_turns turns (failures_of told old) (failures_of told new)
     → IsServedWell end
 
+-- a session over a book of its own, by how it ended; good input is served well
+pub record ServesSession {S T K : Type 0} (told : Accounts S T K) (rules : Rules) (idle_turns : ℕ)
+    (old new : Outsides S T K) (end : SoloEnd) : Type 0 where
+  pub did : IsServed told rules idle_turns old new end
+  pub complete : ServesGoodInput told rules idle_turns old new end
+
 -- the input isn't to blame
 abbrev pub BlamesNoInput : SoloEnd → Type 0
 BlamesNoInput (solo.Unbegun cause) = Unit {0}

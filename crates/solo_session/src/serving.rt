@@ -6,7 +6,7 @@ ghost use Rattle.pool_history.specs.declared.events.Role.TheVariants as role;
 ghost use Rattle.pool_history.specs.Accounts.{are_in_range};
 ghost use Rattle.pool_sessions.specs.Good.{IsGoodInput};
 ghost use Rattle.share_ledger.specs.Books.{IsUnused};
-ghost use Rattle.solo_session.specs.Solo.{BlamesNoInput, IsServed, ServesGoodInput};
+ghost use Rattle.solo_session.specs.Solo.{BlamesNoInput, ServesSession};
 
 use pool_core::SessionEnd;
 use pool_history::{BookError, Role, Rules};
@@ -47,7 +47,7 @@ pub fn serve_solo<S: Source, T: Sink, K: Keeper>(
     requires rules { IsTrue (are_in_range rules) }
     requires unused { IsUnused (K.records keeper) }
     requires waits { 0 < limits.idle_turns }
-    ensures served { IsServed (record {
+    ensures served { ServesSession (record {
       left = S.left;
       held = T.held;
       records = K.records;
@@ -67,24 +67,6 @@ pub fn serve_solo<S: Source, T: Sink, K: Keeper>(
     // Input that is to blame for nothing isn't blamed.
     ensures good { (told : List Turn) → S.left source ≡ Some told
         → IsGoodInput role.Solo rules.version_rolling told → BlamesNoInput result.end }
-
-    // And it is served to its end where nothing else fails.
-    ensures complete { ServesGoodInput (record {
-      left = S.left;
-      held = T.held;
-      records = K.records;
-      read_faults = S.faults;
-      write_faults = T.faults;
-      keeper_faults = K.faults;
-    }) rules limits.idle_turns (record {
-      source = source;
-      sink = sink;
-      keeper = keeper;
-    }) (record {
-      source = result.source;
-      sink = result.sink;
-      keeper = result.keeper;
-    }) result.end }
 {
     let rolling = rules.version_rolling;
     let book = match Book::new(alloc, rules, keeper) {

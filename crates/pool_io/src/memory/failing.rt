@@ -44,7 +44,7 @@ impl FailingCalls {
     }
 
     /// Counts one failure more.
-    pub fn fail(&mut self)
+    pub(crate) fn fail(&mut self)
         ensures { self.new ≡ record self.old { faults = next_count self.old.faults } }
     {
         self.faults = self.faults.saturating_add(1);

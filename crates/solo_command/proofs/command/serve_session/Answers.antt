@@ -22,7 +22,6 @@ returns-clause-row g c =
         unwritten = c.in-Ok-output.ensures.fresh;
         served = c.serve_solo-source.ensures.served;
         good = c.serve_solo-source.ensures.good;
-        complete = c.serve_solo-source.ensures.complete;
         sources = rw (keeper_back, sink_back, source_back, put, given) (record { lent = omega arith; back = refl });
         sinks = rw (keeper_back, sink_back, source_back, put, given) (record { lent = omega arith; back = refl });
         input = rw (keeper_back, sink_back, source_back, put, given) refl;

@@ -3,22 +3,24 @@ use Rattle.session_steps.specs.Steps.{calls_in}
 use Rattle.sole_book.specs.Calling.{CallsBook, StandInTurn, added_in}
 use Rattle.solo_session.specs.Solo.{CountsCalls}
 use Rattle.solo_session.proofs.Chained.{acts_seen, counts_calls, ledger_on}
-use Rattle.solo_session.proofs.Completing.{over_well, unbegun_well}
+use Rattle.solo_session.proofs.Completing.{serves_session, unbegun_well}
 use Rattle.solo_session.proofs.serving.serve_solo.Goals as goal
 
 pub returns-in-Err-clause-served : goal.returns-in-Err-clause-served
-returns-in-Err-clause-served g c = record {
-  source = refl;
-  sink = refl;
-  records = c.in-Err.ensures.refused;
-  counts = c.in-Err.ensures.fault;
-}
+returns-in-Err-clause-served g c =
+    let unbegun = c.in-Err.ensures in
+    record {
+      did = record {
+        source = refl;
+        sink = refl;
+        records = unbegun.refused;
+        counts = unbegun.fault;
+      };
+      complete = λ turns is input free. unbegun_well c.in-Err.cause (g.K.Keeper.faults c.args.keeper) (g.K.Keeper.faults c.in-Err.keeper) unbegun.fault free.keeper;
+    }
 
 pub returns-in-Err-clause-good : goal.returns-in-Err-clause-good
 returns-in-Err-clause-good g c = λ told is input. tt
-
-pub returns-in-Err-clause-complete : goal.returns-in-Err-clause-complete
-returns-in-Err-clause-complete g c = λ turns is input free. unbegun_well c.in-Err.cause (g.K.Keeper.faults c.args.keeper) (g.K.Keeper.faults c.in-Err.keeper) c.in-Err.ensures.fault free.keeper
 
 pub returns-clause-served : goal.returns-clause-served
 returns-clause-served g c =
@@ -30,7 +32,7 @@ returns-clause-served g c =
     let calls = calls_in session.runs.steps in
     let acts = acts_seen sole (λ s. s.book) (CallsBook records faults) (record { book = begun; worker = 0 }) calls session.runs.acts in
     let goes = c.sole_calls_go_on.ensures begun sole.book calls acts in
-    record {
+    serves_session c.requires.waits (record {
       steps = session.runs.steps;
       last = session.last;
       history = sole.book.events;
@@ -48,10 +50,7 @@ returns-clause-served g c =
       writes = c.converse-end.ensures.writes;
       counts = rw c.into_parts-keeper.ensures.keeper
           (subst (λ n. CountsCalls n calls (faults sole.book.keeper)) c.in-Ok.ensures.counts (counts_calls records faults begun sole.book calls acts));
-    }
+    }) c.converse-end.ensures.good
 
 pub returns-clause-good : goal.returns-clause-good
 returns-clause-good g c = c.converse-end.ensures.good
-
-pub returns-clause-complete : goal.returns-clause-complete
-returns-clause-complete g c = over_well c.requires.waits (returns-clause-served g c) c.converse-end.ensures.good
