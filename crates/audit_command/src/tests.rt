@@ -520,13 +520,19 @@ fn a_session_has_1024_channels_at_most(rt: HostRuntime) -> Result<(), Fail> {
     audits(&rt, alloc, read, Failing::Nothing, (3, text))
 }
 
-/// What failed, the status, and what was written; the ledger's 475 bytes come in five pieces.
-const CASES: [(Failing, u8, &str); 7] = [
+/// What failed, the status, and what was written; the ledger's 475 bytes come in five pieces, and
+/// nothing is asked for behind their end.
+const CASES: [(Failing, u8, &str); 12] = [
     (Failing::Opening(0), 7, ""),
     (Failing::Opening(1), 7, ""),
+    (Failing::Opening(2), 0, WORKED),
     (Failing::Take(0), 4, ""),
+    (Failing::Take(1), 4, ""),
+    (Failing::Take(2), 4, ""),
+    (Failing::Take(3), 4, ""),
     (Failing::Take(4), 4, ""),
     (Failing::Take(5), 4, ""),
+    (Failing::Take(6), 0, WORKED),
     (Failing::Put(0), 5, ""),
     (Failing::Put(1), 0, WORKED),
 ];

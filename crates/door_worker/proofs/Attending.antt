@@ -2,7 +2,6 @@
 use Rattle.std.proofs.Common.{◌≡◌, ℕ, ◌+◌, ◌-◌, ◌<◌, List, [], ◌∷◌, ◌++◌, Option, Some, None, Ok, Err, map, refl, sym, ap, subst, ◌∙◌, append_assoc, append-nil, arith}
 use Rattle.std.proofs.lemmas.List.{map-append}
 use Rattle.pool_doors.specs.declared.door.Arrival.{Arrival}
-use Rattle.std.specs.Prelude.{IfSome}
 use Rattle.pool_doors.specs.declared.door.Came.TheVariants as came
 use Rattle.pool_doors.specs.Doors.{ComesNext, back_with}
 use Rattle.session_steps.specs.Steps.{calls_in}
@@ -11,7 +10,8 @@ use Rattle.link_session.specs.Visits.{Asking, Manner, Visit}
 use Rattle.link_session.proofs.Asked.{asks_both, asks_none}
 use Rattle.pool_io.specs.Outside.{CountsFailure}
 use Rattle.door_worker.specs.declared.working.DoorEnd.{DoorEnd}
-use Rattle.door_worker.specs.Shifts.{Asked, AreVisits, AsksDoorOnce, Attends, AttendsOn, BackWith, ComesOn, DoorTelling, IsWelcomed, IsWorked, Visited, Waited, WaitsOn, arrival_of, calls_at, is_failed_end, links_in}
+use Rattle.door_worker.specs.declared.working.DoorEnd.TheVariants as end
+use Rattle.door_worker.specs.Shifts.{AnswersSo, Asked, AreVisits, AsksDoorOnce, Attends, AttendsOn, BackWith, ComesOn, Deals, DealsOnce, DoorTelling, IsWelcomed, IsWorked, StopsBy, Visited, Waited, WaitsOn, arrival_of, calls_at, is_failed_end, links_in}
 
 module _ {L : Type 0} where
   links_both : (xs ys : List (Asked L)) → links_in (xs ++ ys) ≡ links_in xs ++ links_in ys
@@ -59,12 +59,39 @@ module _ {L : Type 0} where
   back_none None = refl
   back_none (Some links) = ap (λ (l : List L). Some l) (sym (append-nil links))
 
+module _ {D L : Type 0} (telling : DoorTelling D L) where
+  deals_both : (before between after : D) (xs ys : List (Asked L)) → Deals telling before xs between → Deals telling between ys after → Deals telling before (xs ++ ys) after
+  deals_both before between after [] ys first then = subst (λ (d : D). Deals telling d ys after) first then
+  deals_both before between after (x ∷ xs) ys first then = (first.0, first.1, deals_both first.0 between after xs ys first.2 then)
+
+  once_unfailed : (before after : D) (answer : Asked L) → DealsOnce telling before answer after → telling.faults after ≡ telling.faults before
+  once_unfailed before after Waited deals = deals.counts
+  once_unfailed before after (Visited visit) deals = deals.2.faults ∙ deals.1.counts
+
+  -- no failure was among the answers
+  unfailed : (before after : D) (answers : List (Asked L)) → Deals telling before answers after → telling.faults after ≡ telling.faults before
+  unfailed before after [] deals = ap (λ (d : D). telling.faults d) deals
+  unfailed before after (answer ∷ answers) deals = unfailed deals.0 after answers deals.2 ∙ once_unfailed before deals.0 answer deals.1
+
+  stops_counted : (now : ℕ) (last after : D) (reason : DoorEnd) → StopsBy telling now last after reason → CountsFailure (is_failed_end reason) (telling.faults last) (telling.faults after)
+  stops_counted now last after end.IdleOut stops = ap (λ (d : D). telling.faults d) stops.1
+  stops_counted now last after end.Closed stops = stops.1.counts
+  stops_counted now last after end.Failed stops = stops.1.counts
+  stops_counted now last after end.Memory stops = stops.1.counts
+
+  -- the count before all of it rose just where it stopped by a failure
+  counts_through : (now : ℕ) (before last after : D) (answers : List (Asked L)) (reason : DoorEnd) → Deals telling before answers last → StopsBy telling now last after reason
+      → CountsFailure (is_failed_end reason) (telling.faults before) (telling.faults after)
+  counts_through now before last after answers reason deals stops =
+      subst (λ n. CountsFailure (is_failed_end reason) n (telling.faults after)) (unfailed before last answers deals) (stops_counted now last after reason stops)
+
 module _ {D L : Type 0} (telling : DoorTelling D L) (manner : Manner) (door_turns : ℕ) where
   attends_both : (worker a b c : ℕ) (before between after : D) (xs ys : List (Asked L)) → Attends telling manner worker door_turns a b before between xs
       → Attends telling manner worker door_turns b c between after ys → Attends telling manner worker door_turns a c before after (xs ++ ys)
   attends_both worker a b c before between after xs ys first then = record {
     visits = visits_both telling.link manner worker xs ys first.visits then.visits;
     waits = waits_both door_turns a b c xs ys first.waits then.waits;
+    deals = deals_both telling before between after xs ys first.deals then.deals;
     comes = comes_both (telling.coming before) (telling.coming between) (telling.coming after) xs ys first.comes then.comes;
     back = back_both (telling.back before) (telling.back between) (telling.back after) xs ys first.back then.back;
     out = then.out ∙ first.out;
@@ -74,7 +101,7 @@ module _ {D L : Type 0} (telling : DoorTelling D L) (manner : Manner) (door_turn
   pub on_none : (turns : ℕ) (door : D) (asking : Asking) → AttendsOn telling manner door_turns turns turns door door asking asking
   on_none turns door asking = record {
     answers = [];
-    attends = record { visits = tt; waits = refl; comes = comes_none (telling.coming door); back = back_none (telling.back door); out = refl };
+    attends = record { visits = tt; waits = refl; deals = refl; comes = comes_none (telling.coming door); back = back_none (telling.back door); out = refl };
     asks = asks_none asking;
   }
 
@@ -101,63 +128,34 @@ module _ {L : Type 0} where
   comes_visited visit None b next = next
   comes_visited visit (Some told) b next = next
 
-  -- nobody will come
-  pub comes_closed : (a b : Option (List (Arrival L))) → ComesNext a b came.Closed → ComesOn a b [] × IfSome b (λ arrivals. arrivals ≡ [])
-  comes_closed None b next = (next, rw next tt)
-  comes_closed (Some told) b next = ((next.0, next.1, next.2.0 ∙ sym next.2.1), rw next.1 next.2.1)
-
-  -- nobody was let in
-  pub comes_failed : (a b : Option (List (Arrival L))) → ComesNext a b came.Failed → ComesOn a b []
-  comes_failed None b next = next
-  comes_failed (Some told) b next = (next.0, next.1, sym next.2)
-
-  pub comes_starved : (a b : Option (List (Arrival L))) → ComesNext a b came.Memory → ComesOn a b []
-  comes_starved None b next = next
-  comes_starved (Some told) b next = (next.0, next.1, sym next.2)
-
 module _ {D L : Type 0} (telling : DoorTelling D L) (manner : Manner) (door_turns turns : ℕ) where
-  -- the door answered nothing that counts
-  pub on_nothing : (before after : D) (asking : Asking) → ComesOn (telling.coming before) (telling.coming after) [] → telling.back after ≡ telling.back before
-      → telling.out after ≡ telling.out before → AttendsOn telling manner door_turns turns turns before after asking asking
-  on_nothing before after asking comes back out = record {
-    answers = [];
-    attends = record {
-      visits = tt;
-      waits = refl;
-      comes = comes;
-      back = back ∙ back_none (telling.back before);
-      out = out;
-    };
-    asks = asks_none asking;
-  }
-
-  pub on_waited : (before after : D) (asking : Asking) → 0 < turns → ComesNext (telling.coming before) (telling.coming after) came.Idle
-      → telling.back after ≡ telling.back before → telling.out after ≡ telling.out before → AttendsOn telling manner door_turns turns (turns - 1) before after asking asking
-  on_waited before after asking some comes back out = record {
+  pub on_waited : (before after : D) (asking : Asking) → 0 < turns → AnswersSo telling before after came.Idle → AttendsOn telling manner door_turns turns (turns - 1) before after asking asking
+  on_waited before after asking some so = record {
     answers = Waited ∷ [];
     attends = record {
       visits = tt;
       waits = (some, refl);
-      comes = comes_waited (telling.coming before) (telling.coming after) comes;
-      back = back ∙ back_none (telling.back before);
-      out = out;
+      deals = (after, so, refl);
+      comes = comes_waited (telling.coming before) (telling.coming after) so.comes;
+      back = so.back ∙ back_none (telling.back before);
+      out = so.out;
     };
     asks = asks_none asking;
   }
 
-  pub on_visited : (before between after : D) (link : L) (old new : Asking) → 0 < turns → ComesNext (telling.coming before) (telling.coming between) (came.Caller link)
-      → telling.back between ≡ telling.back before → telling.out between ≡ telling.out before + 1 → IsWelcomed telling manner link between after old new
-      → AttendsOn telling manner door_turns turns door_turns before after old new
-  on_visited before between after link old new some comes back out welcomed =
+  pub on_visited : (before between after : D) (link : L) (old new : Asking) → 0 < turns → AnswersSo telling before between (came.Caller link)
+      → IsWelcomed telling manner link between after old new → AttendsOn telling manner door_turns turns door_turns before after old new
+  on_visited before between after link old new some so welcomed =
       let visit : Visit L = record { before = link; after = welcomed.link_back; steps = welcomed.served.steps; reason = welcomed.reason } in
       record {
         answers = Visited visit ∷ [];
         attends = record {
           visits = (welcomed.served.visit, tt);
           waits = (some, refl);
-          comes = comes_visited visit (telling.coming before) (telling.coming after) (rw welcomed.coming comes);
-          back = welcomed.back ∙ ap (λ b. back_with b welcomed.link_back) back;
-          out = (let was = welcomed.out in omega (arith, was, out));
+          deals = (after, (between, so, welcomed.back), refl);
+          comes = comes_visited visit (telling.coming before) (telling.coming after) (rw welcomed.back.coming so.comes);
+          back = welcomed.back.back ∙ ap (λ b. back_with b welcomed.link_back) so.back;
+          out = (let was = welcomed.back.out in let lent = so.out in omega (arith, was, lent));
         };
         asks = rw (append-nil (calls_in welcomed.served.steps)) welcomed.served.asks;
       }
@@ -166,21 +164,25 @@ module _ {D L : Type 0} {telling : DoorTelling D L} {manner : Manner} {door_turn
   -- the door was asked once more
   pub on_next : {left : ℕ} → AttendsOn telling manner door_turns a b before between old middle → AsksDoorOnce telling manner door_turns b between after middle new (Ok left)
       → AttendsOn telling manner door_turns a left before after old new
-  on_next so_far next = on_both telling manner door_turns so_far (subst (λ n. AttendsOn telling manner door_turns b n between after middle new) next.next.0 next.attends)
+  on_next {left = left} so_far next =
+      on_both telling manner door_turns so_far
+      (subst (λ n. AttendsOn telling manner door_turns b n between after middle new) next.next.0
+      (subst (λ (d : D). AttendsOn telling manner door_turns b next.now between d middle new) (sym next.next.2) next.attends))
 
 -- and for the last time
 pub worked : {D L : Type 0} {telling : DoorTelling D L} {manner : Manner} {door_turns b : ℕ} {before between after : D} {old middle new : Asking} {reason : DoorEnd}
-    → AttendsOn telling manner door_turns door_turns b before between old middle → telling.faults between ≡ telling.faults before
-    → AsksDoorOnce telling manner door_turns b between after middle new (Err reason) → IsWorked telling manner door_turns before after old new reason
-worked {telling = telling} {manner = manner} {door_turns = door_turns} {after = after} {reason = reason} so_far same next =
+    → AttendsOn telling manner door_turns door_turns b before between old middle → AsksDoorOnce telling manner door_turns b between after middle new (Err reason)
+    → IsWorked telling manner door_turns before after old new reason
+worked {telling = telling} {manner = manner} {door_turns = door_turns} {before = before} {after = after} {reason = reason} so_far next =
     let all = on_both telling manner door_turns so_far next.attends in
     record {
       answers = all.answers;
       shift = record {
         now = next.now;
+        last = next.last;
         attends = all.attends;
-        stops = next.next.0;
-        counts = subst (λ n. CountsFailure (is_failed_end reason) n (telling.faults after)) same next.next.1;
+        stops = next.next;
+        counts = counts_through telling next.now before next.last after all.answers reason all.attends.deals next.next;
       };
       asks = all.asks;
     }

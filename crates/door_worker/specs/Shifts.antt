@@ -1,11 +1,13 @@
 -- What a worker did at its door, from its first asking to its last (this project's own).
-use Rattle.std.specs.Prelude.{◌≡◌, ℕ, ◌+◌, ◌-◌, ◌<◌, Bool, true, false, List, [], ◌∷◌, ◌++◌, map, Option, None, Some, IfSome, Result, Ok, Err}
+use Rattle.std.specs.Prelude.{◌≡◌, ℕ, ◌+◌, ◌-◌, ◌<◌, Bool, true, false, List, [], ◌∷◌, ◌++◌, map, Option, None, Some, Result, Ok, Err}
 use Rattle.std.specs.Option.{option_map}
 use Rattle.pool_io.specs.declared.turn.Turn.{Turn}
-use Rattle.pool_io.specs.Outside.{CountsFailure}
+use Rattle.pool_io.specs.Outside.{CountsFailure, next_count}
 use Rattle.pool_doors.specs.declared.door.Arrival.{Arrival}
 use Rattle.pool_doors.specs.declared.door.Arrival.TheVariants as arrival
-use Rattle.pool_doors.specs.Doors.{back_with}
+use Rattle.pool_doors.specs.declared.door.Came.{Came}
+use Rattle.pool_doors.specs.declared.door.Came.TheVariants as came
+use Rattle.pool_doors.specs.Doors.{ComesNext, back_with, is_failed_asking, out_after}
 use Rattle.pool_history.specs.Calls.{PoolCall}
 use Rattle.session_steps.specs.declared.ends.SessionEnd.{SessionEnd}
 use Rattle.session_steps.specs.Steps.{calls_in}
@@ -14,23 +16,26 @@ use Rattle.link_session.specs.Visits.{Asking, AsksByPass, IsVisit, Manner, Serve
 use Rattle.door_worker.specs.declared.working.DoorEnd.{DoorEnd}
 use Rattle.door_worker.specs.declared.working.DoorEnd.TheVariants as end
 
--- what a door tells, how many links are out, how often it failed, and what its links tell
+-- what a door tells, how many links are out, how often it failed and was asked, and what its links
+-- tell
 pub record DoorTelling (D L : Type 0) : Type 0 where
   pub coming : D → Option (List (Arrival L))
   pub out : D → ℕ
   pub back : D → Option (List L)
   pub faults : D → ℕ
+  pub asked : D → ℕ
   pub link : Telling L
 
 -- the same by the meanings of a door and of its links
 abbrev pub telling_of : {D L : Type 0} → (D → Option (List (Arrival L))) → (D → ℕ)
-    → (D → Option (List L)) → (D → ℕ) → (L → Option (List Turn)) → (L → Option (List ℕ)) → (L → ℕ)
-    → (L → ℕ) → DoorTelling D L
-telling_of coming out back faults left held read_faults write_faults = record {
+    → (D → Option (List L)) → (D → ℕ) → (D → ℕ) → (L → Option (List Turn)) → (L → Option (List ℕ))
+    → (L → ℕ) → (L → ℕ) → DoorTelling D L
+telling_of coming out back faults asked left held read_faults write_faults = record {
   coming = coming;
   out = out;
   back = back;
   faults = faults;
+  asked = asked;
   link = record {
     left = left;
     held = held;
@@ -96,36 +101,71 @@ ComesOn {L} (Some arrivals) new answers =
 abbrev pub BackWith : {L : Type 0} → Option (List L) → Option (List L) → List (Asked L) → Type 0
 BackWith old new answers = new ≡ option_map (λ links. links ++ links_in answers) old
 
+-- a door was asked once, and answered so
+pub record AnswersSo {D L : Type 0} (telling : DoorTelling D L) (before after : D)
+    (answer : Came L) : Type 0 where
+  pub comes : ComesNext (telling.coming before) (telling.coming after) answer
+  pub out : telling.out after ≡ out_after (telling.out before) answer
+  pub back : telling.back after ≡ telling.back before
+  pub counts : CountsFailure (is_failed_asking answer) (telling.faults before)
+      (telling.faults after)
+  pub asked : telling.asked after ≡ next_count (telling.asked before)
+
+-- a link was handed back to it
+pub record TakesBack {D L : Type 0} (telling : DoorTelling D L) (before after : D) (link : L) :
+    Type 0 where
+  pub back : telling.back after ≡ back_with (telling.back before) link
+  pub coming : telling.coming after ≡ telling.coming before
+  pub out : telling.out before ≡ telling.out after + 1
+  pub faults : telling.faults after ≡ telling.faults before
+  pub asked : telling.asked after ≡ telling.asked before
+
+-- it was asked once: nobody came, or who came was served and handed back
+abbrev pub DealsOnce : {D L : Type 0} → DoorTelling D L → D → Asked L → D → Type 0
+DealsOnce telling before Waited after = AnswersSo telling before after came.Idle
+DealsOnce {D} telling before (Visited visit) after =
+    (busy : D) × AnswersSo telling before busy (came.Caller visit.before)
+    × TakesBack telling busy after visit.after
+
+-- it was asked just for these answers, each time as the one before had left it: so each who came was
+-- handed back before it was asked again
+abbrev pub Deals : {D L : Type 0} → DoorTelling D L → D → List (Asked L) → D → Type 0
+Deals telling before [] after = after ≡ before
+Deals {D} telling before (answer ∷ answers) after =
+    (next : D) × DealsOnce telling before answer next × Deals telling next answers after
+
 -- a door between two moments: these answers came, each who came was served and handed back, and the
 -- waiting went on
 pub record Attends {D L : Type 0} (telling : DoorTelling D L) (manner : Manner)
     (worker door_turns turns now : ℕ) (before after : D) (answers : List (Asked L)) : Type 0 where
   pub visits : AreVisits telling.link manner worker answers
   pub waits : WaitsOn door_turns turns answers now
+  pub deals : Deals telling before answers after
   pub comes : ComesOn (telling.coming before) (telling.coming after) answers
   pub back : BackWith (telling.back before) (telling.back after) answers
   pub out : telling.out after ≡ telling.out before
 
--- why it stops: so many Idle answers in a row have come, or, before that, the door is closed, and
--- then nothing is to come, or it failed, or memory was wanting
-abbrev pub StopsBy : {L : Type 0} → ℕ → Option (List (Arrival L)) → DoorEnd → Type 0
-StopsBy now left end.IdleOut = now ≡ 0
-StopsBy now left end.Closed = (0 < now) × IfSome left (λ arrivals. arrivals ≡ [])
-StopsBy now left end.Failed = 0 < now
-StopsBy now left end.Memory = 0 < now
+-- why it stops: so many Idle answers in a row have come, and it is asked no more; or, before that, it
+-- was asked once more and answered that it is closed, that it failed, or that memory was wanting
+abbrev pub StopsBy : {D L : Type 0} → DoorTelling D L → ℕ → D → D → DoorEnd → Type 0
+StopsBy telling now last after end.IdleOut = (now ≡ 0) × (after ≡ last)
+StopsBy telling now last after end.Closed = (0 < now) × AnswersSo telling last after came.Closed
+StopsBy telling now last after end.Failed = (0 < now) × AnswersSo telling last after came.Failed
+StopsBy telling now last after end.Memory = (0 < now) × AnswersSo telling last after came.Memory
 
 -- the door failed; want of memory is no failure
 abbrev pub is_failed_end : DoorEnd → Bool
 is_failed_end end.Failed = true
 is_failed_end _ = false
 
--- a worker's whole shift at its door
+-- a worker's whole shift at its door: its answers, up to the last but for the one that ends it
 pub record IsShift {D L : Type 0} (telling : DoorTelling D L) (manner : Manner)
     (worker door_turns : ℕ) (shift : Shift D L) : Type 0 where
   pub now : ℕ
-  pub attends : Attends telling manner worker door_turns door_turns now shift.before shift.after
+  pub last : D
+  pub attends : Attends telling manner worker door_turns door_turns now shift.before last
       shift.answers
-  pub stops : StopsBy now (telling.coming shift.after) shift.reason
+  pub stops : StopsBy telling now last shift.after shift.reason
   pub counts : CountsFailure (is_failed_end shift.reason) (telling.faults shift.before)
       (telling.faults shift.after)
 
@@ -150,19 +190,17 @@ pub record AttendsOn {D L : Type 0} (telling : DoorTelling D L) (manner : Manner
 
 abbrev pub GoesOnOrStops :
     {D L : Type 0} → DoorTelling D L → ℕ → D → D → Result ℕ DoorEnd → Type 0
-GoesOnOrStops telling now before after (Ok left) =
-    (now ≡ left) × (0 < left) × (telling.faults after ≡ telling.faults before)
-GoesOnOrStops telling now before after (Err reason) =
-    StopsBy now (telling.coming after) reason
-    × CountsFailure (is_failed_end reason) (telling.faults before) (telling.faults after)
+GoesOnOrStops telling now last after (Ok left) = (now ≡ left) × (0 < left) × (after ≡ last)
+GoesOnOrStops telling now last after (Err reason) = StopsBy telling now last after reason
 
 -- the door was asked once
 pub record AsksDoorOnce {D L : Type 0} (telling : DoorTelling D L) (manner : Manner)
     (door_turns turns : ℕ) (before after : D) (old new : Asking) (result : Result ℕ DoorEnd) :
     Type 0 where
   pub now : ℕ
-  pub attends : AttendsOn telling manner door_turns turns now before after old new
-  pub next : GoesOnOrStops telling now before after result
+  pub last : D
+  pub attends : AttendsOn telling manner door_turns turns now before last old new
+  pub next : GoesOnOrStops telling now last after result
 
 -- one who called was served, and the link handed back
 pub record IsWelcomed {D L : Type 0} (telling : DoorTelling D L) (manner : Manner) (link : L)
@@ -170,7 +208,4 @@ pub record IsWelcomed {D L : Type 0} (telling : DoorTelling D L) (manner : Manne
   pub link_back : L
   pub reason : SessionEnd
   pub served : ServesLink telling.link manner link link_back old new reason
-  pub back : telling.back after ≡ back_with (telling.back before) link_back
-  pub coming : telling.coming after ≡ telling.coming before
-  pub out : telling.out before ≡ telling.out after + 1
-  pub faults : telling.faults after ≡ telling.faults before
+  pub back : TakesBack telling before after link_back

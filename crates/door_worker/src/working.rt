@@ -38,7 +38,7 @@ pub fn work<R: Wait, K: Keeper, D: Door>(
     requires waits { (0 < limits.idle_turns) × (0 < limits.door_turns) }
     ensures desk { asker.new.pass.now.table ≡ asker.new.desk.now.table }
     ensures pass { asker.new.pass.ghost_name ≡ asker.old.pass.ghost_name }
-    ensures worked { IsWorked (telling_of D.coming D.out D.back D.faults D.L.left D.L.held
+    ensures worked { IsWorked (telling_of D.coming D.out D.back D.faults D.asked D.L.left D.L.held
         D.L.read_faults D.L.write_faults)
         (record { role = role.Miner; rolling = rolling; idle_turns = limits.idle_turns })
         limits.door_turns door.old door.new
@@ -71,7 +71,7 @@ fn ask_door<R: Wait, K: Keeper, D: Door>(
     requires turns { 0 < turns }
     ensures desk { asker.new.pass.now.table ≡ asker.new.desk.now.table }
     ensures pass { asker.new.pass.ghost_name ≡ asker.old.pass.ghost_name }
-    ensures next { AsksDoorOnce (telling_of D.coming D.out D.back D.faults D.L.left D.L.held
+    ensures next { AsksDoorOnce (telling_of D.coming D.out D.back D.faults D.asked D.L.left D.L.held
         D.L.read_faults D.L.write_faults)
         (record { role = role.Miner; rolling = rolling; idle_turns = limits.idle_turns })
         limits.door_turns turns door.old door.new
@@ -105,7 +105,7 @@ fn welcome<R: Wait, K: Keeper, D: Door>(
     requires out { 0 < D.out door.old }
     ensures desk { asker.new.pass.now.table ≡ asker.new.desk.now.table }
     ensures pass { asker.new.pass.ghost_name ≡ asker.old.pass.ghost_name }
-    ensures served { IsWelcomed (telling_of D.coming D.out D.back D.faults D.L.left D.L.held
+    ensures served { IsWelcomed (telling_of D.coming D.out D.back D.faults D.asked D.L.left D.L.held
         D.L.read_faults D.L.write_faults)
         (record { role = role.Miner; rolling = rolling; idle_turns = limits.idle_turns }) link
         door.old door.new (record { pass = asker.old.pass.now; faults = asker.old.faults })

@@ -159,17 +159,27 @@ fn a_legal_ledger_is_kept_in_format_2(rt: HostRuntime) -> Result<(), Fail> {
 }
 
 /// What failed, the status, the text, and how many bytes were kept; the old ledger's 251 bytes come
-/// in three pieces.
-const CASES: [(Failing, u8, &str, usize); 9] = [
+/// in three pieces, and nothing is asked for behind their end.
+const CASES: [(Failing, u8, &str, usize); 19] = [
     (Failing::Opening(0), 7, "", 0),
     (Failing::Opening(1), 7, "", 0),
     (Failing::Opening(2), 7, "", 0),
+    (Failing::Opening(3), 0, "migrated 7\n", 475),
     (Failing::Take(0), 4, "", 0),
+    (Failing::Take(1), 4, "", 0),
+    (Failing::Take(2), 4, "", 0),
     (Failing::Take(3), 4, "", 0),
+    (Failing::Take(4), 0, "migrated 7\n", 475),
     (Failing::Append(0), 6, "", 0),
     (Failing::Append(1), 6, "", 69),
+    (Failing::Append(2), 6, "", 114),
+    (Failing::Append(3), 6, "", 163),
+    (Failing::Append(4), 6, "", 246),
+    (Failing::Append(5), 6, "", 366),
     (Failing::Append(6), 6, "", 435),
+    (Failing::Append(7), 0, "migrated 7\n", 475),
     (Failing::Put(0), 5, "", 475),
+    (Failing::Put(1), 0, "migrated 7\n", 475),
 ];
 
 #[test]

@@ -5,6 +5,8 @@
 ghost use Rattle.std.specs.Prelude.{◌≡◌, IfOk, map, drop, string_bytes};
 ghost use Rattle.std.specs.Vec.Iter.{into_iter_items};
 
+#[cfg(test)]
+mod commands_tests;
 mod edge;
 #[cfg(test)]
 mod edge_tests;

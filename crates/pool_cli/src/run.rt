@@ -50,7 +50,7 @@ where
     // ended.
     ensures does { (form : Asked) → IsForm words.now form → DoesForm
         (accounts_of H.S.left H.T.held H.K.records H.S.faults H.T.faults H.K.faults)
-        (telling_of N.D.coming N.D.out N.D.back N.D.faults N.D.L.left N.D.L.held N.D.L.read_faults
+        (telling_of N.D.coming N.D.out N.D.back N.D.faults N.D.asked N.D.L.left N.D.L.held N.D.L.read_faults
         N.D.L.write_faults) words.now form
         (record { host = view_of H.seen H.openings host.old; network = N.seen network.old })
         (record { host = view_of H.seen H.openings host.new; network = N.seen network.new }) result }
@@ -58,7 +58,7 @@ where
     // So for each words: 2, or a form that they have was done.
     ensures formed { (result ≡ 2) ⊎ ((form : Asked) × IsForm words.now form × DoesForm
         (accounts_of H.S.left H.T.held H.K.records H.S.faults H.T.faults H.K.faults)
-        (telling_of N.D.coming N.D.out N.D.back N.D.faults N.D.L.left N.D.L.held N.D.L.read_faults
+        (telling_of N.D.coming N.D.out N.D.back N.D.faults N.D.asked N.D.L.left N.D.L.held N.D.L.read_faults
         N.D.L.write_faults) words.now form
         (record { host = view_of H.seen H.openings host.old; network = N.seen network.old })
         (record { host = view_of H.seen H.openings host.new; network = N.seen network.new }) result) }
@@ -97,7 +97,7 @@ where
     requires limits { IsWithinLimits form }
     requires names { IsForm words.now form }
     ensures row { OwesRow (accounts_of H.S.left H.T.held H.K.records H.S.faults H.T.faults H.K.faults)
-        (telling_of N.D.coming N.D.out N.D.back N.D.faults N.D.L.left N.D.L.held N.D.L.read_faults
+        (telling_of N.D.coming N.D.out N.D.back N.D.faults N.D.asked N.D.L.left N.D.L.held N.D.L.read_faults
         N.D.L.write_faults) words.now form
         (record { host = view_of H.seen H.openings host.old; network = N.seen network.old })
         (record { host = view_of H.seen H.openings host.new; network = N.seen network.new }) result }
@@ -134,7 +134,7 @@ where
     requires names { IsServe words.now }
     ensures row { (names : IsServe words.now) × ServeRow
         (accounts_of H.S.left H.T.held H.K.records H.S.faults H.T.faults H.K.faults)
-        (telling_of N.D.coming N.D.out N.D.back N.D.faults N.D.L.left N.D.L.held N.D.L.read_faults
+        (telling_of N.D.coming N.D.out N.D.back N.D.faults N.D.asked N.D.L.left N.D.L.held N.D.L.read_faults
         N.D.L.write_faults) names.settings names.ledger
         (record { host = view_of H.seen H.openings host.old; network = N.seen network.old })
         (record { host = view_of H.seen H.openings host.new; network = N.seen network.new }) result }

@@ -80,6 +80,7 @@ pub struct TcpDoor<C: Clock + Drop> {
     clock: C,
     out: u64,
     faults: u64,
+    asked: u64,
 }
 
 impl<C: Clock + Drop> TcpDoor<C> {
@@ -92,6 +93,7 @@ impl<C: Clock + Drop> TcpDoor<C> {
             clock,
             out: 0,
             faults: 0,
+            asked: 0,
         }
     }
 
@@ -112,6 +114,8 @@ impl<C: Clock + Drop> Door for TcpDoor<C> {
 
     ghost faults = { λ door. door.faults };
 
+    ghost asked = { λ door. door.asked };
+
     ghost coming = { λ _. None };
 
     ghost out = { λ door. door.out };
@@ -119,6 +123,7 @@ impl<C: Clock + Drop> Door for TcpDoor<C> {
     ghost back = { λ _. None };
 
     fn accept(&mut self) -> Came<TcpLink> {
+        self.asked = self.asked.saturating_add(1);
         if self.out == u64::MAX {
             return Came::Memory;
         }

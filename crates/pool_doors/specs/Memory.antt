@@ -17,3 +17,7 @@ links_back door = door.links.back
 -- how often the door has failed
 abbrev pub door_faults : {L : Type 0} → MemDoor L → ℕ
 door_faults door = door.failing.faults
+
+-- how often it was asked
+abbrev pub times_asked : {L : Type 0} → MemDoor L → ℕ
+times_asked door = door.failing.calls

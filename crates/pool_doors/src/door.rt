@@ -1,7 +1,7 @@
 //! A door.
 
 ghost use Rattle.std.specs.Prelude.{◌≡◌, ◌+◌, ◌<◌, ℕ, List, Option};
-ghost use Rattle.pool_io.specs.Outside.{CountsFailure};
+ghost use Rattle.pool_io.specs.Outside.{CountsFailure, next_count};
 ghost use Rattle.pool_doors.specs.declared.door.Arrival.{Arrival as Coming};
 ghost use Rattle.pool_doors.specs.Doors.{ComesNext, back_with, is_failed_asking, out_after};
 
@@ -39,6 +39,9 @@ pub trait Door {
     /// How often the door has failed. A counter stays at 2^64 - 1 once it is there.
     ghost faults: { Self → ℕ };
 
+    /// How often it was asked, counted likewise.
+    ghost asked: { Self → ℕ };
+
     /// The answers still to come, where the door tells them.
     ghost coming: { Self → Option (List (Coming Self.L)) };
 
@@ -54,7 +57,8 @@ pub trait Door {
         ensures out { out self.new ≡ out_after (out self.old) result }
         ensures back { back self.new ≡ back self.old }
         ensures counts { CountsFailure (is_failed_asking result) (faults self.old)
-            (faults self.new) };
+            (faults self.new) }
+        ensures asked { asked self.new ≡ next_count (asked self.old) };
 
     /// Takes a connection back, without memory.
     fn done(&mut self, link: Self::L)
@@ -62,5 +66,6 @@ pub trait Door {
         ensures out { out self.old ≡ out self.new + 1 }
         ensures back { back self.new ≡ back_with (back self.old) link }
         ensures coming { coming self.new ≡ coming self.old }
-        ensures counts { faults self.new ≡ faults self.old };
+        ensures counts { faults self.new ≡ faults self.old }
+        ensures asked { asked self.new ≡ asked self.old };
 }

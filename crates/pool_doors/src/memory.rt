@@ -1,7 +1,7 @@
 //! A door in memory.
 
 ghost use Rattle.std.specs.Prelude.{◌≡◌, [], Some};
-ghost use Rattle.pool_doors.specs.Memory.{arrivals_of, door_faults, links_back, links_out};
+ghost use Rattle.pool_doors.specs.Memory.{arrivals_of, door_faults, links_back, links_out, times_asked};
 
 use crate::door::{Arrival, Came, Door};
 use pool_io::{FailingCalls, Shelf};
@@ -43,6 +43,8 @@ impl<L: Link> Door for MemDoor<L> {
     type L = L;
 
     ghost faults = { door_faults };
+
+    ghost asked = { times_asked };
 
     ghost coming = { λ door. Some (arrivals_of door) };
 

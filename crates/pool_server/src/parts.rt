@@ -40,7 +40,7 @@ pub(crate) fn attend<R: Wait, K: Keeper, D: Door>(
 )
     requires desk { part.old.pass.table ≡ desk.now.table }
     requires waits { (0 < limits.idle_turns) × (0 < limits.door_turns) }
-    ensures { IsAttended (service_of (telling_of D.coming D.out D.back D.faults D.L.left
+    ensures { IsAttended (service_of (telling_of D.coming D.out D.back D.faults D.asked D.L.left
         D.L.held D.L.read_faults D.L.write_faults) rolling limits.idle_turns limits.door_turns)
         part.old part.new }
 {

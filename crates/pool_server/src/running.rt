@@ -31,7 +31,7 @@ where
     requires some { 0 < length parts.old }
     requires desk { All (λ part. part.pass.table ≡ desk.now.table) parts.old }
     requires waits { (0 < limits.idle_turns) × (0 < limits.door_turns) }
-    ensures { AttendsByPlace (service_of (telling_of D.coming D.out D.back D.faults D.L.left
+    ensures { AttendsByPlace (service_of (telling_of D.coming D.out D.back D.faults D.asked D.L.left
         D.L.held D.L.read_faults D.L.write_faults) rolling limits.idle_turns limits.door_turns)
         parts.old parts.new }
 {
@@ -43,7 +43,7 @@ where
         &|_place: usize, part: &mut ThreadPart<D, D::L, K>|
             requires { (part.now.pass.table ≡ desk.now.table)
                 × (0 < limits.idle_turns) × (0 < limits.door_turns) }
-            ensures { IsAttended (service_of (telling_of D.coming D.out D.back D.faults D.L.left
+            ensures { IsAttended (service_of (telling_of D.coming D.out D.back D.faults D.asked D.L.left
                 D.L.held D.L.read_faults D.L.write_faults) rolling limits.idle_turns limits.door_turns)
                 part.entry.now part.exit.now }
         { attend(rt, alloc, desk, rolling, limits, part) },
@@ -70,7 +70,7 @@ where
     requires empty { parts.items ≡ [] }
     requires room { vec_len doors + 1 ≤ vec_capacity parts }
     requires waits { (0 < limits.idle_turns) × (0 < limits.door_turns) }
-    ensures { IsTended (service_of (telling_of D.coming D.out D.back D.faults D.L.left
+    ensures { IsTended (service_of (telling_of D.coming D.out D.back D.faults D.asked D.L.left
         D.L.held D.L.read_faults D.L.write_faults) rolling limits.idle_turns limits.door_turns)
         doors.items feed passes.items result }
 {

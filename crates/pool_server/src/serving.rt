@@ -52,7 +52,7 @@ where
     D::L: Send,
     requires few { vec_len doors < 2 ^ 32 - 1 }
     requires waits { (0 < limits.idle_turns) × (0 < limits.door_turns) }
-    ensures { HasServed (service_of (telling_of D.coming D.out D.back D.faults D.L.left
+    ensures { HasServed (service_of (telling_of D.coming D.out D.back D.faults D.asked D.L.left
         D.L.held D.L.read_faults D.L.write_faults) rolling limits.idle_turns limits.door_turns)
         (record { records = K.records; faults = K.faults }) book doors feed result }
 {

@@ -2,7 +2,7 @@
 
 use ledger_records::read_record;
 use pool_history::{
-    BookError, Event, Kind, OpenAsk, Reply, Request, Role, Submission, TemplateData, TipData,
+    BookError, Brief, Event, Kind, OpenAsk, Reply, Request, Role, Submission, TemplateData, TipData,
 };
 use pool_io::Keeper;
 use share_check::{check, rolled_length};
@@ -178,15 +178,39 @@ pub(crate) fn submission(changed: Changed) -> Submission {
 }
 
 /// Asks for a share's brief and, where there is one, hashes it and has it booked.
-fn submit<K: Keeper>(book: &mut Book<K>, worker: u32, sub: Submission) -> Result<Reply, BookError> {
+pub(crate) fn submit<K: Keeper>(
+    book: &mut Book<K>,
+    worker: u32,
+    sub: Submission,
+) -> Result<Reply, BookError> {
     match book.act(worker, Request::Brief(sub)) {
-        Ok(Reply::Brief(brief)) => {
-            if rolled_length(brief.kind, &brief.lead) != sub.extranonce_len {
-                return Ok(Reply::Brief(brief));
-            }
-            book.act(worker, Request::Commit(check(brief, sub)))
-        }
+        Ok(Reply::Brief(brief)) => commit(book, worker, brief, sub),
         other => other,
+    }
+}
+
+/// Has a share booked that was hashed by a brief, of its own or of another share of its length.
+pub(crate) fn commit<K: Keeper>(
+    book: &mut Book<K>,
+    worker: u32,
+    brief: Brief,
+    sub: Submission,
+) -> Result<Reply, BookError> {
+    if rolled_length(brief.kind, &brief.lead) != sub.extranonce_len {
+        return Ok(Reply::Brief(brief));
+    }
+    book.act(worker, Request::Commit(check(brief, sub)))
+}
+
+/// A share's brief, where it gets one.
+pub(crate) fn brief_of<K: Keeper>(
+    book: &mut Book<K>,
+    worker: u32,
+    sub: Submission,
+) -> Option<Brief> {
+    match book.act(worker, Request::Brief(sub)) {
+        Ok(Reply::Brief(brief)) => Some(brief),
+        _ => None,
     }
 }
 
@@ -231,6 +255,11 @@ pub(crate) fn answer<K: Keeper>(
         Ask::Share(changed) => submit(book, worker, submission(changed)),
         other => book.act(worker, request(alloc, other)?),
     };
+    told(alloc, reply)
+}
+
+/// An answer in words; none where there is no memory.
+pub(crate) fn told(alloc: Global, reply: Result<Reply, BookError>) -> Option<String> {
     match reply {
         Ok(reply) => words(alloc, &reply).ok(),
         Err(error) => format!(in alloc; "{error}").ok(),

@@ -14,6 +14,8 @@ mod ends_tests;
 #[cfg(test)]
 mod examples;
 #[cfg(test)]
+mod pieces_tests;
+#[cfg(test)]
 mod polls_tests;
 #[cfg(test)]
 mod session_tests;

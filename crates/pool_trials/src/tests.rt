@@ -1,18 +1,19 @@
 //! What no clause says: that a book's calls succeed where there is memory, and that its answers and
 //! its ledger are those of the worked session, and of others that differ from it in one thing.
 
-use crate::asking::{Ask, Changed, answer};
+use crate::asking::{Ask, Changed, answer, brief_of, commit, submission, submit, told};
 use crate::example_rules;
 use crate::examples::{
     BEGIN, FOREIGN_JOB, LEDGER, NEXT_TEMPLATE, NEXT_TIP, OWN_JOB, Step, TEMPLATE, TIP, are_spelled,
     begun, joined,
 };
-use pool_history::{Kind, Role};
+use pool_history::{Kind, Request, Role, TipData};
 use pool_io::{Keeper, MemKeeper, SureKeeper};
 use share_ledger::Book;
 use std::alloc::Global;
 use std::process::Abort;
 use std::test::Fail;
+use sv2_types::U256;
 
 /// Asks a book for each step, and compares what it answers.
 fn go<K: Keeper>(rt: &impl Abort, alloc: Global, book: &mut Book<K>, steps: &[Step]) {
@@ -172,6 +173,81 @@ fn sum_up_own_jobs(rt: &impl Abort, alloc: Global) -> Result<(), Fail> {
     summed?;
     assert!(rt; summary.as_slice() == SUMMARY);
     Ok(())
+}
+
+/// Hashes shares by briefs that their history has left behind: by another channel's, and by one from
+/// before the next tip.
+fn commit_late(rt: &impl Abort, alloc: Global) -> Result<(), Fail> {
+    let rules = example_rules(alloc, true, 3)?;
+    let mut book = begun(alloc, rules, SureKeeper::new(alloc))?;
+    go(rt, alloc, &mut book, &BEGIN);
+    go(
+        rt,
+        alloc,
+        &mut book,
+        &[(0, Ask::Open(Kind::Extended, 8), "channel 2")],
+    );
+    let share = submission(Changed::Nothing);
+    let before = brief_of(&mut book, 0, share).expect(rt, "a brief");
+    let others = brief_of(&mut book, 0, submission(Changed::Channel(2))).expect(rt, "a brief");
+    let booked = told(alloc, commit(&mut book, 0, others, share)).expect(rt, "an answer");
+    assert!(rt; booked.as_str() == "credited 1");
+    go(
+        rt,
+        alloc,
+        &mut book,
+        &[(0, NEXT_TEMPLATE, "job 2"), (0, NEXT_TIP, "job 2")],
+    );
+    let late = told(alloc, commit(&mut book, 0, before, share)).expect(rt, "an answer");
+    assert!(rt; late.as_str() == "stale-share");
+    let (_keeper, _history) = book.into_parts();
+    Ok(())
+}
+
+#[test]
+fn a_share_is_judged_by_the_history_that_books_it(rt: HostRuntime) -> Result<(), Fail> {
+    commit_late(&rt, rt.alloc())
+}
+
+/// How many shares a book takes in below.
+const MANY: u32 = 262_144;
+
+/// Books many shares, none of which is a block. A book that looked through all headers for each of
+/// them would take hours.
+fn book_many(rt: &impl Abort, alloc: Global) -> Result<(), Fail> {
+    let rules = example_rules(alloc, true, MANY)?;
+    let mut book = begun(alloc, rules, SureKeeper::new(alloc))?;
+    let steps = [
+        (0, Ask::Enter(Role::Solo, 0), "session 0"),
+        (0, Ask::Open(Kind::Extended, 8), "channel 1"),
+        (0, TEMPLATE, "job 1"),
+    ];
+    go(rt, alloc, &mut book, &steps);
+    let tip = Request::Tip(TipData {
+        template_id: 5,
+        prev_hash: U256::of([0x11; 32]),
+        header_timestamp: 1_000_000,
+        nbits: 0x207f_ffff,
+        target: U256::of([0; 32]),
+    });
+    let said = told(alloc, book.act(0, tip)).expect(rt, "an answer");
+    assert!(rt; said.as_str() == "job 1");
+    for nonce in 0..MANY {
+        let booked = submit(&mut book, 0, submission(Changed::Nonce(nonce)));
+        let said = told(alloc, booked).expect(rt, "an answer");
+        assert!(rt; said.as_str() == "credited 1", "at nonce {nonce}");
+    }
+    let again = submit(&mut book, 0, submission(Changed::Nonce(1)));
+    let said = told(alloc, again).expect(rt, "an answer");
+    assert!(rt; said.as_str() == "duplicate-share");
+    assert_eq!(rt; book.len(), 5 + u64::from(MANY));
+    let (_keeper, _history) = book.into_parts();
+    Ok(())
+}
+
+#[test]
+fn a_book_takes_many_credits_and_knows_each(rt: HostRuntime) -> Result<(), Fail> {
+    book_many(&rt, rt.alloc())
 }
 
 #[test]

@@ -39,7 +39,7 @@ where
     <N::D as Door>::L: Send,
     ensures row { ServeRow
         (accounts_of H.S.left H.T.held H.K.records H.S.faults H.T.faults H.K.faults)
-        (telling_of N.D.coming N.D.out N.D.back N.D.faults N.D.L.left N.D.L.held N.D.L.read_faults
+        (telling_of N.D.coming N.D.out N.D.back N.D.faults N.D.asked N.D.L.left N.D.L.held N.D.L.read_faults
         N.D.L.write_faults) settings_name.now ledger_name.now
         (record { host = view_of H.seen H.openings host.old; network = N.seen network.old })
         (record { host = view_of H.seen H.openings host.new; network = N.seen network.new })
@@ -73,7 +73,7 @@ where
     requires ranges { AreInRange settings }
     ensures row { ServesWithKeeper
         (accounts_of H.S.left H.T.held H.K.records H.S.faults H.T.faults H.K.faults)
-        (telling_of N.D.coming N.D.out N.D.back N.D.faults N.D.L.left N.D.L.held N.D.L.read_faults
+        (telling_of N.D.coming N.D.out N.D.back N.D.faults N.D.asked N.D.L.left N.D.L.held N.D.L.read_faults
         N.D.L.write_faults) settings ledger_name.now
         (record { host = view_of H.seen H.openings host.old; network = N.seen network.old })
         (record { host = view_of H.seen H.openings host.new; network = N.seen network.new })
@@ -107,7 +107,7 @@ where
     requires unused { IsUnused (H.K.records keeper) }
     ensures row { ServesOnBook
         (accounts_of H.S.left H.T.held H.K.records H.S.faults H.T.faults H.K.faults)
-        (telling_of N.D.coming N.D.out N.D.back N.D.faults N.D.L.left N.D.L.held N.D.L.read_faults
+        (telling_of N.D.coming N.D.out N.D.back N.D.faults N.D.asked N.D.L.left N.D.L.held N.D.L.read_faults
         N.D.L.write_faults) settings keeper
         (record { host = view_of H.seen H.openings host.old; network = N.seen network.old })
         (record { host = view_of H.seen H.openings host.new; network = N.seen network.new })

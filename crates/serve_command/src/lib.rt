@@ -8,6 +8,8 @@ mod command;
 mod gated;
 mod report;
 mod serving;
+#[cfg(test)]
+mod starved;
 mod status;
 #[cfg(test)]
 mod tests;

@@ -47,7 +47,7 @@ where
     <N::D as Door>::L: Send,
     requires few { workers ≤ 64 }
     requires waits { (0 < limits.idle_turns) × (0 < limits.door_turns) }
-    ensures served { ServesOnNetwork (service_of (telling_of N.D.coming N.D.out N.D.back N.D.faults
+    ensures served { ServesOnNetwork (service_of (telling_of N.D.coming N.D.out N.D.back N.D.faults N.D.asked
         N.D.L.left N.D.L.held N.D.L.read_faults N.D.L.write_faults) rolling limits.idle_turns
         limits.door_turns) (record { records = K.records; faults = K.faults })
         (record { feed = feed.now; address = address.now; workers = workers })

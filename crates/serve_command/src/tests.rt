@@ -3,6 +3,7 @@
 
 use crate::gated::{Gated, GatedLink};
 use crate::serve_by_settings;
+use crate::starved::StarvedDoor;
 use pool_doors::{Arrival, MemDoor};
 use pool_io::{MemFile, MemHost, MemSink, MemSource, Name, Piece, Script, Turn};
 use pool_network::{MemLink, MemNetwork};
@@ -55,27 +56,45 @@ const ANSWERS: &str = "0000010600000200000000000000142f00000700000001000000fffff
     111111111111111111111111111111111111140420f00ffff7f2000801c140000010000000900000001000000010000\
     0000000000";
 
+/// What a miner is told who opens once the first one has left: its channel is the second, and has the
+/// lead that is free again.
+const ANSWERS_ON_2: &str = "0000010600000200000000000000142f00000700000002000000fffffffffffffffffff\
+    fffffffffffffffffffffffffffffffffffffffffffff0800040000000000801f52000002000000010000000000000\
+    02001002c0002000000010000000000000000000000000000000000000000000000000000000000000000ffffffff0\
+    e51511300ffffffff01e80300000000000001510000000000802030000002000000010000001111111111111111111\
+    11111111111111111111111111111111111111111111140420f00ffff7f2000801c140000020000000900000001000\
+    0000100000000000000";
+
+/// The answers to a setup and an opening alone.
+const OPENED: &str =
+    "0000010600000200000000000000142f00000700000001000000ffffffffffffffffffffffffff\
+    ffffffffffffffffffffffffffffffffffffff08000400000000";
+
 /// A link's frames: the place of the link whose bytes it waits for, how many, and the frame. One
 /// without digits is the end.
 type Frames = &'static [(usize, u64, &'static str)];
 
-/// Sessions on a feed's link and two miners': their frames, the number of the keeper's append that
-/// fails, and what is left.
+/// Sessions on a feed's link and two miners': their frames, whether both miners come to one door, an
+/// Idle answer between them, the numbers of the keeper's append and of each door's answer that fail,
+/// and what is left.
 struct Meeting {
     says: &'static str,
     feed: Frames,
     first: Frames,
     second: Frames,
+    at_one_door: bool,
     failing: Option<u64>,
+    failing_answer: Option<u64>,
     status: u8,
     report: &'static str,
-    /// What the feed's link and the first miner's hold, where that doesn't depend on who comes first.
+    /// What the feed's link and those of the first door hold, where that doesn't depend on who comes
+    /// first.
     held: Option<(&'static [&'static str], &'static [&'static str])>,
 }
 
 /// Setup and opening are answered by 12 and 53 bytes, a template and a tip by 88 and 54, a credited
 /// share by 26; a feed is greeted by 34 bytes, and told of a block by 103.
-const MEETINGS: [Meeting; 3] = [
+const MEETINGS: [Meeting; 5] = [
     Meeting {
         says: "the second opens after the first, then come template and tip, then the share",
         feed: &[
@@ -91,7 +110,9 @@ const MEETINGS: [Meeting; 3] = [
             (1, 233, ""),
         ],
         second: &[(1, 65, SETUP), (2, 12, OPENING), (2, 207, "")],
+        at_one_door: false,
         failing: None,
+        failing_answer: None,
         status: 0,
         report: "served\nfeed done\nsessions 3\nevents 12\ncredits 1\nblocks 1\npool 10\n\
             account a 1 990\n",
@@ -112,7 +133,9 @@ const MEETINGS: [Meeting; 3] = [
             (2, 207, SHARE),
             (2, 233, ""),
         ],
+        at_one_door: false,
         failing: None,
+        failing_answer: None,
         status: 0,
         report: "served\nfeed done\nsessions 3\nevents 11\ncredits 1\nblocks 1\npool 10\n\
             account a 1 990\n",
@@ -138,11 +161,59 @@ const MEETINGS: [Meeting; 3] = [
             (2, 207, SHARE_ON_2),
             (2, 233, ""),
         ],
+        at_one_door: false,
         failing: Some(8),
+        failing_answer: None,
         status: 6,
         report: "served\nfeed done\nsessions 3\nevents 12\ncredits 1\nblocks 1\npool 10\n\
             account a 1 990\n",
         held: None,
+    },
+    Meeting {
+        says: "both doors fail once their caller has left",
+        feed: &[
+            (0, 34, ACCEPTED),
+            (2, 65, TEMPLATE),
+            (0, 34, TIP),
+            (0, 137, ""),
+        ],
+        first: &[
+            (1, 0, SETUP),
+            (1, 12, OPENING),
+            (1, 207, SHARE),
+            (1, 233, ""),
+        ],
+        second: &[(1, 65, SETUP), (2, 12, OPENING), (2, 207, "")],
+        at_one_door: false,
+        failing: None,
+        failing_answer: Some(1),
+        status: 7,
+        report: "served\nfeed done\nsessions 3\nevents 12\ncredits 1\nblocks 1\npool 10\n\
+            account a 1 990\n",
+        held: Some((&[GREETING, SOLUTION], &[ANSWERS])),
+    },
+    Meeting {
+        says: "the second miner comes to the first one's door when that one has left",
+        feed: &[
+            (0, 34, ACCEPTED),
+            (2, 65, TEMPLATE),
+            (0, 34, TIP),
+            (0, 137, ""),
+        ],
+        first: &[(1, 0, SETUP), (1, 12, OPENING), (1, 65, "")],
+        second: &[
+            (2, 0, SETUP),
+            (2, 12, OPENING),
+            (2, 207, SHARE_ON_2),
+            (2, 233, ""),
+        ],
+        at_one_door: true,
+        failing: None,
+        failing_answer: None,
+        status: 0,
+        report: "served\nfeed done\nsessions 3\nevents 12\ncredits 1\nblocks 1\npool 10\n\
+            account a 1 990\n",
+        held: Some((&[GREETING, SOLUTION], &[OPENED, ANSWERS_ON_2])),
     },
 ];
 
@@ -218,13 +289,36 @@ fn link_of<'a>(
     Ok(GatedLink::new(coming, Vec::new(alloc), place, taken))
 }
 
-/// A door to which one comes.
-fn door_of<L: Drop>(alloc: Global, link: L) -> Result<MemDoor<L>, AllocError> {
-    let mut coming = VecDeque::new(alloc);
-    coming
-        .push_back(Arrival::Caller(link))
+/// Doors to which the miners of a meeting come.
+fn doors_of<'a>(
+    alloc: Global,
+    meeting: &Meeting,
+    taken: &'a [AtomicU64],
+) -> Result<Vec<MemDoor<GatedLink<'a>>>, Fail> {
+    let first = link_of(alloc, meeting.first, 1, taken)?;
+    let second = link_of(alloc, meeting.second, 2, taken)?;
+    let mut at_first = VecDeque::new(alloc);
+    let mut at_second = VecDeque::new(alloc);
+    at_first
+        .push_back(Arrival::Caller(first))
         .map_err(AllocError::from)?;
-    Ok(MemDoor::new(alloc, coming, Vec::new(alloc)))
+    if meeting.at_one_door {
+        at_first.push_back(Arrival::Idle).map_err(AllocError::from)?;
+        at_first
+            .push_back(Arrival::Caller(second))
+            .map_err(AllocError::from)?;
+    } else {
+        at_second
+            .push_back(Arrival::Caller(second))
+            .map_err(AllocError::from)?;
+    }
+    let mut doors = Vec::new(alloc);
+    for coming in [at_first, at_second] {
+        let failing = listed(alloc, meeting.failing_answer)?;
+        let door = MemDoor::new(alloc, coming, failing);
+        doors.push(door).map_err(AllocError::from)?;
+    }
+    Ok(doors)
 }
 
 /// Whether these bytes are the frames that hex spells.
@@ -252,15 +346,24 @@ fn held<'a, 'b>(links: &'a [GatedLink<'b>]) -> &'a [u8] {
     }
 }
 
-/// The same of the first door, where one list of doors came back.
-fn held_at_first<'a, 'b>(lists: &'a [Vec<MemDoor<GatedLink<'b>>>]) -> &'a [u8] {
+/// The links that came back to the first door, where one list of doors came back.
+fn links_at_first<'a, 'b>(lists: &'a [Vec<MemDoor<GatedLink<'b>>>]) -> &'a [GatedLink<'b>] {
     let [doors] = lists else {
-        return b"nothing came back";
+        return &[];
     };
     match doors.as_slice() {
-        [first, ..] => held(first.links()),
-        [] => b"nothing came back",
+        [first, ..] => first.links(),
+        [] => &[],
     }
+}
+
+/// Whether these links hold the frames that hex spells, one text for each.
+fn hold_frames(alloc: Global, links: &[GatedLink<'_>], held: &[&str]) -> Result<bool, Fail> {
+    let mut same = links.len() == held.len();
+    for (link, frames) in links.iter().zip(held) {
+        same = same && are_frames(alloc, link.bytes(), &[*frames])?;
+    }
+    Ok(same)
 }
 
 /// Serves the sessions of a meeting, of whose links the peers have taken so many bytes, and compares
@@ -276,11 +379,7 @@ fn meet<R: Threads + Wait + Abort + Sync>(
     to_dial
         .push_back(link_of(alloc, meeting.feed, 0, taken)?)
         .map_err(AllocError::from)?;
-    let mut doors = Vec::new(alloc);
-    for (place, frames) in [(1, meeting.first), (2, meeting.second)] {
-        let door = door_of(alloc, link_of(alloc, frames, place, taken)?)?;
-        doors.push(door).map_err(AllocError::from)?;
-    }
+    let doors = doors_of(alloc, meeting, taken)?;
     let mut network = MemNetwork::new(alloc, to_dial, doors);
     let status = serve_by_settings(rt, alloc, &mut host, &mut network, "settings", "ledger");
     assert_eq!(rt; status.code(), meeting.status, "{}", meeting.says);
@@ -290,8 +389,13 @@ fn meet<R: Threads + Wait + Abort + Sync>(
         meeting.says
     );
     if let Some((feed, first)) = &meeting.held {
-        assert!(rt; are_frames(alloc, held(network.links()), feed)?);
-        assert!(rt; are_frames(alloc, held_at_first(network.doors()), first)?);
+        assert!(rt;
+            are_frames(alloc, held(network.links()), feed)?,
+            "{}",
+            meeting.says
+        );
+        let links = links_at_first(network.doors());
+        assert!(rt; hold_frames(alloc, links, first)?, "{}", meeting.says);
     }
     Ok(())
 }
@@ -405,4 +509,39 @@ fn each_failing_call_has_its_status_and_all_comes_back(rt: HostRuntime) -> Resul
         serve_nobody(&rt, rt.alloc(), case)?;
     }
     Ok(())
+}
+
+/// Serves at a door that has no memory for a caller: it is asked no more, the report is printed, and
+/// the status says so.
+fn serve_without_memory<R: Threads + Wait + Abort + Sync>(
+    rt: &R,
+    alloc: Global,
+) -> Result<(), Fail> {
+    let mut host = host(alloc, SETTINGS, None, None, None)?;
+    let mut to_dial = VecDeque::new(alloc);
+    let source = MemSource::new(Vec::new(alloc), Vec::new(alloc));
+    let sink = MemSink::new(Vec::new(alloc), Vec::new(alloc));
+    to_dial
+        .push_back(MemLink::new(source, sink))
+        .map_err(AllocError::from)?;
+    let mut doors = Vec::new(alloc);
+    for _ in 0..2 {
+        doors.push(StarvedDoor::new()).map_err(AllocError::from)?;
+    }
+    let mut network = MemNetwork::new(alloc, to_dial, doors);
+    let status = serve_by_settings(rt, alloc, &mut host, &mut network, "settings", "ledger");
+    assert_eq!(rt; status.code(), 8);
+    assert!(rt; printed(&host) == REPORT.as_bytes());
+    assert_eq!(rt; network.doors().len(), 1);
+    for doors in network.doors() {
+        for door in doors.as_slice() {
+            assert_eq!(rt; door.asked(), 1);
+        }
+    }
+    Ok(())
+}
+
+#[test]
+fn a_door_without_memory_is_asked_no_more(rt: HostRuntime) -> Result<(), Fail> {
+    serve_without_memory(&rt, rt.alloc())
 }

@@ -8,4 +8,6 @@ mod status;
 pub use command::serve_by_settings;
 
 #[cfg(test)]
+mod rows_tests;
+#[cfg(test)]
 mod tests;

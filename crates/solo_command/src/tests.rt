@@ -8,7 +8,7 @@ use std::process::Abort;
 use std::test::Fail;
 
 /// The worked session's settings.
-const SETTINGS: &str =
+pub(crate) const SETTINGS: &str =
     r#"{"pool_script":"51","least_class":0,"fee":100,"rule":"proportional","ntime_window":600,"credit_limit":3}"#;
 
 /// Its frames: a setup, the opening of a channel, a template, its tip, and a share.
@@ -25,7 +25,7 @@ const FRAMES: [&str; 5] = [
 
 /// Which call fails, of those to one part of the outside.
 #[derive(Clone, Copy)]
-enum Failing {
+pub(crate) enum Failing {
     Nothing,
     /// Of the host's openings.
     Opening(u64),
@@ -77,7 +77,7 @@ fn listed(alloc: Global, call: Option<u64>) -> Result<Vec<u64>, AllocError> {
 }
 
 /// A piece of bytes that hex spells.
-fn piece(alloc: Global, text: &str) -> Result<Turn, Fail> {
+pub(crate) fn piece(alloc: Global, text: &str) -> Result<Turn, Fail> {
     let bytes = hex::decode(alloc, text)?;
     if bytes.is_empty() {
         return Ok(Turn::Idle);
@@ -86,8 +86,8 @@ fn piece(alloc: Global, text: &str) -> Result<Turn, Fail> {
 }
 
 /// The settings' file.
-fn files(alloc: Global) -> Result<Vec<MemFile>, AllocError> {
-    let bytes = SETTINGS.as_bytes().to_vec(alloc)?;
+fn files(alloc: Global, settings: &str) -> Result<Vec<MemFile>, AllocError> {
+    let bytes = settings.as_bytes().to_vec(alloc)?;
     let mut contents = Vec::new(alloc);
     if !bytes.is_empty() {
         contents.push(Turn::Piece(Piece::of(bytes)))?;
@@ -104,8 +104,13 @@ fn files(alloc: Global) -> Result<Vec<MemFile>, AllocError> {
     Ok(files)
 }
 
-/// A host with the worked session's input, one call of which fails.
-fn host(alloc: Global, failing: Failing) -> Result<MemHost, Fail> {
+/// A host with these settings and this input, one call of which fails.
+pub(crate) fn host_with(
+    alloc: Global,
+    settings: &str,
+    turns: Vec<Turn>,
+    failing: Failing,
+) -> Result<MemHost, Fail> {
     let (opening, take, put, append) = match failing {
         Failing::Nothing => (None, None, None, None),
         Failing::Opening(call) => (Some(call), None, None, None),
@@ -113,10 +118,6 @@ fn host(alloc: Global, failing: Failing) -> Result<MemHost, Fail> {
         Failing::Put(call) => (None, None, Some(call), None),
         Failing::Append(call) => (None, None, None, Some(call)),
     };
-    let mut turns = Vec::new(alloc);
-    for frame in FRAMES {
-        turns.push(piece(alloc, frame)?)?;
-    }
     let input = Script {
         contents: turns,
         failing: listed(alloc, take)?,
@@ -126,7 +127,16 @@ fn host(alloc: Global, failing: Failing) -> Result<MemHost, Fail> {
         failing: listed(alloc, put)?,
     };
     let host = MemHost::new(alloc, input, output, listed(alloc, opening)?);
-    Ok(host.with_files(files(alloc)?, listed(alloc, append)?))
+    Ok(host.with_files(files(alloc, settings)?, listed(alloc, append)?))
+}
+
+/// A host with the worked session's input, one call of which fails.
+fn host(alloc: Global, failing: Failing) -> Result<MemHost, Fail> {
+    let mut turns = Vec::new(alloc);
+    for frame in FRAMES {
+        turns.push(piece(alloc, frame)?)?;
+    }
+    host_with(alloc, SETTINGS, turns, failing)
 }
 
 /// How many bytes the sink holds that came back, if one did.

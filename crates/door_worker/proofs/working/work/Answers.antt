@@ -7,7 +7,6 @@ loop-init g c = record {
   desk = c.requires.desk;
   pass = refl;
   turns = c.requires.waits.1;
-  counts = refl;
   attends = on_none _ _ c.args.limits.door_turns c.args.limits.door_turns c.args.door.now _;
 }
 
@@ -16,9 +15,8 @@ loop-preserved g c = record {
   desk = c.in-Ok.ensures.desk;
   pass = c.in-Ok.ensures.pass ∙ c.loop.invariant.pass;
   turns = c.in-Ok.ensures.next.next.1;
-  counts = c.in-Ok.ensures.next.next.2 ∙ c.loop.invariant.counts;
   attends = on_next c.loop.invariant.attends c.in-Ok.ensures.next;
 }
 
 pub returns-in-Err-clause-worked : goal.returns-in-Err-clause-worked
-returns-in-Err-clause-worked g c = worked c.loop.invariant.attends c.loop.invariant.counts c.in-Err.ensures.next
+returns-in-Err-clause-worked g c = worked c.loop.invariant.attends c.in-Err.ensures.next

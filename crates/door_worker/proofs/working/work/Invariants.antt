@@ -8,7 +8,6 @@ invariant-loop g l = record {
   desk : l.asker.pass.now.table ≡ l.asker.desk.now.table;
   pass : l.asker.pass.ghost_name ≡ l.initial.asker.pass.ghost_name;
   turns : 0 < l.turns;
-  counts : g.D.Door.faults l.door ≡ g.D.Door.faults l.initial.door;
   attends :
       AttendsOn
       (record {
@@ -16,6 +15,7 @@ invariant-loop g l = record {
         out = g.D.Door.out;
         back = g.D.Door.back;
         faults = g.D.Door.faults;
+        asked = g.D.Door.asked;
         link = record {
           left = g.D.L.Link.left;
           held = g.D.L.Link.held;
