@@ -1,27 +1,21 @@
-//! The program: the words of the command line, the top call `run`, and the adapters of the real
-//! system.
+//! The program: `main`, which gives the words of the command line to the top call `run`, and the
+//! adapters of the real system.
 #![tactic(auto)]
 
 ghost use Rattle.std.specs.Prelude.{◌≡◌, IfOk, map, drop, string_bytes};
 ghost use Rattle.std.specs.Vec.Iter.{into_iter_items};
 
-#[cfg(test)]
-mod commands_tests;
 mod edge;
 #[cfg(test)]
 mod edge_tests;
 mod file_keeper;
-mod run;
 mod stream_host;
 mod tcp;
 #[cfg(test)]
 mod tcp_tests;
-#[cfg(test)]
-mod tests;
-mod words;
 
+use command_line::{Word, run};
 use pool_turns::Status;
-use run::run;
 use std::alloc::{AllocError, Global};
 use std::env::Args;
 use std::process::ExitCode;
@@ -29,7 +23,6 @@ use std::rt::Env;
 use std::{env, io};
 use stream_host::StreamHost;
 use tcp::TcpNetwork;
-use words::Word;
 
 /// The words after the program's name.
 fn words_of<R: Env + AllocGlobal>(rt: &R) -> io::Result<Vec<Word>> {

@@ -1,7 +1,7 @@
 use Rattle.std.proofs.Common.{◌++◌, ◌<◌, ℕ, get_or, take, drop, sym, ap, ◌∙◌, arith, length, length-take, length-drop}
 use Rattle.std.specs.Int.{w32, to_le_bytes}
-use Rattle.pool_cli.proofs.JobBytes.{job_parts}
-use Rattle.pool_cli.proofs.words.job_of.Goals as goal
+use Rattle.command_line.proofs.JobBytes.{job_parts}
+use Rattle.command_line.proofs.words.job_of.Goals as goal
 
 pub returns : goal.returns
 returns c =

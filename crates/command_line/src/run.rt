@@ -10,9 +10,9 @@ ghost use Rattle.migrate_command.specs.Row.{MigrateRow};
 ghost use Rattle.serve_command.specs.Row.{ServeRow};
 ghost use Rattle.settings_file.specs.Views.{IsHandedBack, view_of};
 ghost use Rattle.solo_command.specs.Row.{SoloRow, accounts_of, meanings_of};
-ghost use Rattle.pool_cli.specs.declared.words.Form.{Form as Asked};
-ghost use Rattle.pool_cli.specs.Forms.{HasNoForm, IsAudit, IsForm, IsMigrate, IsServe, IsSolo};
-ghost use Rattle.pool_cli.specs.Running.{DoesForm, IsAlone, IsWithinLimits, OwesRow};
+ghost use Rattle.command_line.specs.declared.words.Form.{Form as Asked};
+ghost use Rattle.command_line.specs.Forms.{HasNoForm, IsAudit, IsForm, IsMigrate, IsServe, IsSolo};
+ghost use Rattle.command_line.specs.Running.{DoesForm, IsAlone, IsWithinLimits, OwesRow};
 
 use crate::words::{Form, Word, audit_name, form_of, migrate_names, serve_names, solo_names};
 use audit_command::audit_ledger;

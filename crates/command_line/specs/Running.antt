@@ -13,9 +13,9 @@ use Rattle.serve_command.specs.Row.{ServeRow, WorldView}
 use Rattle.settings_file.specs.Views.{HostView}
 use Rattle.solo_session.specs.Solo.{Accounts}
 use Rattle.solo_command.specs.Row.{SoloRow, meanings_of}
-use Rattle.pool_cli.specs.declared.words.Form.{Form}
-use Rattle.pool_cli.specs.declared.words.Form.TheVariants.{SoloFixed, Frames, Solo, Serve, Audit, Migrate}
-use Rattle.pool_cli.specs.Forms.{IsAudit, IsMigrate, IsServe, IsSolo}
+use Rattle.command_line.specs.declared.words.Form.{Form}
+use Rattle.command_line.specs.declared.words.Form.TheVariants.{SoloFixed, Frames, Solo, Serve, Audit, Migrate}
+use Rattle.command_line.specs.Forms.{IsAudit, IsMigrate, IsServe, IsSolo}
 
 -- a command over standard input and output: what it owes at each status, and that it asked for
 -- these alone

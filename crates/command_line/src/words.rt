@@ -3,9 +3,9 @@
 ghost use Rattle.std.specs.Prelude.{◌≡◌, ◌↔◌, ◌<◌, ◌^◌, ℕ, List, string_bytes, length, IsTrue};
 ghost use Rattle.std.specs.Prelude.{IfSome, IfNone, Ok, [], ◌∷◌, codes};
 ghost use Rattle.hex.specs.Hex.{decode_sized};
-ghost use Rattle.pool_cli.specs.Numbers.{IsNumber};
+ghost use Rattle.command_line.specs.Numbers.{IsNumber};
 ghost use Rattle.fixed_job.specs.declared.judge.Job.{Job as Work};
-ghost use Rattle.pool_cli.specs.Forms.{IsAudit, IsForm, IsFrames, IsJob, IsMigrate, IsServe, IsSolo, IsSoloFixed};
+ghost use Rattle.command_line.specs.Forms.{IsAudit, IsForm, IsFrames, IsJob, IsMigrate, IsServe, IsSolo, IsSoloFixed};
 
 use fixed_job::Job;
 use hex::FromHex;

@@ -4,11 +4,11 @@ use Rattle.std.specs.Int.{w32, to_le_bytes, from_le_bytes}
 use Rattle.std.proofs.lemmas.List.{take_at, drop_at}
 use Rattle.std.proofs.lemmas.Nat.{from_le_bytes-to_le_bytes_4}
 use Rattle.fixed_job.specs.declared.judge.Job.{Job}
-use Rattle.pool_cli.specs.Numbers.{IsNumber}
-use Rattle.pool_cli.specs.declared.words.Form.{Form}
-use Rattle.pool_cli.specs.declared.words.Form.TheVariants.{SoloFixed, Frames, Solo, Serve, Audit, Migrate}
-use Rattle.pool_cli.specs.Forms.{IsJob, IsSoloFixed, IsForm}
-use Rattle.pool_cli.specs.Running.{IsWithinLimits}
+use Rattle.command_line.specs.Numbers.{IsNumber}
+use Rattle.command_line.specs.declared.words.Form.{Form}
+use Rattle.command_line.specs.declared.words.Form.TheVariants.{SoloFixed, Frames, Solo, Serve, Audit, Migrate}
+use Rattle.command_line.specs.Forms.{IsJob, IsSoloFixed, IsForm}
+use Rattle.command_line.specs.Running.{IsWithinLimits}
 
 one_number : (text other : List ℕ) (m n : ℕ) → text ≡ other → IsNumber text m → IsNumber other n → m ≡ n
 one_number text other m n same a b = sym a.value ∙ ap (λ t. Rattle.std.specs.Str.Parse.digits_value 10 t) same ∙ b.value

@@ -1,0 +1,9 @@
+//! The words of a command line, and the top call `run`, which does what they ask for over any host
+//! and any network. Nothing here touches the real system.
+#![tactic(auto)]
+
+mod run;
+mod words;
+
+pub use run::run;
+pub use words::{Form, Word};
