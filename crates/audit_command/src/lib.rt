@@ -5,6 +5,3 @@
 mod command;
 
 pub use command::audit_ledger;
-
-#[cfg(test)]
-mod tests;

@@ -9,6 +9,3 @@ mod pieces;
 pub use command::migrate_ledger;
 pub use copying::{Copied, Copier, copy_ledger};
 pub use pieces::append_ledger;
-
-#[cfg(test)]
-mod tests;

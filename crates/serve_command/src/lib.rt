@@ -4,14 +4,8 @@
 #![tactic(auto)]
 
 mod command;
-#[cfg(test)]
-mod gated;
 mod report;
 mod serving;
-#[cfg(test)]
-mod starved;
 mod status;
-#[cfg(test)]
-mod tests;
 
 pub use command::serve_by_settings;

@@ -6,8 +6,3 @@ mod command;
 mod status;
 
 pub use command::serve_by_settings;
-
-#[cfg(test)]
-mod rows_tests;
-#[cfg(test)]
-mod tests;

@@ -1,5 +1,6 @@
-//! Links that wait for each other, so that sessions meet in one process.
+//! Links that wait for each other, so that sessions meet in one process, and the doors to them.
 
+use pool_doors::{Came, Door, MemDoor};
 use pool_io::{SinkFailed, Took};
 use pool_links::Link;
 use std::collections::VecDeque;
@@ -7,42 +8,23 @@ use std::sync::atomic::{AtomicU64, Ordering};
 
 /// A frame that comes once the link at a place has put so many bytes. One without bytes is the end.
 #[derive(Drop)]
-pub(crate) struct Gated {
-    pub(crate) place: usize,
-    pub(crate) bytes: u64,
-    pub(crate) frame: Vec<u8>,
+pub struct Gated {
+    pub place: usize,
+    pub bytes: u64,
+    pub frame: Vec<u8>,
 }
 
 /// Brings frames, each once its gate is open, and is Idle until then. It tells nothing.
 #[derive(Drop)]
-pub(crate) struct GatedLink<'a> {
-    coming: VecDeque<Gated>,
-    held: Vec<u8>,
-    place: usize,
+pub struct GatedLink<'a> {
+    pub coming: VecDeque<Gated>,
+    pub held: Vec<u8>,
+    pub place: usize,
     /// How many bytes each link's peer has taken, by the link's place.
-    taken: &'a [AtomicU64],
+    pub taken: &'a [AtomicU64],
 }
 
-impl<'a> GatedLink<'a> {
-    pub(crate) fn new(
-        coming: VecDeque<Gated>,
-        held: Vec<u8>,
-        place: usize,
-        taken: &'a [AtomicU64],
-    ) -> GatedLink<'a> {
-        GatedLink {
-            coming,
-            held,
-            place,
-            taken,
-        }
-    }
-
-    /// The bytes that the peer has taken.
-    pub(crate) fn bytes(&self) -> &[u8] {
-        &self.held
-    }
-
+impl GatedLink<'_> {
     /// Whether the next frame may come.
     fn is_open(&self, gate: &Gated) -> bool {
         let taken = self.taken;
@@ -91,5 +73,62 @@ impl Link for GatedLink<'_> {
             count.fetch_add(piece.len() as u64, Ordering::Release);
         }
         Ok(piece.len())
+    }
+}
+
+/// A door in memory, or one that has no memory for anybody. It tells nothing.
+#[derive(Drop)]
+pub struct CaseDoor<'a> {
+    door: MemDoor<GatedLink<'a>>,
+    is_starved: bool,
+    asked: u64,
+}
+
+impl<'a> CaseDoor<'a> {
+    pub fn new(door: MemDoor<GatedLink<'a>>, is_starved: bool) -> CaseDoor<'a> {
+        CaseDoor {
+            door,
+            is_starved,
+            asked: 0,
+        }
+    }
+
+    /// The connections that came back, in their order.
+    pub fn links(&self) -> &[GatedLink<'a>] {
+        self.door.links()
+    }
+
+    /// How often it was asked.
+    pub fn asked(&self) -> u64 {
+        self.asked
+    }
+}
+
+impl<'a> Door for CaseDoor<'a> {
+    ghost use Rattle.std.specs.Prelude.{None};
+    ghost use Rattle.pool_doors.specs.Memory.{door_faults, links_out};
+
+    type L = GatedLink<'a>;
+
+    ghost faults = { λ door. door_faults door.door };
+
+    ghost asked = { λ door. door.asked };
+
+    ghost coming = { λ _. None };
+
+    ghost out = { λ door. links_out door.door };
+
+    ghost back = { λ _. None };
+
+    fn accept(&mut self) -> Came<GatedLink<'a>> {
+        self.asked = self.asked.saturating_add(1);
+        if self.is_starved {
+            return Came::Memory;
+        }
+        self.door.accept()
+    }
+
+    fn done(&mut self, link: GatedLink<'a>) {
+        self.door.done(link);
     }
 }

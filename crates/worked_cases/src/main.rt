@@ -1,0 +1,105 @@
+//! Runs the top call for each case of the files that the words name, over a host and a network in
+//! memory, and prints a line a case: `ok` and its title, or what isn't as the case wants it. The
+//! files say all that there is to a case; here stands only how they are read.
+#![tactic(auto)]
+
+mod case;
+mod comparing;
+mod expressions;
+mod links;
+mod outside;
+
+use crate::case::{Case, numbers};
+use crate::comparing::{Outcome, differences};
+use crate::expressions::Names;
+use anyhow::{Context, Result};
+use command_line::run;
+use std::alloc::Global;
+use std::sync::Wait;
+use std::sync::atomic::AtomicU64;
+use std::thread::Threads;
+use std::{env, fs};
+
+fn main(rt: HostRuntime) -> Result<()> {
+    let alloc = rt.alloc();
+    let mut words = env::args(&rt)?;
+    let _program = words.next();
+    for word in words {
+        let text = fs::read_to_string(&rt, word.as_str())?;
+        run_file(&rt, alloc, text.as_str()).context("a file of cases")?;
+    }
+    Ok(())
+}
+
+/// Runs the cases of a file. The lines of a group stand before those of each of its cases.
+fn run_file<R: Print + Threads + Wait + Sync>(rt: &R, alloc: Global, text: &str) -> Result<()> {
+    let mut names = Names::new(alloc);
+    let mut case = Case::new(alloc);
+    for line in text.lines() {
+        if line.is_empty() || line.starts_with('#') {
+            continue;
+        }
+        let (key, rest) = line.split_once(' ').unwrap_or((line, ""));
+        match key {
+            "bytes" => names.add_bytes(rest)?,
+            "text" => names.add_text(rest)?,
+            "group" => {
+                run_case(rt, alloc, &names, &case)?;
+                case.begin_group();
+            }
+            "case" => {
+                run_case(rt, alloc, &names, &case)?;
+                case.begin(rest);
+            }
+            _ => case.add(key, rest)?,
+        }
+    }
+    run_case(rt, alloc, &names, &case)
+}
+
+/// Runs a case, once for each size of the pieces that its bytes come in, and prints what came of it.
+fn run_case<R: Print + Threads + Wait + Sync>(
+    rt: &R,
+    alloc: Global,
+    names: &Names,
+    case: &Case<'_>,
+) -> Result<()> {
+    let Some(title) = case.title() else {
+        return Ok(());
+    };
+    for size in numbers(alloc, case.last("sizes").unwrap_or("1000000"))? {
+        let found = run_once(rt, alloc, names, case, size as usize).context("a case")?;
+        if found.is_empty() {
+            println!(rt; "ok {title}")?;
+        } else {
+            println!(rt; "WRONG {title}, in pieces of {size}:{found}")?;
+        }
+    }
+    Ok(())
+}
+
+/// Runs a case whose bytes come in pieces of at most so many, and tells what isn't as it wants it.
+fn run_once<R: Threads + Wait + Sync>(
+    rt: &R,
+    alloc: Global,
+    names: &Names,
+    case: &Case<'_>,
+    size: usize,
+) -> Result<String> {
+    let taken = [
+        AtomicU64::new(0),
+        AtomicU64::new(0),
+        AtomicU64::new(0),
+        AtomicU64::new(0),
+    ];
+    let mut host = outside::host_of(alloc, names, case, size)?;
+    let mut network = outside::network_of(alloc, names, case, &taken)?;
+    let words = case.words(alloc, names)?;
+    let status = run(rt, alloc, &mut host, &mut network, &words);
+    let outcome = Outcome {
+        status,
+        host,
+        network,
+    };
+    differences(alloc, names, case, &outcome)
+}
