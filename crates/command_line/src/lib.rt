@@ -2,8 +2,8 @@
 //! and any network. Nothing here touches the real system.
 #![tactic(auto)]
 
-mod run;
+mod top_call;
 mod words;
 
-pub use run::run;
+pub use top_call::run;
 pub use words::{Form, Word};

@@ -1,4 +1,4 @@
-use Rattle.command_line.proofs.run.solo_named.Goals as goal
+use Rattle.command_line.proofs.top_call.serve_named.Goals as goal
 
 pub returns-clause-row : goal.returns-clause-row
 returns-clause-row g c = (

@@ -1,5 +1,5 @@
 use Rattle.command_line.proofs.OneForm.{one_form}
-use Rattle.command_line.proofs.run.run.Goals as goal
+use Rattle.command_line.proofs.top_call.run.Goals as goal
 
 pub returns-in-Some-clause-does : goal.returns-in-Some-clause-does
 returns-in-Some-clause-does g c = λ form is. record {
