@@ -15,8 +15,6 @@ mod openings;
 mod pushes;
 mod shares;
 mod stream;
-#[cfg(test)]
-mod tests;
 mod turns;
 
 use crate::turns::Sharing;

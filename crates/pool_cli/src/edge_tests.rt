@@ -1,63 +1,284 @@
-//! What no clause says of the adapters of files: that they open, read and write, that an existing
-//! file isn't taken for a new one, and that what a failed append left behind is cut off.
+//! What no clause says of the adapters of streams and files: that each asks the system once, that
+//! every byte comes and stays as it is, that an existing file isn't taken for a new one, and that
+//! what a failed append left behind is cut off.
+
+ghost use Rattle.std.specs.Prelude.{◌≤◌, IfOk};
 
 use crate::file_keeper::FileKeeper;
 use crate::stream_host::StreamHost;
-use pool_io::{Host, HostError, Keeper, KeeperFailed, Source, Took};
+use pool_io::{Host, HostError, Keeper, KeeperFailed, Sink, SinkFailed, Source, Took};
+use std::alloc::{AllocGlobal, Global};
 use std::cell::Cell;
 use std::fs::{File, Metadata, OpenFile};
-use std::io::ErrorKind;
+use std::io::{ErrorKind, Read, Write};
 use std::os::unix::fs::FileExt;
-use std::path::PathBuf;
 use std::process::Abort;
+use std::rt::Files;
 use std::test::Fail;
 use std::{env, fs, io, process};
 
-/// A path at which no file stands.
-fn free_path(rt: &HostRuntime, name: &str) -> Result<PathBuf, Fail> {
+/// Makes a folder of this test's own, and stands in it, so that names may be short.
+pub fn stand_in_new_folder(rt: &HostRuntime, name: &str) -> Result<(), Fail> {
     let process = process::id(rt.process());
     let name = format!(in rt.alloc(); "maqefwi-{process}-{name}")?;
     let path = env::temp_dir(rt)?.join(rt.alloc(), name.as_str())?;
-    let _ = fs::remove_file(rt, path.as_path());
-    Ok(path)
+    fs::create_dir(rt, path.as_path())?;
+    env::set_current_dir(rt, path.as_path())?;
+    Ok(())
 }
 
-/// Whether an append of a short record answers this.
-fn appends<K: Keeper>(rt: &impl Abort, keeper: &mut K, record: &[u8]) -> Result<(), KeeperFailed> {
+/// Removes the folder in which the test stands.
+pub fn remove_folder(rt: &HostRuntime) -> Result<(), Fail> {
+    let path = env::current_dir(rt)?;
+    fs::remove_dir_all(rt, path.as_path())?;
+    Ok(())
+}
+
+/// Bytes of which no two places near one another look alike.
+pub fn pattern(alloc: Global, length: usize) -> Result<Vec<u8>, Fail> {
+    let mut bytes = Vec::new(alloc);
+    for at in 0..length as u64 {
+        bytes.push((at % 251 ^ at / 251 % 256) as u8)?;
+    }
+    Ok(bytes)
+}
+
+/// What an append of a short record answers.
+fn append<K: Keeper>(rt: &impl Abort, keeper: &mut K, record: &[u8]) -> Result<(), KeeperFailed> {
     assert!(rt; record.len() <= 300_100);
     keeper.append(record)
 }
 
-/// A file that writes half of a piece and then fails, at the one write of this number.
-#[derive(Drop)]
-struct Tearing<'a> {
-    file: File,
-    writes: &'a Cell<u8>,
-    fails: u8,
+/// A stream that counts its calls and answers each with what the cell says.
+#[derive(Clone, Copy)]
+struct Told<'a> {
+    answer: &'a Cell<Result<usize, ErrorKind>>,
+    calls: &'a Cell<u32>,
 }
 
-impl FileExt for Tearing<'_> {
+impl Told<'_> {
+    fn count(self, room: usize) -> io::Result<usize>
+        ensures { IfOk result (λ count. count ≤ room) }
+    {
+        self.calls.set(self.calls.get().saturating_add(1));
+        match self.answer.get() {
+            Ok(count) => Ok(count.min(room)),
+            Err(kind) => Err(io::Error::from(kind)),
+        }
+    }
+}
+
+impl Read for Told<'_> {
+    fn read(&mut self, buffer: &mut [u8]) -> io::Result<usize> {
+        self.count(buffer.len())
+    }
+}
+
+impl Write for Told<'_> {
+    fn write(&mut self, piece: &[u8]) -> io::Result<usize> {
+        self.count(piece.len())
+    }
+
+    fn flush(&mut self) -> io::Result<()> {
+        Ok(())
+    }
+}
+
+#[test]
+fn each_take_is_one_read_and_each_put_one_write(rt: HostRuntime) -> Result<(), Fail> {
+    let answer = Cell::new(Ok(0));
+    let calls = Cell::new(0);
+    let told = Told {
+        answer: &answer,
+        calls: &calls,
+    };
+    let mut host = StreamHost::new(rt.alloc(), told, told, rt);
+    let mut source = host.input()?;
+    let mut sink = host.output()?;
+    assert_eq!(rt; calls.get(), 0);
+    let failed = Err(SinkFailed::Failed);
+    for (call, (answered, took, put)) in [
+        (Ok(4), Took::Bytes(4), Ok(4)),
+        (Ok(1), Took::Bytes(1), Ok(1)),
+        (Err(ErrorKind::Interrupted), Took::Idle, failed),
+        (Err(ErrorKind::WouldBlock), Took::Idle, failed),
+        (Err(ErrorKind::BrokenPipe), Took::Failed, failed),
+        (Ok(2), Took::Bytes(2), Ok(2)),
+        // A write that takes nothing is a failure, and not the end of a loop.
+        (Ok(0), Took::End, failed),
+        (Ok(0), Took::End, failed),
+        (Err(ErrorKind::ConnectionReset), Took::Failed, failed),
+        (Ok(3), Took::Bytes(3), Ok(3)),
+    ]
+    .into_iter()
+    .enumerate()
+    {
+        answer.set(answered);
+        assert_eq!(rt; source.take(&mut [0; 4]), took, "{call}");
+        assert_eq!(rt; sink.put(b"abcd"), put, "{call}");
+        assert_eq!(rt; calls.get() as usize, 2 * call + 2);
+    }
+    host.done_sink(sink);
+    host.done_source(source);
+    assert_eq!(rt; calls.get(), 20);
+    Ok(())
+}
+
+/// Whether a source brings these bytes and then ends, in takes of so much room.
+fn brings<R: Abort, S: Source>(
+    rt: &R,
+    alloc: Global,
+    source: &mut S,
+    room: usize,
+    wanted: &[u8],
+) -> Result<(), Fail> {
+    assert!(rt; room > 0);
+    let mut buffer = Vec::new(alloc);
+    buffer.resize(room, 0)?;
+    let mut rest = wanted;
+    for _ in 0..wanted.len() {
+        if rest.is_empty() {
+            break;
+        }
+        let Took::Bytes(count) = source.take(&mut buffer) else {
+            panic!(rt; "nothing came before {} bytes", rest.len())
+        };
+        let Some((front, behind)) = rest.split_at_checked(count) else {
+            panic!(rt; "too much came")
+        };
+        assert!(rt; buffer.starts_with(front), "before {} bytes", rest.len());
+        rest = behind;
+    }
+    assert!(rt; rest.is_empty());
+    assert_eq!(rt; source.take(&mut buffer), Took::End);
+    assert_eq!(rt; source.take(&mut buffer), Took::End);
+    Ok(())
+}
+
+#[test]
+fn records_of_any_size_are_the_file_and_are_read_again(rt: HostRuntime) -> Result<(), Fail> {
+    stand_in_new_folder(&rt, "records")?;
+    let mut host = StreamHost::new(rt.alloc(), rt.stdin(), rt.stdout(), rt);
+    let mut keeper = host.open_keeper("ledger")?;
+    let wanted = pattern(rt.alloc(), 1_112_589)?;
+    let mut rest = wanted.as_slice();
+    for size in [
+        0, 1, 4_095, 4_096, 4_097, 100_000, 300_100, 99_999, 300_100, 0, 300_099, 2,
+    ] {
+        let Some((record, behind)) = rest.split_at_checked(size) else {
+            panic!(rt; "no record")
+        };
+        rest = behind;
+        assert_eq!(rt; append(&rt, &mut keeper, record), Ok(()), "{size}");
+        let held = fs::read(&rt, "ledger")?;
+        assert!(rt; wanted.starts_with(&held), "{size}");
+        assert_eq!(rt; held.len().saturating_add(rest.len()), wanted.len());
+    }
+    assert!(rt; rest.is_empty());
+    host.done_keeper(keeper);
+    for room in [1, 999, 1_000, 1_001, 65_536, 2_000_000] {
+        let mut source = host.open_source("ledger")?;
+        brings(&rt, rt.alloc(), &mut source, room, &wanted)?;
+        host.done_source(source);
+    }
+    remove_folder(&rt)
+}
+
+#[test]
+fn only_a_free_name_is_opened_for_a_keeper(rt: HostRuntime) -> Result<(), Fail> {
+    stand_in_new_folder(&rt, "names")?;
+    let longest = "n".repeat(rt.alloc(), 255)?;
+    let mut host = StreamHost::new(rt.alloc(), rt.stdin(), rt.stdout(), rt);
+    for length in 1..256 {
+        let Some(name) = longest.get(..length) else {
+            panic!(rt; "no name")
+        };
+        assert!(rt; matches!(host.open_source(name), Err(HostError::Failed)));
+        let mut keeper = host.open_keeper(name)?;
+        assert_eq!(rt; append(&rt, &mut keeper, b"kept"), Ok(()));
+        assert!(rt;
+            matches!(host.open_keeper(name), Err(HostError::Failed)),
+            "{name}"
+        );
+        assert_eq!(rt; append(&rt, &mut keeper, b" too"), Ok(()));
+        host.done_keeper(keeper);
+        assert!(rt;
+            matches!(host.open_keeper(name), Err(HostError::Failed)),
+            "{name}"
+        );
+        assert_eq!(rt;
+            fs::read(&rt, name)?.as_slice(),
+            b"kept too".as_slice(),
+            "{name}"
+        );
+    }
+    Ok(())
+}
+
+#[test]
+fn what_is_no_file_is_no_source(rt: HostRuntime) -> Result<(), Fail> {
+    stand_in_new_folder(&rt, "sources")?;
+    fs::create_dir(&rt, "folder")?;
+    let mut host = StreamHost::new(rt.alloc(), rt.stdin(), rt.stdout(), rt);
+    for name in ["", "missing", "folder/missing", "missing/name", "\0"] {
+        assert!(rt;
+            matches!(host.open_source(name), Err(HostError::Failed)),
+            "{name}"
+        );
+    }
+    for name in ["", "folder", "missing/name", "\0"] {
+        assert!(rt;
+            matches!(host.open_keeper(name), Err(HostError::Failed)),
+            "{name}"
+        );
+    }
+    let mut source = host.open_source("folder")?;
+    assert_eq!(rt; source.take(&mut [0; 2]), Took::Failed);
+    host.done_source(source);
+    remove_folder(&rt)
+}
+
+/// A file whose writes take five bytes at most. Its calls of some numbers fail, from `first` on and
+/// before `behind`; such a write has taken two.
+#[derive(Drop)]
+struct Failing<'a> {
+    file: File,
+    calls: &'a Cell<u32>,
+    first: u32,
+    behind: u32,
+}
+
+impl Failing<'_> {
+    fn fails(&self) -> bool {
+        let call = self.calls.get();
+        self.calls.set(call.saturating_add(1));
+        self.first <= call && call < self.behind
+    }
+}
+
+impl FileExt for Failing<'_> {
     fn read_at(&self, buffer: &mut [u8], offset: u64) -> io::Result<usize> {
         self.file.read_at(buffer, offset)
     }
 
     fn write_at(&self, piece: &[u8], offset: u64) -> io::Result<usize> {
-        let write = self.writes.get();
-        self.writes.set(write.saturating_add(1));
-        if write != self.fails {
-            return self.file.write_at(piece, offset);
+        if self.fails() {
+            self.file.write_at(&piece[..piece.len().min(2)], offset)?;
+            return Err(io::Error::from(ErrorKind::BrokenPipe));
         }
-        self.file.write_at(&piece[..piece.len() / 2], offset)?;
-        Err(io::Error::from(ErrorKind::BrokenPipe))
+        self.file.write_at(&piece[..piece.len().min(5)], offset)
     }
 }
 
-impl OpenFile for Tearing<'_> {
+impl OpenFile for Failing<'_> {
     fn metadata(&self) -> io::Result<Metadata> {
         self.file.metadata()
     }
 
     fn set_len(&self, size: u64) -> io::Result<()> {
+        if self.fails() {
+            return Err(io::Error::from(ErrorKind::BrokenPipe));
+        }
         self.file.set_len(size)
     }
 
@@ -70,50 +291,53 @@ impl OpenFile for Tearing<'_> {
     }
 }
 
-#[test]
-fn a_keeper_cuts_off_what_a_failed_append_left(rt: HostRuntime) -> Result<(), Fail> {
-    let path = free_path(&rt, "torn")?;
-    let writes = Cell::new(0);
-    let mut keeper = FileKeeper::new(Tearing {
-        file: File::create_new(&rt, path.as_path())?,
-        writes: &writes,
-        fails: 1,
+/// Appends records over a file that fails so, one of this size behind the first that may be torn.
+/// Each is kept whole behind those before it or answered by a failure, once for each failing call.
+fn keeps_what_it_says<R: Abort + Files<File = File> + AllocGlobal>(
+    rt: &R,
+    first: u32,
+    failing: u32,
+    size: usize,
+) -> Result<(), Fail> {
+    let calls = Cell::new(0);
+    let mut keeper = FileKeeper::new(Failing {
+        file: File::create(rt, "torn")?,
+        calls: &calls,
+        first,
+        behind: first.saturating_add(failing),
     });
-    for (record, answer, held) in [
-        (b"first".as_slice(), Ok(()), b"first".as_slice()),
-        (b"broken", Err(KeeperFailed::Failed), b"firstbro"),
-        (b"", Ok(()), b"first"),
-        (b"x", Ok(()), b"firstx"),
-    ] {
-        assert_eq!(rt; appends(&rt, &mut keeper, record), answer);
-        assert_eq!(rt; fs::read(&rt, path.as_path())?.as_slice(), held);
+    let mut kept = Vec::new(rt.alloc());
+    let mut failed = 0;
+    let mut rest = "abcdefghijklmnopqrstuvwxyz0123456789".as_bytes();
+    for size in [3, 12, size, 1, 1, 6] {
+        let Some((record, behind)) = rest.split_at_checked(size) else {
+            panic!(rt; "no record")
+        };
+        rest = behind;
+        let answer = append(rt, &mut keeper, record);
+        let held = fs::read(rt, "torn")?;
+        if answer.is_ok() {
+            kept.extend_from_slice(record)?;
+            assert!(rt; held == kept, "{first} {failing} {size}");
+        } else {
+            failed += 1;
+            assert!(rt; held.starts_with(&kept), "{first} {failing} {size}");
+        }
     }
-    fs::remove_file(&rt, path.as_path())?;
+    assert_eq!(rt; failed, failing, "{first} {size}");
     Ok(())
 }
 
 #[test]
-fn a_host_makes_a_new_file_and_reads_it(rt: HostRuntime) -> Result<(), Fail> {
-    let path = free_path(&rt, "new")?;
-    let name = path.as_str();
-    let mut host = StreamHost::new(rt.alloc(), rt.stdin(), rt.stdout(), rt);
-    assert!(rt; matches!(host.open_source(name), Err(HostError::Failed)));
-    let mut keeper = host.open_keeper(name)?;
-    assert!(rt; matches!(host.open_keeper(name), Err(HostError::Failed)));
-    assert_eq!(rt; appends(&rt, &mut keeper, b"ab"), Ok(()));
-    assert_eq!(rt; appends(&rt, &mut keeper, b"c"), Ok(()));
-    host.done_keeper(keeper);
-    let mut source = host.open_source(name)?;
-    let mut buffer = [0; 2];
-    for (took, front) in [
-        (Took::Bytes(2), b"ab"),
-        (Took::Bytes(1), b"cb"),
-        (Took::End, b"cb"),
-    ] {
-        assert_eq!(rt; source.take(&mut buffer), took);
-        assert_eq!(rt; &buffer, front);
+fn what_a_failed_append_left_is_cut_off(rt: HostRuntime) -> Result<(), Fail> {
+    stand_in_new_folder(&rt, "torn")?;
+    // The second record's calls are those from 1 to 3.
+    for first in 0..4 {
+        for failing in 0..4 {
+            for size in 0..14 {
+                keeps_what_it_says(&rt, first, failing, size)?;
+            }
+        }
     }
-    host.done_source(source);
-    fs::remove_file(&rt, path.as_path())?;
-    Ok(())
+    remove_folder(&rt)
 }

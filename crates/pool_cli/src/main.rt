@@ -9,24 +9,31 @@ mod edge;
 #[cfg(test)]
 mod edge_tests;
 mod file_keeper;
+#[cfg(test)]
+mod program_tests;
 mod stream_host;
 mod tcp;
 #[cfg(test)]
 mod tcp_tests;
 
 use command_line::{Word, run};
+use pool_doors::Door;
+use pool_io::Host;
+use pool_network::Network;
 use pool_turns::Status;
 use std::alloc::{AllocError, Global};
 use std::env::Args;
 use std::process::ExitCode;
 use std::rt::Env;
+use std::sync::Wait;
+use std::thread::Threads;
 use std::{env, io};
 use stream_host::StreamHost;
 use tcp::TcpNetwork;
 
 /// The words after the program's name.
-fn words_of<R: Env + AllocGlobal>(rt: &R) -> io::Result<Vec<Word>> {
-    Ok(words_behind_name(rt.alloc(), env::args(rt)?)?)
+fn words_of<E: Env + AllocGlobal>(process: &E) -> io::Result<Vec<Word>> {
+    Ok(words_behind_name(process.alloc(), env::args(process)?)?)
 }
 
 /// The texts behind the first, as words.
@@ -42,16 +49,28 @@ fn words_behind_name(alloc: Global, mut texts: Args) -> Result<Vec<Word>, AllocE
     Ok(words)
 }
 
-fn main(rt: HostRuntime) -> ExitCode {
-    let words = match words_of(&rt) {
-        Ok(words) => words,
+/// Does what the words of a process ask for, and answers its status.
+fn answer<E: Env + AllocGlobal, R: Threads + Wait + Sync, H: Host, N: Network>(
+    process: &E,
+    rt: &R,
+    host: &mut H,
+    network: &mut N,
+) -> u8
+where
+    H::K: Send,
+    N::D: Send,
+    <N::D as Door>::L: Send,
+{
+    match words_of(process) {
+        Ok(words) => run(rt, process.alloc(), host, network, &words),
         // A word that is no text is in none of the forms.
-        Err(error) if error.kind() == io::ErrorKind::InvalidData => return ExitCode::from(
-            Status::Usage.code(),
-        ),
-        Err(_) => return ExitCode::from(Status::Memory.code()),
-    };
+        Err(error) if error.kind() == io::ErrorKind::InvalidData => Status::Usage.code(),
+        Err(_) => Status::Memory.code(),
+    }
+}
+
+fn main(rt: HostRuntime) -> ExitCode {
     let mut host = StreamHost::new(rt.alloc(), rt.stdin(), rt.stdout(), rt);
     let mut network = TcpNetwork::new(rt.alloc(), rt);
-    ExitCode::from(run(&rt, rt.alloc(), &mut host, &mut network, &words))
+    ExitCode::from(answer(&rt, &rt, &mut host, &mut network))
 }

@@ -11,8 +11,8 @@ use pool_io::{HostError, Shelf, Sink, SinkFailed, Source, Took};
 use pool_links::Link;
 use pool_network::Network;
 use std::alloc::Global;
-use std::io::ErrorKind;
-use std::net::{Net, TcpListener, TcpStream};
+use std::io::Error;
+use std::net::{Net, OpenListener, TcpListener, TcpStream};
 use std::time::{Clock, Duration};
 use std::{io, thread};
 
@@ -50,7 +50,7 @@ const TURN_MILLIS: u64 = 100;
 const WRITE_MILLIS: u64 = 5_000;
 
 /// A stream as a link, with its time limits.
-fn link_over(stream: TcpStream) -> io::Result<TcpLink>
+pub fn link_over(stream: TcpStream) -> io::Result<TcpLink>
     ensures { IfOk result (λ link. (link.source.faults ≡ 0) × (link.sink.faults ≡ 0)) }
 {
     stream.set_nodelay(true)?;
@@ -73,19 +73,35 @@ fn listener_at<N: Net<Listener = TcpListener, Stream = TcpStream>>(
     Ok(listener)
 }
 
-/// A listener as a door. Where nobody has called it waits a turn and is Idle; it is never closed.
+/// The errors of Linux's `accept` that are of one caller, of the network, or of what the system has
+/// left for now: EPERM, EINTR, EAGAIN, ENOMEM, ENFILE, EMFILE, ENOSR, ENONET, EPROTO, ENOPROTOOPT,
+/// EPROTONOSUPPORT, ESOCKTNOSUPPORT, EOPNOTSUPP, ENETDOWN, ENETUNREACH, ECONNABORTED, ECONNRESET,
+/// ENOBUFS, ETIMEDOUT, EHOSTDOWN, EHOSTUNREACH.
+const PASSING: [i32; 21] = [
+    1, 4, 11, 12, 23, 24, 63, 64, 71, 92, 93, 94, 95, 100, 101, 103, 104, 105, 110, 112, 113,
+];
+
+/// Whether an error of `accept` passes: the listener itself is well, and may let the next one in.
+fn is_passing(error: &Error) -> bool {
+    error
+        .raw_os_error()
+        .is_some_and(|number| PASSING.contains(&number))
+}
+
+/// A listener as a door. Where nobody has called, or who did can't be let in, it waits a turn and is
+/// Idle; it is never closed.
 #[derive(Drop)]
-pub struct TcpDoor<C: Clock + Drop> {
-    listener: TcpListener,
+pub struct TcpDoor<L: OpenListener<Stream = TcpStream> + Drop, C: Clock + Drop> {
+    listener: L,
     clock: C,
     out: u64,
     faults: u64,
     asked: u64,
 }
 
-impl<C: Clock + Drop> TcpDoor<C> {
+impl<L: OpenListener<Stream = TcpStream> + Drop, C: Clock + Drop> TcpDoor<L, C> {
     /// A door at a listener that doesn't wait.
-    fn new(listener: TcpListener, clock: C) -> TcpDoor<C>
+    pub fn new(listener: L, clock: C) -> TcpDoor<L, C>
         ensures { (result.out ≡ 0) × (result.faults ≡ 0) }
     {
         TcpDoor {
@@ -95,6 +111,14 @@ impl<C: Clock + Drop> TcpDoor<C> {
             faults: 0,
             asked: 0,
         }
+    }
+
+    /// A turn in which nobody was let in.
+    fn idle(&self) -> Came<TcpLink>
+        ensures { result ≡ came.Idle }
+    {
+        thread::sleep(&self.clock, Duration::from_millis(TURN_MILLIS));
+        Came::Idle
     }
 
     /// One more failure.
@@ -107,7 +131,7 @@ impl<C: Clock + Drop> TcpDoor<C> {
     }
 }
 
-impl<C: Clock + Drop> Door for TcpDoor<C> {
+impl<L: OpenListener<Stream = TcpStream> + Drop, C: Clock + Drop> Door for TcpDoor<L, C> {
     ghost use Rattle.std.specs.Prelude.{None};
 
     type L = TcpLink;
@@ -133,15 +157,10 @@ impl<C: Clock + Drop> Door for TcpDoor<C> {
                     self.out += 1;
                     Came::Caller(link)
                 }
-                Err(_) => self.fail(),
+                Err(_) => self.idle(),
             },
-            Err(error) => match error.kind() {
-                ErrorKind::Interrupted | ErrorKind::WouldBlock | ErrorKind::ConnectionAborted => {
-                    thread::sleep(&self.clock, Duration::from_millis(TURN_MILLIS));
-                    Came::Idle
-                }
-                _ => self.fail(),
-            },
+            Err(error) if is_passing(&error) => self.idle(),
+            Err(_) => self.fail(),
         }
     }
 
@@ -157,7 +176,7 @@ pub struct TcpNetwork<N: Net<Listener = TcpListener, Stream = TcpStream> + Clock
     system: N,
     faults: u64,
     links: Shelf<TcpLink>,
-    doors: Shelf<Vec<TcpDoor<N>>>,
+    doors: Shelf<Vec<TcpDoor<TcpListener, N>>>,
 }
 
 impl<N: Net<Listener = TcpListener, Stream = TcpStream> + Clock + Copy + Drop> TcpNetwork<N> {
@@ -177,7 +196,7 @@ impl<N: Net<Listener = TcpListener, Stream = TcpStream> + Clock + Copy + Drop> T
     }
 
     /// So many doors at one listener, each by a handle of its own.
-    fn doors_at(&self, address: &str, count: u32) -> Result<Vec<TcpDoor<N>>, HostError>
+    fn doors_at(&self, address: &str, count: u32) -> Result<Vec<TcpDoor<TcpListener, N>>, HostError>
         ensures { IfOk result (λ doors. vec_len doors ≡ count) }
     {
         let listener = listener_at(&self.system, address).map_err(|_| HostError::Failed)?;
@@ -197,7 +216,7 @@ impl<N: Net<Listener = TcpListener, Stream = TcpStream> + Clock + Copy + Drop> N
     for TcpNetwork<N> {
     ghost use Rattle.std.specs.Prelude.{None, map};
 
-    type D = TcpDoor<N>;
+    type D = TcpDoor<TcpListener, N>;
 
     ghost seen = { λ network. record {
       faults = network.faults;
@@ -223,7 +242,11 @@ impl<N: Net<Listener = TcpListener, Stream = TcpStream> + Clock + Copy + Drop> N
         Ok(link)
     }
 
-    fn open_doors(&mut self, address: &str, count: u32) -> Result<Vec<TcpDoor<N>>, HostError> {
+    fn open_doors(
+        &mut self,
+        address: &str,
+        count: u32,
+    ) -> Result<Vec<TcpDoor<TcpListener, N>>, HostError> {
         let doors = match self.doors_at(address, count) {
             Ok(doors) => doors,
             Err(HostError::Failed) => {
@@ -242,7 +265,7 @@ impl<N: Net<Listener = TcpListener, Stream = TcpStream> + Clock + Copy + Drop> N
         self.links.take_back(link);
     }
 
-    fn done_doors(&mut self, doors: Vec<TcpDoor<N>>)
+    fn done_doors(&mut self, doors: Vec<TcpDoor<TcpListener, N>>)
         requires { 0 < self.old.doors.lent }
         ensures { self.new ≡ record self.old { doors = with_back self.old.doors doors } }
     {

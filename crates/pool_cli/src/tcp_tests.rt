@@ -1,65 +1,400 @@
-//! What no clause says of connections and doors over TCP: that they meet, bring and hold, and what
-//! waits too long.
+//! What no clause says of connections and doors over TCP: that they meet, that every byte goes over
+//! as it is, what waits and for how long, and after which failures a door goes on.
 
-use crate::tcp::TcpNetwork;
+ghost use Rattle.std.specs.Prelude.{◌<◌, length};
+
+use crate::edge_tests::pattern;
+use crate::tcp::{TcpDoor, TcpLink, TcpNetwork, link_over};
 use pool_doors::{Came, Door};
 use pool_io::{HostError, SinkFailed, Took};
 use pool_links::Link;
 use pool_network::Network;
-use std::net::TcpListener;
+use std::alloc::Global;
+use std::cell::Cell;
+use std::fs::File;
+use std::io;
+use std::net::{Net, OpenListener, SocketAddr, TcpListener, TcpStream};
+use std::os::fd::OwnedFd;
+use std::process::Abort;
+use std::rt::Files;
 use std::test::Fail;
+use std::time::{Clock, Duration};
 
-/// An address of this machine at which nobody listens.
-fn free_address(rt: &HostRuntime) -> Result<String, Fail> {
-    let listener = TcpListener::bind(rt, "127.0.0.1:0")?;
-    let address = listener.local_addr()?;
-    Ok(format!(in rt.alloc(); "{address}")?)
+/// The system, which keeps the address of the last listener and how long was slept in all.
+#[derive(Clone, Copy)]
+struct Watched<'a, R: Copy> {
+    system: R,
+    bound: &'a Cell<Option<SocketAddr>>,
+    slept: &'a Cell<Duration>,
+}
+
+impl<R: Net<Listener = TcpListener, Stream = TcpStream> + Copy> Net for Watched<'_, R> {
+    type Stream = TcpStream;
+
+    type Listener = TcpListener;
+
+    fn bind(&self, address: SocketAddr) -> io::Result<TcpListener> {
+        let listener = self.system.bind(address)?;
+        self.bound.set(Some(listener.local_addr()?));
+        Ok(listener)
+    }
+
+    fn connect(&self, address: SocketAddr) -> io::Result<TcpStream> {
+        self.system.connect(address)
+    }
+}
+
+impl<R: Clock + Copy> Clock for Watched<'_, R> {
+    fn monotonic(&self) -> io::Result<Duration> {
+        self.system.monotonic()
+    }
+
+    fn since_1970(&self) -> io::Result<Duration> {
+        self.system.since_1970()
+    }
+
+    fn sleep(&self, duration: Duration) {
+        self.slept.set(self.slept.get().saturating_add(duration));
+        self.system.sleep(duration)
+    }
+}
+
+fn watching<'a, R: Copy>(
+    system: R,
+    bound: &'a Cell<Option<SocketAddr>>,
+    slept: &'a Cell<Duration>,
+) -> Watched<'a, R> {
+    Watched {
+        system,
+        bound,
+        slept,
+    }
+}
+
+/// The address that the system bound last, as a text.
+fn address_of(alloc: Global, bound: &Cell<Option<SocketAddr>>) -> Result<String, Fail> {
+    match bound.get() {
+        Some(address) => Ok(format!(in alloc; "{address}")?),
+        None => Err(Fail::new("nothing was bound")),
+    }
+}
+
+/// The next caller at a door, who may still be on the way.
+fn caller_at<C: Clock + Drop>(rt: &impl Abort, door: &mut TcpDoor<TcpListener, C>) -> TcpLink {
+    for _ in 0..50 {
+        match door.accept() {
+            Came::Caller(link) => return link,
+            Came::Idle => {}
+            Came::Closed | Came::Failed | Came::Memory => panic!(rt; "the door is shut"),
+        }
+    }
+    panic!(rt; "nobody came")
+}
+
+/// What a link brings next, which may still be on the way.
+fn heard(link: &mut TcpLink, buffer: &mut [u8]) -> Took
+    requires { 0 < length buffer.old }
+{
+    for _ in 0..50 {
+        let took = link.take(buffer);
+        if took != Took::Idle {
+            return took;
+        }
+    }
+    Took::Idle
+}
+
+/// Hears these bytes on a link, whole.
+fn hear(rt: &impl Abort, link: &mut TcpLink, buffer: &mut [u8], wanted: &[u8])
+    requires { 0 < length buffer.old }
+{
+    let mut rest = wanted;
+    for _ in 0..wanted.len() {
+        if rest.is_empty() {
+            break;
+        }
+        let Took::Bytes(count) = heard(link, buffer) else {
+            panic!(rt; "nothing came before {} bytes", rest.len())
+        };
+        let Some((front, behind)) = rest.split_at_checked(count) else {
+            panic!(rt; "too much came")
+        };
+        assert!(rt; buffer.starts_with(front), "before {} bytes", rest.len());
+        rest = behind;
+    }
+    assert!(rt; rest.is_empty());
+}
+
+/// Carries a text from one link to the other, in takes of so much room.
+fn carry(rt: &impl Abort, from: &mut TcpLink, to: &mut TcpLink, buffer: &mut [u8], text: &[u8])
+    requires { 0 < length buffer.old }
+{
+    let mut rest = text;
+    for _ in 0..text.len() {
+        if rest.is_empty() {
+            break;
+        }
+        let Ok(count) = from.put(&rest[..rest.len().min(50_000)]) else {
+            panic!(rt; "{} bytes don't go", rest.len())
+        };
+        hear(rt, to, buffer, &rest[..count]);
+        rest = &rest[count..];
+    }
+    assert!(rt; rest.is_empty());
+    assert_eq!(rt; to.take(buffer), Took::Idle);
+}
+
+/// Puts a text in great pieces until a put fails, since nobody hears. Answers what has gone.
+fn put_until_it_fails<'a>(rt: &impl Abort, link: &mut TcpLink, text: &'a [u8]) -> &'a [u8] {
+    let mut gone = 0usize;
+    for _ in 0..text.len() {
+        let Some(rest) = text.get(gone..) else {
+            panic!(rt; "more has gone than there was")
+        };
+        let piece = &rest[..rest.len().min(1_000_000)];
+        assert!(rt; !piece.is_empty());
+        match link.put(piece) {
+            Ok(count) => gone = gone.saturating_add(count),
+            Err(error) => {
+                assert_eq!(rt; error, SinkFailed::Failed);
+                return &text[..gone.min(text.len())];
+            }
+        }
+    }
+    panic!(rt; "no put failed")
+}
+
+/// A caller, and the link by which it was let in.
+fn meet<N: Net<Listener = TcpListener, Stream = TcpStream> + Clock + Copy + Drop>(
+    rt: &impl Abort,
+    network: &mut TcpNetwork<N>,
+    door: &mut TcpDoor<TcpListener, N>,
+    address: &str,
+) -> (TcpLink, TcpLink) {
+    match network.dial(address) {
+        Ok(caller) => (caller, caller_at(rt, door)),
+        Err(_) => panic!(rt; "nobody is reached"),
+    }
 }
 
 #[test]
-fn a_caller_comes_to_a_door_and_is_heard(rt: HostRuntime) -> Result<(), Fail> {
-    let address = free_address(&rt)?;
-    let mut network = TcpNetwork::new(rt.alloc(), rt);
-    assert!(rt; matches!(network.dial(address.as_str()), Err(HostError::Failed)));
-    let mut doors = network.open_doors(address.as_str(), 2)?;
+fn each_byte_goes_over_as_it_is(rt: HostRuntime) -> Result<(), Fail> {
+    let bound = Cell::new(None);
+    let slept = Cell::new(Duration::ZERO);
+    let mut network = TcpNetwork::new(rt.alloc(), watching(rt, &bound, &slept));
+    let mut doors = network.open_doors("127.0.0.1:0", 1)?;
+    let address = address_of(rt.alloc(), &bound)?;
+    let text = pattern(rt.alloc(), 32_000_000)?;
+    let mut room = [0; 65_536];
     let Some(door) = doors.first_mut() else {
         panic!(rt; "no door")
     };
-    assert!(rt; matches!(door.accept(), Came::Idle));
-    let mut caller = network.dial(address.as_str())?;
-    let Came::Caller(mut link) = door.accept() else {
-        panic!(rt; "nobody came")
+    let (mut caller, mut link) = meet(&rt, &mut network, door, address.as_str());
+    for size in [1, 999, 1_000, 1_001, 65_536] {
+        let Some(buffer) = room.get_mut(..size) else {
+            panic!(rt; "no room")
+        };
+        carry(
+            &rt,
+            &mut caller,
+            &mut link,
+            buffer,
+            text.get(..170_000).unwrap_or(b""),
+        );
+        carry(
+            &rt,
+            &mut link,
+            &mut caller,
+            buffer,
+            text.get(70_000..240_000).unwrap_or(b""),
+        );
+    }
+    // A put comes short before one fails, and what is said to have gone has.
+    let gone = put_until_it_fails(&rt, &mut caller, &text);
+    hear(&rt, &mut link, &mut room, gone);
+    carry(&rt, &mut caller, &mut link, &mut room, b"and on");
+    drop(caller);
+    assert_eq!(rt; heard(&mut link, &mut room), Took::End);
+    assert_eq!(rt; link.take(&mut room), Took::End);
+    Ok(())
+}
+
+/// Lets in one who hangs up on what it hasn't read.
+fn meet_one_who_hangs_up<N: Net<Listener = TcpListener, Stream = TcpStream> + Clock + Copy + Drop>(
+    rt: &impl Abort,
+    network: &mut TcpNetwork<N>,
+    door: &mut TcpDoor<TcpListener, N>,
+    address: &str,
+) {
+    let (mut caller, mut link) = meet(rt, network, door, address);
+    assert_eq!(rt; link.put(b"unread"), Ok(6));
+    assert_eq!(rt; heard(&mut caller, &mut [0; 1]), Took::Bytes(1));
+    drop(caller);
+    assert_eq!(rt; heard(&mut link, &mut [0; 1]), Took::Failed);
+}
+
+/// Calls under a number, which it says, but each third says nothing, and each second is gone again.
+fn call<N: Net<Listener = TcpListener, Stream = TcpStream> + Clock + Copy + Drop>(
+    rt: &impl Abort,
+    network: &mut TcpNetwork<N>,
+    address: &str,
+    number: u8,
+) -> Option<TcpLink> {
+    let Ok(mut caller) = network.dial(address) else {
+        panic!(rt; "nobody is reached")
     };
-    let mut buffer = [0; 4];
-    assert_eq!(rt; link.take(&mut buffer), Took::Idle);
-    assert_eq!(rt; caller.put(b"abc"), Ok(3));
-    assert_eq!(rt; link.take(&mut buffer), Took::Bytes(3));
-    assert_eq!(rt; &buffer, b"abc\0");
-    assert_eq!(rt; link.put(b"d"), Ok(1));
-    assert_eq!(rt; caller.take(&mut buffer), Took::Bytes(1));
+    if number % 3 > 0 {
+        assert_eq!(rt; caller.put(&[number]), Ok(1));
+    }
+    if number % 2 > 0 { Some(caller) } else { None }
+}
+
+/// Lets in the caller of a number, hears it, and is done with it.
+fn let_in<C: Clock + Drop>(rt: &impl Abort, door: &mut TcpDoor<TcpListener, C>, number: u8) {
+    let mut link = caller_at(rt, door);
+    let mut buffer = [0; 2];
+    if number % 3 > 0 {
+        assert_eq!(rt; heard(&mut link, &mut buffer), Took::Bytes(1), "{number}");
+        assert_eq!(rt; buffer[0], number);
+    }
+    let behind = if number % 2 > 0 {
+        Took::Idle
+    } else {
+        Took::End
+    };
+    assert_eq!(rt; heard(&mut link, &mut buffer), behind, "{number}");
     door.done(link);
-    assert_eq!(rt; caller.take(&mut buffer), Took::End);
-    network.done_link(caller);
+}
+
+/// Nine wait at once at two doors, one of which was used by one who hung up; each is let in, in its
+/// turn, and nobody else.
+fn let_all_in<N: Net<Listener = TcpListener, Stream = TcpStream> + Clock + Copy + Drop>(
+    rt: &impl Abort,
+    network: &mut TcpNetwork<N>,
+    doors: &mut [TcpDoor<TcpListener, N>],
+    address: &str,
+    mut callers: Vec<TcpLink>,
+) -> Result<(), Fail> {
+    let [first, second] = doors else {
+        panic!(rt; "no two doors")
+    };
+    assert!(rt; matches!(second.accept(), Came::Idle));
+    meet_one_who_hangs_up(rt, network, first, address);
+    for number in 0..9 {
+        if let Some(caller) = call(rt, network, address, number) {
+            callers.push(caller)?;
+        }
+    }
+    for number in 0..9 {
+        let door = if number / 4 == 1 {
+            &mut *second
+        } else {
+            &mut *first
+        };
+        let_in(rt, door, number);
+    }
+    assert!(rt; matches!(first.accept(), Came::Idle));
+    for caller in &mut callers {
+        assert_eq!(rt; heard(caller, &mut [0; 1]), Took::End);
+    }
+    Ok(())
+}
+
+#[test]
+fn callers_come_in_their_order_whoever_hangs_up(rt: HostRuntime) -> Result<(), Fail> {
+    let bound = Cell::new(None);
+    let slept = Cell::new(Duration::ZERO);
+    let mut network = TcpNetwork::new(rt.alloc(), watching(rt, &bound, &slept));
+    let mut doors = network.open_doors("127.0.0.1:0", 2)?;
+    let address = address_of(rt.alloc(), &bound)?;
+    let callers = Vec::new(rt.alloc());
+    let_all_in(&rt, &mut network, &mut doors, address.as_str(), callers)?;
+    assert!(rt; slept.get() >= Duration::from_millis(200));
+    Ok(())
+}
+
+#[test]
+fn an_address_is_reached_where_it_is_one_and_free(rt: HostRuntime) -> Result<(), Fail> {
+    let bound = Cell::new(None);
+    let slept = Cell::new(Duration::ZERO);
+    let mut network = TcpNetwork::new(rt.alloc(), watching(rt, &bound, &slept));
+    let doors = network.open_doors("127.0.0.1:0", 1)?;
+    let taken = address_of(rt.alloc(), &bound)?;
+    for address in [taken.as_str(), "", "nowhere", "127.0.0.1:65536"] {
+        let opened = network.open_doors(address, 1);
+        assert!(rt; matches!(opened, Err(HostError::Failed)), "{address}");
+    }
+    // Nobody listens at port 1.
+    for address in ["127.0.0.1:1", "", "nowhere", "127.0.0.1:65536"] {
+        let dialled = network.dial(address);
+        assert!(rt; matches!(dialled, Err(HostError::Failed)), "{address}");
+    }
     network.done_doors(doors);
     Ok(())
 }
 
 #[test]
-fn a_peer_that_reads_nothing_is_a_fault_of_writing(rt: HostRuntime) -> Result<(), Fail> {
-    let address = free_address(&rt)?;
-    let mut network = TcpNetwork::new(rt.alloc(), rt);
-    let doors = network.open_doors(address.as_str(), 1)?;
-    let mut caller = network.dial(address.as_str())?;
-    let piece = [0; 4096];
-    let mut answer = Ok(0);
-    for _ in 0..1_000_000 {
-        answer = caller.put(&piece);
-        if answer.is_err() {
-            break;
+fn a_link_has_its_limits(rt: HostRuntime) -> Result<(), Fail> {
+    let listener = TcpListener::bind(&rt, "127.0.0.1:0")?;
+    let stream = TcpStream::connect(&rt, listener.local_addr()?)?;
+    // It shares the options.
+    let other = stream.try_clone()?;
+    let _link = link_over(stream)?;
+    assert_eq!(rt; other.read_timeout()?, Some(Duration::from_millis(100)));
+    assert_eq!(rt; other.write_timeout()?, Some(Duration::from_secs(5)));
+    assert!(rt; other.nodelay()?);
+    Ok(())
+}
+
+/// Answers `accept` with the error of a number, and where it is 0 with a caller whose options can't
+/// be set, since it is no socket.
+#[derive(Drop)]
+struct Refusing<'a, R: Files<File = File> + Drop> {
+    system: R,
+    error: &'a Cell<i32>,
+}
+
+impl<R: Files<File = File> + Drop> OpenListener for Refusing<'_, R> {
+    type Stream = TcpStream;
+
+    fn accept(&self) -> io::Result<(TcpStream, SocketAddr)> {
+        let error = self.error.get();
+        if error != 0 {
+            return Err(io::Error::from_raw_os_error(error));
+        }
+        let file = File::open(&self.system, "/dev/null")?;
+        let address = SocketAddr::from(([127, 0, 0, 1], 1));
+        Ok((TcpStream::from(OwnedFd::from(file)), address))
+    }
+}
+
+/// The errors of Linux's accept(2) that are of one caller, of the network, or of what the system has
+/// left: EPERM, EINTR, EAGAIN, ENOMEM, ENFILE, EMFILE, ENOSR, ENONET, EPROTO, ENOPROTOOPT,
+/// EPROTONOSUPPORT, ESOCKTNOSUPPORT, EOPNOTSUPP, ENETDOWN, ENETUNREACH, ECONNABORTED, ECONNRESET,
+/// ENOBUFS, ETIMEDOUT, EHOSTDOWN, EHOSTUNREACH.
+const PASSING: [i32; 21] = [
+    1, 4, 11, 12, 23, 24, 63, 64, 71, 92, 93, 94, 95, 100, 101, 103, 104, 105, 110, 112, 113,
+];
+
+#[test]
+fn a_door_goes_on_a_turn_later_unless_its_listener_failed(rt: HostRuntime) {
+    let bound = Cell::new(None);
+    let slept = Cell::new(Duration::ZERO);
+    let error = Cell::new(0);
+    let listener = Refusing {
+        system: rt,
+        error: &error,
+    };
+    let mut door = TcpDoor::new(listener, watching(rt, &bound, &slept));
+    for number in 0..134 {
+        error.set(number);
+        slept.set(Duration::ZERO);
+        let came = door.accept();
+        if number == 0 || PASSING.contains(&number) {
+            assert!(rt; matches!(came, Came::Idle), "{number}");
+            assert_eq!(rt; slept.get(), Duration::from_millis(100), "{number}");
+        } else {
+            assert!(rt; matches!(came, Came::Failed), "{number}");
         }
     }
-    assert_eq!(rt; answer, Err(SinkFailed::Failed));
-    network.done_link(caller);
-    network.done_doors(doors);
-    Ok(())
 }
