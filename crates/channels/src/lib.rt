@@ -16,6 +16,3 @@ pub use laws::tables_show_histories;
 pub use openings::class_given;
 pub use plan::ChannelPlan;
 pub use table::{Channels, NotOpen, SetError, spaces_apart};
-
-#[cfg(test)]
-mod tests;

@@ -11,6 +11,3 @@ mod notes;
 mod telling;
 
 pub use history::History;
-
-#[cfg(test)]
-mod tests;

@@ -14,6 +14,3 @@ pub use laws::other_events_leave_grants;
 pub use own_jobs::own_job_refusal;
 pub use refusals::grant_refusal_of;
 pub use table::Grants;
-
-#[cfg(test)]
-mod tests;

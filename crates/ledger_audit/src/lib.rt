@@ -17,6 +17,3 @@ pub use causes::cause_words;
 pub use format::{BODY_LIMIT, Format, HEAD_LEN, body_len};
 pub use laws::{kept_ledgers_are_legal, old_ledgers_are_legal, verdicts_are_one};
 pub use verdict::{Verdict, write_verdict};
-
-#[cfg(test)]
-mod tests;

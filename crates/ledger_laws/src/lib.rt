@@ -18,6 +18,3 @@ pub use laws::{
     records_are_read_back, starts_are_kept,
 };
 pub use requests::request_fits;
-
-#[cfg(test)]
-mod tests;

@@ -15,6 +15,3 @@ pub use chaining::{MAGIC, chain, magic_hash, write_first_piece, write_piece};
 pub use error::RecordError;
 pub use reading::read_record;
 pub use writing::write_record;
-
-#[cfg(test)]
-mod tests;

@@ -12,6 +12,3 @@ pub use laws::{
     payouts_are_quotients, rewards_are_conserved, settlements_are_of_blocks,
     summaries_are_of_blocks, weights_by_places,
 };
-
-#[cfg(test)]
-mod tests;

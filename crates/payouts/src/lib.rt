@@ -14,6 +14,3 @@ mod window;
 pub use quotients::quotient;
 pub use settlement::{Payout, Payouts, Settlement};
 pub use tally::{AccountSums, Rule, Tally, TallyPlan};
-
-#[cfg(test)]
-mod tests;

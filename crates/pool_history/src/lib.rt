@@ -30,6 +30,3 @@ pub use settings::{Rules, Users};
 pub use shares::{Brief, Checked, Submission};
 pub use telling::{Note, Notes};
 pub use templates::{CustomData, TemplateData, TipData};
-
-#[cfg(test)]
-mod tests;

@@ -8,6 +8,3 @@ mod writing;
 
 pub use lines::put_line;
 pub use writing::write_summary;
-
-#[cfg(test)]
-mod tests;

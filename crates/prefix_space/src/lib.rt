@@ -6,6 +6,3 @@ mod space;
 mod spans;
 
 pub use space::{Space, SpaceError};
-
-#[cfg(test)]
-mod tests;

@@ -9,6 +9,3 @@ mod table;
 pub use entered::Entered;
 pub use laws::other_events_leave_sessions;
 pub use table::Sessions;
-
-#[cfg(test)]
-mod tests;

@@ -14,6 +14,3 @@ pub use hashing::{header_of, rolled_length, whole_extranonce};
 pub use laws::checked_headers_are_rebuilt;
 pub use parts::Parts;
 pub use pool_history::{Brief, Checked, Kind, Lead, Submission};
-
-#[cfg(test)]
-mod tests;

@@ -15,6 +15,3 @@ pub use admission::{Admission, admit};
 pub use headers::Headers;
 pub use late::late_refusal;
 pub use passing::Passed;
-
-#[cfg(test)]
-mod tests;
