@@ -11,6 +11,3 @@ mod verdict;
 pub use command::list_frames;
 pub use flaw::Flaw;
 pub use lister::Lister;
-
-#[cfg(test)]
-mod tests;
