@@ -12,6 +12,3 @@ pub use merkle::root_of;
 pub use target::{
     class_of_target, class_of_target_of_class, meets_class_is_meets_target, meets_target, target_of,
 };
-
-#[cfg(test)]
-mod tests;

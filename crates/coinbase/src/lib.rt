@@ -19,6 +19,3 @@ pub use laws::{
     trailing_bytes_are_counted,
 };
 pub use tx::{Stack, Tx, TxIn, TxIns, TxOut, TxOuts, Witnesses};
-
-#[cfg(test)]
-mod tests;

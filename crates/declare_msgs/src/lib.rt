@@ -15,6 +15,3 @@ pub use message::Declare;
 pub use reading::read;
 pub use sv2_messages::MsgError;
 pub use tokens::{AllocateMiningJobToken, AllocateMiningJobTokenSuccess, PushSolution};
-
-#[cfg(test)]
-mod tests;

@@ -24,6 +24,3 @@ pub use shares::{
     SubmitSharesError, SubmitSharesExtended, SubmitSharesStandard, SubmitSharesSuccess,
 };
 pub use sv2_messages::MsgError;
-
-#[cfg(test)]
-mod tests;

@@ -25,6 +25,3 @@ pub use shelf::Shelf;
 pub use sink::{Sink, SinkFailed};
 pub use source::{Source, Took};
 pub use turn::{Piece, Turn};
-
-#[cfg(test)]
-mod tests;

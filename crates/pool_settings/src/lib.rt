@@ -10,6 +10,3 @@ mod values;
 pub use ranges::are_rules_in_range;
 pub use reading::read_settings;
 pub use settings::{Settings, SettingsError};
-
-#[cfg(test)]
-mod tests;

@@ -5,6 +5,3 @@
 mod opening;
 
 pub use opening::{NoSettings, open_settings};
-
-#[cfg(test)]
-mod tests;

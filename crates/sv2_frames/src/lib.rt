@@ -10,6 +10,3 @@ pub use buffer::{FrameHeader, TooLong};
 pub use framing::{Frame, frames_are_unique, frames_exist, no_frame_begins_another, write_frame};
 pub use running::{RunEnd, TakeFrames};
 pub use splitting::Splitter;
-
-#[cfg(test)]
-mod tests;

@@ -22,6 +22,3 @@ pub use writing::{
     put_seq_bytes, put_seq_u16, put_seq_u256, put_seq64k_u256, put_str255, put_u8, put_u16,
     put_u24, put_u32, put_u64, put_u256,
 };
-
-#[cfg(test)]
-mod tests;

@@ -14,6 +14,3 @@ pub use templates::{CoinbaseOutputConstraints, NewTemplate, SetNewPrevHash, Subm
 pub use transactions::{
     RequestTransactionData, RequestTransactionDataError, RequestTransactionDataSuccess,
 };
-
-#[cfg(test)]
-mod tests;

@@ -7,6 +7,3 @@ mod reading;
 
 pub use gatherer::Gatherer;
 pub use reading::{Contents, Unread, read_whole};
-
-#[cfg(test)]
-mod tests;
