@@ -23,6 +23,7 @@ use std::alloc::Global;
 use std::env::{self, Args};
 use std::fs;
 use std::io::Write;
+use std::rt::Files;
 use std::sync::Wait;
 use std::thread::Threads;
 
@@ -30,7 +31,21 @@ use std::thread::Threads;
 const USAGE: &str =
     "want: hash COUNT, bytes LENGTH COUNT, shares SIBLINGS COUNT, channels OPEN COUNT, \
         payouts WINDOW COUNT, jobs COUNT, book HELD COUNT, desk THREADS COUNT, lock THREADS COUNT, \
-        book-desk THREADS COUNT, book-lock THREADS COUNT, frames or messages";
+        book-desk THREADS COUNT, book-lock THREADS COUNT, frames, messages or each";
+
+/// What `each` does of the words with two numbers.
+const SMALL: [(&str, u32, u32); 10] = [
+    ("bytes", 98, 3),
+    ("shares", 0, 1),
+    ("shares", 12, 1000),
+    ("payouts", 7, 2500),
+    ("channels", 3, 2),
+    ("book", 2, 3),
+    ("desk", 2, 100),
+    ("lock", 2, 100),
+    ("book-desk", 2, 20),
+    ("book-lock", 2, 20),
+];
 
 fn main(rt: HostRuntime) -> Result<()> {
     let alloc = rt.alloc();
@@ -46,6 +61,7 @@ fn main(rt: HostRuntime) -> Result<()> {
             let status = fs::read_to_string(&rt, "/proc/self/status")?;
             format!(in alloc; "{newest} {}", jobs::greatest_memory(status.as_str()))?
         }
+        "each" => return print_each(&rt, alloc, &mut rt.stdout()),
         "frames" => frames::report(alloc, &mut rt.stdin())?,
         "messages" => messages::report(alloc, &mut rt.stdin())?,
         word => by_two_numbers(
@@ -59,6 +75,41 @@ fn main(rt: HostRuntime) -> Result<()> {
     };
     println!(rt; "{line}")?;
     Ok(())
+}
+
+/// Prints what comes of each word in small, and of two streams that are kept in hexadecimal.
+fn print_each<R: Files + AllocGlobal + Threads + Wait + Sync, W: Write>(
+    rt: &R,
+    alloc: Global,
+    output: &mut W,
+) -> Result<()> {
+    writeln!(output, "{}", hash::report(alloc, 1000)?)?;
+    writeln!(output, "{}", jobs::report(alloc, 25)?)?;
+    for (word, first, count) in &SMALL {
+        let line = by_two_numbers(rt, alloc, word, *first, *count, output)?;
+        writeln!(output, "{line}")?;
+    }
+    let stream = stream_in(rt, alloc, "frames.txt")?;
+    writeln!(output, "{}", frames::report(alloc, &mut stream.as_slice())?)?;
+    let stream = stream_in(rt, alloc, "messages.txt")?;
+    writeln!(
+        output,
+        "{}",
+        messages::report(alloc, &mut stream.as_slice())?
+    )?;
+    output.flush()?;
+    Ok(())
+}
+
+/// The bytes that a file has in hexadecimal, a frame in each line.
+fn stream_in<R: Files + AllocGlobal>(rt: &R, alloc: Global, file: &str) -> Result<Vec<u8>> {
+    let text = fs::read_to_string(rt, file)?;
+    let mut stream = Vec::new(alloc);
+    for line in text.lines() {
+        let bytes = hex::decode(alloc, line)?;
+        stream.extend_from_slice(bytes.as_slice())?;
+    }
+    Ok(stream)
 }
 
 /// What comes of a word that wants two numbers, of which the second is a count.
