@@ -16,8 +16,3 @@ pub use close::CloseError;
 pub use desk::Desk;
 pub use machine::Machine;
 pub use pass::Pass;
-
-#[cfg(test)]
-mod counter;
-#[cfg(test)]
-mod tests;

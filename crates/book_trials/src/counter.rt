@@ -1,20 +1,20 @@
-//! The machine of the tests: it adds numbers up, and fails at the calls that were listed.
+//! A machine that adds numbers up, and fails at the calls that were listed.
 
 ghost use Rattle.std.specs.Prelude.{◌≡◌, ◌+◌, ◌<◌, ◌^◌, [], ◌∷◌, length, sum};
 
-use crate::machine::Machine;
+use desk::Machine;
 
 /// The most numbers that it takes.
 const MOST: usize = (1 << 62) - 1;
 
 /// A call that failed: for want of room, or since it was listed.
 #[derive(Debug, Drop, PartialEq, Eq)]
-pub struct Broken {
+pub(crate) struct Broken {
     pub wants_room: bool,
 }
 
 #[derive(Drop)]
-pub struct Counter {
+pub(crate) struct Counter {
     pub added: Vec<u64>,
     pub total: u64,
     pub calls: u64,

@@ -1,6 +1,6 @@
 use denote.Param.Send.{sendable}
 use Rattle.pool_trials.proofs.Crossing.{sure_desk_sync, sure_pass_send}
-use Rattle.pool_trials.proofs.desk_tests.submit_in_two_threads.Goals as goal
+use Rattle.book_trials.proofs.pairs.submit_in_two_threads.Goals as goal
 
 pub join-requires-send-F : goal.join-requires-send-F
 join-requires-send-F g c κs within = search (sendable, sure_desk_sync, sure_pass_send) depth 60

@@ -1,13 +1,13 @@
 use denote.Param.Send.{IsSend, IsSync, sendable}
 use Rattle.std.proofs.Crossing.{crosses}
 use denote.Builtin.{u64}
-use Rattle.desk.specs.contracts.counter.Counter as Counter
-use Rattle.desk.specs.contracts.counter.Broken as Broken
-use Rattle.desk.specs.contracts.counter.CounterMachine.TheImpl.{ghosts}
+use Rattle.book_trials.specs.contracts.counter.Counter as Counter
+use Rattle.book_trials.specs.contracts.counter.Broken as Broken
+use Rattle.book_trials.specs.contracts.counter.CounterMachine.TheImpl.{ghosts}
 use Rattle.desk.specs.contracts.desk.Desk as Desk
 use Rattle.desk.specs.contracts.pass.Pass as Pass
 use Rattle.desk.proofs.Crossing.{desk_sync, pass_send}
-use Rattle.desk.proofs.tests.add_in_two_threads.Goals as goal
+use Rattle.book_trials.proofs.counted.add_in_two_threads.Goals as goal
 
 counter_send : IsSend Counter.the_row
 counter_send = search (sendable, crosses) depth 40
