@@ -1,10 +1,12 @@
-//! Trials of a pool's book: alone, at a desk, and under sessions on links. Each file has cases, whose
+//! Trials of a counter at a desk, and of a pool's book: alone, at a desk, and under sessions on links. Each file has cases, whose
 //! lines are carried out one after the other, and each answer is compared with the one that the line
 //! wants.
 #![tactic(auto)]
 
 mod asking;
 mod books;
+mod counted;
+mod counter;
 mod desks;
 mod links;
 mod pairs;
@@ -25,6 +27,9 @@ fn main(rt: HostRuntime) -> Result<()> {
     }
     let text = fs::read_to_string(&rt, "pieces.txt")?;
     let said = try_cases::<Pieces>(alloc, "pieces.txt", text.as_str());
+    print!(rt; "{}", said.context("out of memory")?)?;
+    let text = fs::read_to_string(&rt, "counter.txt")?;
+    let said = counted::try_counters(&rt, alloc, "counter.txt", text.as_str());
     print!(rt; "{}", said.context("out of memory")?)?;
     let text = fs::read_to_string(&rt, "links.txt")?;
     let said = links::try_links(&rt, alloc, "links.txt", text.as_str());

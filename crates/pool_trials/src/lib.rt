@@ -1,4 +1,4 @@
-//! Worked examples of the pool's parts together, as tests, and the rules that they begin with.
+//! The rules that trials and benchmarks begin with.
 #![tactic(auto)]
 
 mod rules;

@@ -1,4 +1,4 @@
-//! The rules that the examples and the benchmarks begin with.
+//! The rules of the worked session.
 
 ghost use Rattle.std.specs.Prelude.{◌≡◌, ◌≤◌, IfOk, IsTrue};
 ghost use Rattle.pool_history.specs.Accounts.{are_in_range};
