@@ -5,7 +5,7 @@ use crate::expressions::{Names, number};
 use crate::links::GatedLink;
 use crate::outside::CaseNetwork;
 use anyhow::Result;
-use pool_io::{MemHost, Opening};
+use pool_io::{MemHost, MemKeeper, Opening};
 use pool_network::Reaching;
 use std::alloc::Global;
 
@@ -51,8 +51,8 @@ fn compared(
     let host = &outcome.host;
     let found = match line.key {
         "status" => format!(in alloc; "{}", outcome.status)?,
-        "output" => return against_bytes(alloc, names.bytes_of(line.rest)?, printed(host)),
-        "prints" => return against_bytes(alloc, names.text_of(line.rest)?, printed(host)),
+        "output" => return against_bytes(alloc, names.bytes_of(line.rest)?, &printed(alloc, host)?),
+        "prints" => return against_bytes(alloc, names.text_of(line.rest)?, &printed(alloc, host)?),
         "kept" => return against_bytes(alloc, names.bytes_of(line.rest)?, &kept(alloc, host)?),
         "records" => format!(in alloc; "{}", records(host))?,
         "opened" => opened(alloc, host.calls())?,
@@ -70,31 +70,38 @@ fn against_bytes(alloc: Global, wanted: Vec<u8>, found: &[u8]) -> Result<(String
     Ok((hex::encode(alloc, &wanted)?, hex::encode(alloc, found)?))
 }
 
-/// What the one sink that came back holds, or nothing.
-fn printed(host: &MemHost) -> &[u8] {
-    match host.sinks() {
-        [sink] => sink.bytes(),
-        _ => b"",
-    }
-}
-
-/// The records of the one keeper that came back, one behind the other.
-fn kept(alloc: Global, host: &MemHost) -> Result<Vec<u8>> {
+/// What the sinks hold that came back, one behind the other.
+fn printed(alloc: Global, host: &MemHost) -> Result<Vec<u8>> {
     let mut bytes = Vec::new(alloc);
-    if let [keeper] = host.keepers() {
-        for record in keeper.records() {
-            bytes.extend_from_slice(record.bytes())?;
-        }
+    for sink in host.sinks() {
+        bytes.extend_from_slice(sink.bytes())?;
     }
     Ok(bytes)
 }
 
-/// How many records the one keeper has that came back.
-fn records(host: &MemHost) -> usize {
-    match host.keepers() {
-        [keeper] => keeper.records().len(),
-        _ => 0,
+/// The records of the keepers that came back, one behind the other.
+fn kept(alloc: Global, host: &MemHost) -> Result<Vec<u8>> {
+    let mut bytes = Vec::new(alloc);
+    for keeper in host.keepers() {
+        add_records(&mut bytes, keeper)?;
     }
+    Ok(bytes)
+}
+
+fn add_records(bytes: &mut Vec<u8>, keeper: &MemKeeper) -> Result<()> {
+    for record in keeper.records() {
+        bytes.extend_from_slice(record.bytes())?;
+    }
+    Ok(())
+}
+
+/// How many records the keepers have that came back.
+fn records(host: &MemHost) -> usize {
+    let mut count = 0usize;
+    for keeper in host.keepers() {
+        count = count.saturating_add(keeper.records().len());
+    }
+    count
 }
 
 /// The opening calls, with a blank between two of them.

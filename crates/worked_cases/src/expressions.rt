@@ -10,7 +10,7 @@ struct Named {
     bytes: Vec<u8>,
 }
 
-/// What names stand for. The last one that was given counts.
+/// What names stand for. Each is given once.
 #[derive(Drop)]
 pub struct Names {
     alloc: Global,
@@ -40,6 +40,9 @@ impl Names {
     }
 
     fn add(&mut self, name: &str, bytes: Vec<u8>) -> Result<()> {
+        if self.named(name).is_ok() {
+            bail!("{name} is given twice");
+        }
         let name = String::from_str(self.alloc, name)?;
         self.items.push(Named { name, bytes })?;
         Ok(())
@@ -61,7 +64,7 @@ impl Names {
 
     /// What a name stands for.
     pub fn named(&self, name: &str) -> Result<&[u8]> {
-        for item in self.items.iter().rev() {
+        for item in &self.items {
             if item.name.as_str() == name {
                 return Ok(&item.bytes);
             }

@@ -12,6 +12,8 @@ pub struct Gated {
     pub place: usize,
     pub bytes: u64,
     pub frame: Vec<u8>,
+    /// How many of the frame's bytes have come.
+    pub given: usize,
 }
 
 /// Brings frames, each once its gate is open, and is Idle until then. It tells nothing.
@@ -47,21 +49,27 @@ impl Link for GatedLink<'_> {
     ghost held = { λ _. None };
 
     fn take(&mut self, buffer: &mut [u8]) -> Took {
-        let Some(gate) = self.coming.pop_front() else {
+        let Some(mut gate) = self.coming.pop_front() else {
             return Took::End;
         };
-        if !self.is_open(&gate) {
-            return match self.coming.push_front(gate) {
-                Ok(()) => Took::Idle,
-                Err(_) => Took::End,
-            };
-        }
-        let count = gate.frame.len().min(buffer.len());
-        if count == 0 {
+        let is_open = self.is_open(&gate);
+        let rest = gate.frame.get(gate.given..).unwrap_or(b"");
+        let count = if is_open {
+            rest.len().min(buffer.len())
+        } else {
+            0
+        };
+        buffer[..count].copy_from_slice(&rest[..count]);
+        let is_whole = is_open && count == rest.len();
+        gate.given = gate.given.saturating_add(count);
+        if !is_whole && self.coming.push_front(gate).is_err() {
             return Took::End;
         }
-        buffer[..count].copy_from_slice(&gate.frame[..count]);
-        Took::Bytes(count)
+        match (is_open, count) {
+            (false, _) => Took::Idle,
+            (true, 0) => Took::End,
+            (true, _) => Took::Bytes(count),
+        }
     }
 
     fn put(&mut self, piece: &[u8]) -> Result<usize, SinkFailed> {

@@ -12,7 +12,7 @@ mod outside;
 use crate::case::{Case, numbers};
 use crate::comparing::{Outcome, differences};
 use crate::expressions::Names;
-use anyhow::{Context, Result};
+use anyhow::{Context, Result, bail};
 use command_line::run;
 use std::alloc::Global;
 use std::sync::Wait;
@@ -67,7 +67,11 @@ fn run_case<R: Print + Threads + Wait + Sync>(
     let Some(title) = case.title() else {
         return Ok(());
     };
-    for size in numbers(alloc, case.last("sizes").unwrap_or("1000000"))? {
+    let sizes = numbers(alloc, case.last("sizes").unwrap_or("1000000"))?;
+    if sizes.is_empty() {
+        bail!("{title} has no size");
+    }
+    for size in sizes {
         let found = run_once(rt, alloc, names, case, size as usize).context("a case")?;
         if found.is_empty() {
             println!(rt; "ok {title}")?;

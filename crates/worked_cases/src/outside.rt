@@ -187,6 +187,7 @@ fn link_of<'a>(
         place,
         bytes: 0,
         frame: Vec::new(alloc),
+        given: 0,
     };
     let mut is_first = true;
     for word in frames.split_whitespace() {
@@ -219,5 +220,6 @@ fn gate_of(alloc: Global, text: &str) -> Result<Gated> {
         place: number(place)? as usize,
         bytes: number(bytes)?,
         frame: Vec::new(alloc),
+        given: 0,
     })
 }
