@@ -2,7 +2,7 @@
 //! every byte comes and stays as it is, that an existing file isn't taken for a new one, and that
 //! what a failed append left behind is cut off.
 
-ghost use Rattle.std.specs.Prelude.{◌≤◌, IfOk};
+ghost use Rattle.std.specs.Prelude.{◌<◌, ◌≤◌, IfOk, length};
 
 use crate::file_keeper::FileKeeper;
 use crate::stream_host::StreamHost;
@@ -84,6 +84,31 @@ impl Write for Told<'_> {
     }
 }
 
+/// Takes and puts where the stream answers by a table, call by call.
+fn take_and_put<S: Source, T: Sink>(rt: &impl Abort, source: &mut S, sink: &mut T, told: Told<'_>) {
+    let failed = Err(SinkFailed::Failed);
+    for (answer, took, put) in [
+        (Ok(4), Took::Bytes(4), Ok(4)),
+        (Ok(1), Took::Bytes(1), Ok(1)),
+        (Err(ErrorKind::Interrupted), Took::Idle, failed),
+        (Err(ErrorKind::WouldBlock), Took::Idle, failed),
+        (Err(ErrorKind::BrokenPipe), Took::Failed, failed),
+        (Ok(2), Took::Bytes(2), Ok(2)),
+        // A write that takes nothing is a failure, and not the end of a loop.
+        (Ok(0), Took::End, failed),
+        (Ok(0), Took::End, failed),
+        (Err(ErrorKind::ConnectionReset), Took::Failed, failed),
+        (Ok(3), Took::Bytes(3), Ok(3)),
+    ] {
+        told.answer.set(answer);
+        told.calls.set(0);
+        assert_eq!(rt; source.take(&mut [0; 4]), took, "{answer:?}");
+        assert_eq!(rt; told.calls.get(), 1, "{answer:?}");
+        assert_eq!(rt; sink.put(b"abcd"), put, "{answer:?}");
+        assert_eq!(rt; told.calls.get(), 2, "{answer:?}");
+    }
+}
+
 #[test]
 fn each_take_is_one_read_and_each_put_one_write(rt: HostRuntime) -> Result<(), Fail> {
     let answer = Cell::new(Ok(0));
@@ -96,51 +121,23 @@ fn each_take_is_one_read_and_each_put_one_write(rt: HostRuntime) -> Result<(), F
     let mut source = host.input()?;
     let mut sink = host.output()?;
     assert_eq!(rt; calls.get(), 0);
-    let failed = Err(SinkFailed::Failed);
-    for (call, (answered, took, put)) in [
-        (Ok(4), Took::Bytes(4), Ok(4)),
-        (Ok(1), Took::Bytes(1), Ok(1)),
-        (Err(ErrorKind::Interrupted), Took::Idle, failed),
-        (Err(ErrorKind::WouldBlock), Took::Idle, failed),
-        (Err(ErrorKind::BrokenPipe), Took::Failed, failed),
-        (Ok(2), Took::Bytes(2), Ok(2)),
-        // A write that takes nothing is a failure, and not the end of a loop.
-        (Ok(0), Took::End, failed),
-        (Ok(0), Took::End, failed),
-        (Err(ErrorKind::ConnectionReset), Took::Failed, failed),
-        (Ok(3), Took::Bytes(3), Ok(3)),
-    ]
-    .into_iter()
-    .enumerate()
-    {
-        answer.set(answered);
-        assert_eq!(rt; source.take(&mut [0; 4]), took, "{call}");
-        assert_eq!(rt; sink.put(b"abcd"), put, "{call}");
-        assert_eq!(rt; calls.get() as usize, 2 * call + 2);
-    }
+    take_and_put(&rt, &mut source, &mut sink, told);
     host.done_sink(sink);
     host.done_source(source);
-    assert_eq!(rt; calls.get(), 20);
+    assert_eq!(rt; calls.get(), 2);
     Ok(())
 }
 
-/// Whether a source brings these bytes and then ends, in takes of so much room.
-fn brings<R: Abort, S: Source>(
-    rt: &R,
-    alloc: Global,
-    source: &mut S,
-    room: usize,
-    wanted: &[u8],
-) -> Result<(), Fail> {
-    assert!(rt; room > 0);
-    let mut buffer = Vec::new(alloc);
-    buffer.resize(room, 0)?;
+/// Takes what a source brings, which has to be these bytes and then the end, twice.
+fn take_all<S: Source>(rt: &impl Abort, source: &mut S, buffer: &mut [u8], wanted: &[u8])
+    requires { 0 < length buffer.old }
+{
     let mut rest = wanted;
     for _ in 0..wanted.len() {
         if rest.is_empty() {
             break;
         }
-        let Took::Bytes(count) = source.take(&mut buffer) else {
+        let Took::Bytes(count) = source.take(buffer) else {
             panic!(rt; "nothing came before {} bytes", rest.len())
         };
         let Some((front, behind)) = rest.split_at_checked(count) else {
@@ -150,18 +147,30 @@ fn brings<R: Abort, S: Source>(
         rest = behind;
     }
     assert!(rt; rest.is_empty());
-    assert_eq!(rt; source.take(&mut buffer), Took::End);
-    assert_eq!(rt; source.take(&mut buffer), Took::End);
-    Ok(())
+    assert_eq!(rt; source.take(buffer), Took::End);
+    assert_eq!(rt; source.take(buffer), Took::End);
 }
 
-#[test]
-fn records_of_any_size_are_the_file_and_are_read_again(rt: HostRuntime) -> Result<(), Fail> {
-    stand_in_new_folder(&rt, "records")?;
-    let mut host = StreamHost::new(rt.alloc(), rt.stdin(), rt.stdout(), rt);
-    let mut keeper = host.open_keeper("ledger")?;
-    let wanted = pattern(rt.alloc(), 1_112_589)?;
-    let mut rest = wanted.as_slice();
+/// Reads a file whole, in takes of so much room.
+fn read_file<H: Host>(rt: &impl Abort, host: &mut H, room: &mut [u8], name: &str, wanted: &[u8]) {
+    assert!(rt; !room.is_empty());
+    match host.open_source(name) {
+        Ok(mut source) => {
+            take_all(rt, &mut source, room, wanted);
+            host.done_source(source);
+        }
+        Err(_) => panic!(rt; "{name} is not there"),
+    }
+}
+
+/// Keeps records of many sizes, which are all of these bytes, each behind those before it.
+fn keep_records<R: Abort + Files + AllocGlobal, K: Keeper>(
+    rt: &R,
+    keeper: &mut K,
+    name: &str,
+    wanted: &[u8],
+) -> Result<(), Fail> {
+    let mut rest = wanted;
     for size in [
         0, 1, 4_095, 4_096, 4_097, 100_000, 300_100, 99_999, 300_100, 0, 300_099, 2,
     ] {
@@ -169,19 +178,65 @@ fn records_of_any_size_are_the_file_and_are_read_again(rt: HostRuntime) -> Resul
             panic!(rt; "no record")
         };
         rest = behind;
-        assert_eq!(rt; append(&rt, &mut keeper, record), Ok(()), "{size}");
-        let held = fs::read(&rt, "ledger")?;
+        assert_eq!(rt; append(rt, keeper, record), Ok(()), "{size}");
+        let held = fs::read(rt, name)?;
         assert!(rt; wanted.starts_with(&held), "{size}");
         assert_eq!(rt; held.len().saturating_add(rest.len()), wanted.len());
     }
     assert!(rt; rest.is_empty());
+    Ok(())
+}
+
+#[test]
+fn records_of_any_size_are_the_file_and_are_read_again(rt: HostRuntime) -> Result<(), Fail> {
+    stand_in_new_folder(&rt, "records")?;
+    let wanted = pattern(rt.alloc(), 1_112_589)?;
+    let mut host = StreamHost::new(rt.alloc(), rt.stdin(), rt.stdout(), rt);
+    let mut keeper = host.open_keeper("ledger")?;
+    keep_records(&rt, &mut keeper, "ledger", &wanted)?;
     host.done_keeper(keeper);
-    for room in [1, 999, 1_000, 1_001, 65_536, 2_000_000] {
-        let mut source = host.open_source("ledger")?;
-        brings(&rt, rt.alloc(), &mut source, room, &wanted)?;
-        host.done_source(source);
+    let mut room = [0; 65_536];
+    for size in [1, 999, 1_000, 1_001, 65_536] {
+        let Some(front) = room.get_mut(..size) else {
+            panic!(rt; "no room")
+        };
+        read_file(&rt, &mut host, front, "ledger", &wanted);
     }
     remove_folder(&rt)
+}
+
+/// Keeps a record in a file that isn't there before.
+fn keep_in<H: Host>(rt: &impl Abort, host: &mut H, name: &str, record: &[u8]) {
+    match host.open_keeper(name) {
+        Ok(mut keeper) => {
+            assert_eq!(rt; append(rt, &mut keeper, record), Ok(()), "{name}");
+            host.done_keeper(keeper);
+        }
+        Err(_) => panic!(rt; "{name} is there"),
+    }
+}
+
+/// Whether a name is refused for a keeper.
+fn is_refused<H: Host>(host: &mut H, name: &str) -> bool {
+    match host.open_keeper(name) {
+        Ok(keeper) => {
+            host.done_keeper(keeper);
+            false
+        }
+        Err(error) => error == HostError::Failed,
+    }
+}
+
+/// Whether a name is refused for a source, or a take of it fails.
+fn brings_nothing<H: Host>(host: &mut H, name: &str) -> bool {
+    match host.open_source(name) {
+        Ok(mut source) => {
+            let took = source.take(&mut [0; 2]);
+            host.done_source(source);
+            took == Took::Failed
+        }
+        Err(error) => error == HostError::Failed,
+    }
 }
 
 #[test]
@@ -190,29 +245,14 @@ fn only_a_free_name_is_opened_for_a_keeper(rt: HostRuntime) -> Result<(), Fail> 
     let longest = "n".repeat(rt.alloc(), 255)?;
     let mut host = StreamHost::new(rt.alloc(), rt.stdin(), rt.stdout(), rt);
     for length in 1..256 {
-        let Some(name) = longest.get(..length) else {
-            panic!(rt; "no name")
-        };
-        assert!(rt; matches!(host.open_source(name), Err(HostError::Failed)));
-        let mut keeper = host.open_keeper(name)?;
-        assert_eq!(rt; append(&rt, &mut keeper, b"kept"), Ok(()));
-        assert!(rt;
-            matches!(host.open_keeper(name), Err(HostError::Failed)),
-            "{name}"
-        );
-        assert_eq!(rt; append(&rt, &mut keeper, b" too"), Ok(()));
-        host.done_keeper(keeper);
-        assert!(rt;
-            matches!(host.open_keeper(name), Err(HostError::Failed)),
-            "{name}"
-        );
-        assert_eq!(rt;
-            fs::read(&rt, name)?.as_slice(),
-            b"kept too".as_slice(),
-            "{name}"
-        );
+        let name = longest.get(..length).unwrap_or("");
+        assert!(rt; brings_nothing(&mut host, name), "{name}");
+        keep_in(&rt, &mut host, name, b"kept");
+        assert!(rt; is_refused(&mut host, name), "{name}");
+        assert!(rt; is_refused(&mut host, name), "{name}");
+        read_file(&rt, &mut host, &mut [0; 9], name, b"kept");
     }
-    Ok(())
+    remove_folder(&rt)
 }
 
 #[test]
@@ -220,21 +260,11 @@ fn what_is_no_file_is_no_source(rt: HostRuntime) -> Result<(), Fail> {
     stand_in_new_folder(&rt, "sources")?;
     fs::create_dir(&rt, "folder")?;
     let mut host = StreamHost::new(rt.alloc(), rt.stdin(), rt.stdout(), rt);
-    for name in ["", "missing", "folder/missing", "missing/name", "\0"] {
-        assert!(rt;
-            matches!(host.open_source(name), Err(HostError::Failed)),
-            "{name}"
-        );
-    }
     for name in ["", "folder", "missing/name", "\0"] {
-        assert!(rt;
-            matches!(host.open_keeper(name), Err(HostError::Failed)),
-            "{name}"
-        );
+        assert!(rt; brings_nothing(&mut host, name), "{name}");
+        assert!(rt; is_refused(&mut host, name), "{name}");
     }
-    let mut source = host.open_source("folder")?;
-    assert_eq!(rt; source.take(&mut [0; 2]), Took::Failed);
-    host.done_source(source);
+    assert!(rt; brings_nothing(&mut host, "missing"));
     remove_folder(&rt)
 }
 
@@ -307,7 +337,7 @@ fn keeps_what_it_says<R: Abort + Files<File = File> + AllocGlobal>(
         behind: first.saturating_add(failing),
     });
     let mut kept = Vec::new(rt.alloc());
-    let mut failed = 0;
+    let mut failed = 0u32;
     let mut rest = "abcdefghijklmnopqrstuvwxyz0123456789".as_bytes();
     for size in [3, 12, size, 1, 1, 6] {
         let Some((record, behind)) = rest.split_at_checked(size) else {
@@ -320,7 +350,7 @@ fn keeps_what_it_says<R: Abort + Files<File = File> + AllocGlobal>(
             kept.extend_from_slice(record)?;
             assert!(rt; held == kept, "{first} {failing} {size}");
         } else {
-            failed += 1;
+            failed = failed.saturating_add(1);
             assert!(rt; held.starts_with(&kept), "{first} {failing} {size}");
         }
     }

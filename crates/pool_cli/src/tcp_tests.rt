@@ -80,7 +80,9 @@ fn address_of(alloc: Global, bound: &Cell<Option<SocketAddr>>) -> Result<String,
 }
 
 /// The next caller at a door, who may still be on the way.
-fn caller_at<C: Clock + Drop>(rt: &impl Abort, door: &mut TcpDoor<TcpListener, C>) -> TcpLink {
+fn caller_at<C: Clock + Drop>(rt: &impl Abort, door: &mut TcpDoor<TcpListener, C>) -> TcpLink
+    ensures { 0 < door.new.out }
+{
     for _ in 0..50 {
         match door.accept() {
             Came::Caller(link) => return link,
@@ -113,7 +115,8 @@ fn hear(rt: &impl Abort, link: &mut TcpLink, buffer: &mut [u8], wanted: &[u8])
         if rest.is_empty() {
             break;
         }
-        let Took::Bytes(count) = heard(link, buffer) else {
+        let room = buffer.len().min(rest.len());
+        let Took::Bytes(count) = heard(link, &mut buffer[..room]) else {
             panic!(rt; "nothing came before {} bytes", rest.len())
         };
         let Some((front, behind)) = rest.split_at_checked(count) else {
@@ -144,24 +147,41 @@ fn carry(rt: &impl Abort, from: &mut TcpLink, to: &mut TcpLink, buffer: &mut [u8
     assert_eq!(rt; to.take(buffer), Took::Idle);
 }
 
-/// Puts a text in great pieces until a put fails, since nobody hears. Answers what has gone.
-fn put_until_it_fails<'a>(rt: &impl Abort, link: &mut TcpLink, text: &'a [u8]) -> &'a [u8] {
+/// Puts a text again and again until a put fails, since nobody hears. Answers how much has gone.
+fn put_until_it_fails(rt: &impl Abort, link: &mut TcpLink, text: &[u8]) -> usize {
     let mut gone = 0usize;
-    for _ in 0..text.len() {
-        let Some(rest) = text.get(gone..) else {
-            panic!(rt; "more has gone than there was")
-        };
-        let piece = &rest[..rest.len().min(1_000_000)];
-        assert!(rt; !piece.is_empty());
-        match link.put(piece) {
-            Ok(count) => gone = gone.saturating_add(count),
+    let mut rest = text;
+    for _ in 0..100_000 {
+        if rest.is_empty() {
+            rest = text;
+        }
+        assert!(rt; !rest.is_empty());
+        match link.put(rest) {
+            Ok(count) => {
+                gone = gone.saturating_add(count);
+                rest = &rest[count..];
+            }
             Err(error) => {
                 assert_eq!(rt; error, SinkFailed::Failed);
-                return &text[..gone.min(text.len())];
+                return gone;
             }
         }
     }
     panic!(rt; "no put failed")
+}
+
+/// Hears so many bytes of a text that comes again and again.
+fn hear_again(rt: &impl Abort, link: &mut TcpLink, room: &mut [u8], text: &[u8], gone: usize)
+    requires { 0 < length room.old }
+{
+    let mut left = gone;
+    for _ in 0..100_000 {
+        let piece = &text[..left.min(text.len())];
+        hear(rt, link, room, piece);
+        left -= piece.len();
+    }
+    assert_eq!(rt; left, 0);
+    assert_eq!(rt; link.take(room), Took::Idle);
 }
 
 /// A caller, and the link by which it was let in.
@@ -177,6 +197,39 @@ fn meet<N: Net<Listener = TcpListener, Stream = TcpStream> + Clock + Copy + Drop
     }
 }
 
+/// Carries texts both ways, in takes of so much room.
+fn carry_both_ways(
+    rt: &impl Abort,
+    caller: &mut TcpLink,
+    link: &mut TcpLink,
+    size: usize,
+    text: &[u8],
+) {
+    let mut room = [0; 65_536];
+    let (Some(buffer), Some(first), Some(second)) = (
+        room.get_mut(..size),
+        text.get(..60_000),
+        text.get(200_000..260_000),
+    ) else {
+        panic!(rt; "no room, or no text")
+    };
+    assert!(rt; !buffer.is_empty());
+    carry(rt, caller, link, buffer, first);
+    carry(rt, link, caller, buffer, second);
+}
+
+/// Puts until a put fails, which comes short before, and hears just what is said to have gone; then
+/// the caller is gone.
+fn hear_to_the_end(rt: &impl Abort, mut caller: TcpLink, link: &mut TcpLink, text: &[u8]) {
+    let mut room = [0; 65_536];
+    let gone = put_until_it_fails(rt, &mut caller, text);
+    hear_again(rt, link, &mut room, text, gone);
+    carry(rt, &mut caller, link, &mut room, b"and on");
+    drop(caller);
+    assert_eq!(rt; heard(link, &mut room), Took::End);
+    assert_eq!(rt; link.take(&mut room), Took::End);
+}
+
 #[test]
 fn each_byte_goes_over_as_it_is(rt: HostRuntime) -> Result<(), Fail> {
     let bound = Cell::new(None);
@@ -184,38 +237,15 @@ fn each_byte_goes_over_as_it_is(rt: HostRuntime) -> Result<(), Fail> {
     let mut network = TcpNetwork::new(rt.alloc(), watching(rt, &bound, &slept));
     let mut doors = network.open_doors("127.0.0.1:0", 1)?;
     let address = address_of(rt.alloc(), &bound)?;
-    let text = pattern(rt.alloc(), 32_000_000)?;
-    let mut room = [0; 65_536];
+    let text = pattern(rt.alloc(), 300_007)?;
     let Some(door) = doors.first_mut() else {
         panic!(rt; "no door")
     };
     let (mut caller, mut link) = meet(&rt, &mut network, door, address.as_str());
     for size in [1, 999, 1_000, 1_001, 65_536] {
-        let Some(buffer) = room.get_mut(..size) else {
-            panic!(rt; "no room")
-        };
-        carry(
-            &rt,
-            &mut caller,
-            &mut link,
-            buffer,
-            text.get(..170_000).unwrap_or(b""),
-        );
-        carry(
-            &rt,
-            &mut link,
-            &mut caller,
-            buffer,
-            text.get(70_000..240_000).unwrap_or(b""),
-        );
+        carry_both_ways(&rt, &mut caller, &mut link, size, &text);
     }
-    // A put comes short before one fails, and what is said to have gone has.
-    let gone = put_until_it_fails(&rt, &mut caller, &text);
-    hear(&rt, &mut link, &mut room, gone);
-    carry(&rt, &mut caller, &mut link, &mut room, b"and on");
-    drop(caller);
-    assert_eq!(rt; heard(&mut link, &mut room), Took::End);
-    assert_eq!(rt; link.take(&mut room), Took::End);
+    hear_to_the_end(&rt, caller, &mut link, &text);
     Ok(())
 }
 
@@ -286,12 +316,11 @@ fn let_all_in<N: Net<Listener = TcpListener, Stream = TcpStream> + Clock + Copy 
         }
     }
     for number in 0..9 {
-        let door = if number / 4 == 1 {
-            &mut *second
+        if number / 4 == 1 {
+            let_in(rt, second, number);
         } else {
-            &mut *first
-        };
-        let_in(rt, door, number);
+            let_in(rt, first, number);
+        }
     }
     assert!(rt; matches!(first.accept(), Came::Idle));
     for caller in &mut callers {
@@ -318,7 +347,7 @@ fn an_address_is_reached_where_it_is_one_and_free(rt: HostRuntime) -> Result<(),
     let bound = Cell::new(None);
     let slept = Cell::new(Duration::ZERO);
     let mut network = TcpNetwork::new(rt.alloc(), watching(rt, &bound, &slept));
-    let doors = network.open_doors("127.0.0.1:0", 1)?;
+    let _doors = network.open_doors("127.0.0.1:0", 1)?;
     let taken = address_of(rt.alloc(), &bound)?;
     for address in [taken.as_str(), "", "nowhere", "127.0.0.1:65536"] {
         let opened = network.open_doors(address, 1);
@@ -329,7 +358,6 @@ fn an_address_is_reached_where_it_is_one_and_free(rt: HostRuntime) -> Result<(),
         let dialled = network.dial(address);
         assert!(rt; matches!(dialled, Err(HostError::Failed)), "{address}");
     }
-    network.done_doors(doors);
     Ok(())
 }
 
