@@ -1,7 +1,7 @@
 //! Headers, roots, classes and targets, by Bitcoin's public record.
 
 use crate::cases::{display, displayed, part, word};
-use anyhow::{Result, bail, ensure};
+use anyhow::{Result, bail};
 use block_header::{Header, class_of_target, dsha, meets_class, meets_target, root_of, target_of};
 use std::alloc::Global;
 use sv2_types::U256;
@@ -12,27 +12,33 @@ pub(crate) fn found(alloc: Global, given: &str) -> Result<String> {
     match part(given, 0)? {
         "hash" => found_hash(alloc, part(given, 2)?),
         "root" => found_root(alloc, given),
-        "meets_class" => {
-            let hash = hash_of(alloc, part(given, 2)?)?;
-            let is_met = meets_class(&hash, part(given, 3)?.parse()?);
-            Ok(format!(in alloc; "{is_met}")?)
-        }
-        "class_of_target" => {
-            let target = U256::of(hash_of(alloc, part(given, 2)?)?);
-            Ok(format!(in alloc; "{}", class_of_target(&target))?)
-        }
-        "target_of" => {
-            let class = part(given, 2)?.parse()?;
-            ensure!(class <= 60, "a class is at most 60");
-            Ok(hex::encode(alloc, target_of(class).bytes())?)
-        }
-        "meets_target" => {
-            let hash = hash_of(alloc, part(given, 2)?)?;
-            let target = U256::of(hash_of(alloc, part(given, 3)?)?);
-            Ok(format!(in alloc; "{}", meets_target(&hash, &target))?)
-        }
-        what => bail!("no case is of form {what}"),
+        "target_of" => found_target(alloc, part(given, 2)?.parse()?),
+        "class_of_target" => found_class(alloc, part(given, 2)?),
+        test => found_truth(alloc, test, given),
     }
+}
+
+fn found_target(alloc: Global, class: u8) -> Result<String> {
+    if class > 60 {
+        bail!("a class is at most 60");
+    }
+    Ok(hex::encode(alloc, target_of(class).bytes())?)
+}
+
+fn found_class(alloc: Global, target: &str) -> Result<String> {
+    let class = class_of_target(&U256::of(hash_of(alloc, target)?));
+    Ok(format!(in alloc; "{class}")?)
+}
+
+fn found_truth(alloc: Global, test: &str, given: &str) -> Result<String> {
+    let hash = hash_of(alloc, part(given, 2)?)?;
+    let bound = part(given, 3)?;
+    let is_met = match test {
+        "meets_class" => meets_class(&hash, bound.parse()?),
+        "meets_target" => meets_target(&hash, &U256::of(hash_of(alloc, bound)?)),
+        _ => bail!("no case is of form {test}"),
+    };
+    Ok(format!(in alloc; "{is_met}")?)
 }
 
 fn hash_of(alloc: Global, words: &str) -> Result<[u8; 32]> {

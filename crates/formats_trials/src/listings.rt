@@ -2,7 +2,7 @@
 
 use crate::cases::{bytes, part};
 use crate::turns::{host_of_input, put_piece, turns};
-use anyhow::{Result, bail, ensure};
+use anyhow::{Result, bail};
 use frame_listing::list_frames;
 use pool_io::{MemHost, Turn};
 use pool_turns::Status;
@@ -22,32 +22,36 @@ pub(crate) fn found(alloc: Global, given: &str) -> Result<String> {
 /// The listing of bytes: the same of all at once as of single bytes with Idle answers between.
 fn found_bytes(alloc: Global, words: &str) -> Result<String> {
     let input = bytes(alloc, words)?;
+    let listing = found_listing(alloc, singles_of(alloc, &input)?)?;
+    let mut whole = Vec::new(alloc);
+    put_piece(&mut whole, input)?;
+    if found_listing(alloc, whole)?.as_str() != listing.as_str() {
+        bail!("by single bytes it is another");
+    }
+    Ok(listing)
+}
+
+fn singles_of(alloc: Global, bytes: &[u8]) -> Result<Vec<Turn>> {
     let mut singles = Vec::new(alloc);
-    for byte in &input {
+    for byte in bytes {
         put_piece(&mut singles, vec![in alloc; *byte]?)?;
         singles.push(Turn::Idle)?;
     }
-    let by_singles = found_listing(alloc, singles)?;
-    let mut whole = Vec::new(alloc);
-    put_piece(&mut whole, input)?;
-    let listing = found_listing(alloc, whole)?;
-    ensure!(
-        by_singles.as_str() == listing.as_str(),
-        "by single bytes: {by_singles}"
-    );
-    Ok(listing)
+    Ok(singles)
 }
 
 /// The status of a listing, and its lines.
 fn found_listing(alloc: Global, turns: Vec<Turn>) -> Result<String> {
     let mut host = host_of_input(alloc, turns);
     let status = list_frames(alloc, &mut host);
+    shown_lines(alloc, status, lines_of(&host)?)
+}
+
+fn shown_lines(alloc: Global, status: Status, lines: &str) -> Result<String> {
+    if !lines.is_empty() && !lines.ends_with('\n') {
+        bail!("the last line doesn't end");
+    }
     let mut text = format!(in alloc; "{status:?}")?;
-    let lines = lines_of(&host)?;
-    ensure!(
-        lines.is_empty() || lines.ends_with('\n'),
-        "the last line doesn't end"
-    );
     for line in lines.lines() {
         write!(text, "; {line}")?;
     }
@@ -66,22 +70,24 @@ fn lines_of(host: &MemHost) -> Result<&str> {
 fn found_kinds(alloc: Global) -> Result<String> {
     let mut text = String::new(alloc);
     for kind in 0..=255u8 {
-        let mut turns = Vec::new(alloc);
-        put_piece(&mut turns, vec![in alloc; 0, 0, kind, 0, 0, 0]?)?;
-        let mut host = host_of_input(alloc, turns);
-        if list_frames(alloc, &mut host) == Status::Refused {
-            ensure!(
-                lines_of(&host)? == "bad 0 field 0 short\n",
-                "{kind:02x} is refused otherwise"
-            );
+        if is_refused_empty(alloc, kind)? {
             write!(text, "{kind:02x} ")?;
-        } else {
-            let line = format!(in alloc; "frame 0 ext 0000 kind {kind:02x} length 0 -\n")?;
-            ensure!(
-                lines_of(&host)? == line.as_str(),
-                "{kind:02x} is listed otherwise"
-            );
         }
     }
     Ok(text)
+}
+
+/// Whether an empty frame of a kind is refused. It is listed without a name where it isn't.
+fn is_refused_empty(alloc: Global, kind: u8) -> Result<bool> {
+    let mut turns = Vec::new(alloc);
+    put_piece(&mut turns, vec![in alloc; 0, 0, kind, 0, 0, 0]?)?;
+    let listing = found_listing(alloc, turns)?;
+    if listing.as_str() == "Refused; bad 0 field 0 short" {
+        return Ok(true);
+    }
+    let unnamed = format!(in alloc; "Done; frame 0 ext 0000 kind {kind:02x} length 0 -")?;
+    if listing.as_str() != unnamed.as_str() {
+        bail!("a kind is listed otherwise");
+    }
+    Ok(false)
 }

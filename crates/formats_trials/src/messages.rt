@@ -5,6 +5,7 @@ use anyhow::{Result, bail, ensure};
 use declare_msgs::{Declare, DeclareMiningJob};
 use mining_msgs::{Mining, NewExtendedMiningJob, SetExtranoncePrefix};
 use std::alloc::Global;
+use std::fmt::Write;
 use sv2_messages::{MsgError, name_of};
 use sv2_types::{ReadError, Seq32};
 use template_msgs::{NewTemplate, SubmitSolution, Template};
@@ -19,56 +20,100 @@ pub(crate) fn found(alloc: Global, given: &str) -> Result<String> {
     }
 }
 
-/// The message of a whole frame, by its fields' names, and what it is written as where that is another
-/// frame. It has its kind's name, and it is read neither cut at any byte nor with one byte more.
+/// The message of a whole frame, by its fields' names; what it is written as where that is another
+/// frame; and what is otherwise than it should be.
 fn found_frame(alloc: Global, protocol: &str, given: &str) -> Result<String> {
     let name = part(given, 1)?;
     let frame = spelled(alloc, part(given, 2)?)?;
-    ensure!(frame.bytes.len() >= 6, "a header has six bytes");
-    let kind = frame.bytes[2];
-    let payload = &frame.bytes[6..];
-    let mut written = Vec::new(alloc);
-    written.push(0x55)?;
-    let message = match protocol {
-        "mining" => read_mining(alloc, kind, payload, &mut written)?,
-        "template" => read_template(alloc, kind, payload, &mut written)?,
-        _ => read_declare(alloc, kind, payload, &mut written)?,
+    let Some((kind, payload)) = parts_of(&frame.bytes) else {
+        bail!("a header has six bytes");
     };
-    ensure!(name_of(kind) == Some(name), "{kind:02x} has another name");
-    ensure!(written.len() > 1, "nothing is written");
-    ensure!(written[0] == 0x55, "what was there before is written over");
-    is_short_where_cut(protocol, kind, &frame)?;
-    let mut longer = payload.to_vec(alloc)?;
-    longer.push(0)?;
-    ensure!(
-        defect_of(protocol, kind, &longer) == Some(MsgError::Trailing(1)),
-        "it is read with a byte more"
-    );
-    if &written[1..] == frame.bytes.as_slice() {
-        Ok(message)
-    } else {
-        let written = hex::encode(alloc, &written[1..])?;
-        Ok(format!(in alloc; "{message}, written {written}")?)
+    let mut written = Vec::new(alloc);
+    let mut text = read_message(alloc, protocol, kind, payload, &mut written)?;
+    put_otherwise(alloc, &mut text, &written, &frame.bytes)?;
+    text.push_str(first_fault(alloc, protocol, name, &frame)?)?;
+    Ok(text)
+}
+
+/// The kind of a frame, and its payload.
+fn parts_of(frame: &[u8]) -> Option<(u8, &[u8])> {
+    if frame.len() < 6 {
+        return None;
     }
+    Some((frame[2], &frame[6..]))
+}
+
+fn put_otherwise(alloc: Global, text: &mut String, written: &[u8], frame: &[u8]) -> Result<()> {
+    if written != frame {
+        let written = hex::encode(alloc, written)?;
+        write!(text, ", written {written}")?;
+    }
+    Ok(())
+}
+
+/// A message has its kind's name, and it is read neither cut at any byte nor with one byte more.
+fn first_fault(
+    alloc: Global,
+    protocol: &str,
+    name: &str,
+    frame: &Spelling,
+) -> Result<&'static str> {
+    let Some((kind, payload)) = parts_of(&frame.bytes) else {
+        return Ok(", it is no frame");
+    };
+    if name_of(kind) != Some(name) {
+        return Ok(", its kind has another name");
+    }
+    if !is_short_where_cut(protocol, kind, frame) {
+        return Ok(", cut at a byte it isn't short in that field");
+    }
+    if !is_refused_with_a_byte(alloc, protocol, kind, payload)? {
+        return Ok(", with a byte more it isn't refused");
+    }
+    Ok("")
 }
 
 /// A payload that is cut has its defect in the field that is cut. The frame's first word spells its
 /// header, and each of the others a field.
-fn is_short_where_cut(protocol: &str, kind: u8, frame: &Spelling) -> Result<()> {
-    for (end, _) in frame.bytes.iter().enumerate().skip(6) {
+fn is_short_where_cut(protocol: &str, kind: u8, frame: &Spelling) -> bool {
+    let bytes = frame.bytes.as_slice();
+    for (end, _) in bytes.iter().enumerate().skip(6) {
         let (words, _) = begun(&frame.begins, end);
         let short = MsgError::BadField(words.wrapping_sub(2), ReadError::Short);
-        let is_short = defect_of(protocol, kind, &frame.bytes[6..end]) == Some(short);
-        ensure!(is_short, "cut at byte {end} it isn't short in its field");
+        if defect_of(protocol, kind, &bytes[6..end]) != Some(short) {
+            return false;
+        }
     }
-    Ok(())
+    true
+}
+
+fn is_refused_with_a_byte(alloc: Global, protocol: &str, kind: u8, payload: &[u8]) -> Result<bool> {
+    let mut longer = payload.to_vec(alloc)?;
+    longer.push(0)?;
+    Ok(defect_of(protocol, kind, &longer) == Some(MsgError::Trailing(1)))
+}
+
+/// Reads a message, and writes it again.
+fn read_message(
+    alloc: Global,
+    protocol: &str,
+    kind: u8,
+    payload: &[u8],
+    out: &mut Vec<u8>,
+) -> Result<String> {
+    match protocol {
+        "mining" => read_mining(alloc, kind, payload, out),
+        "template" => read_template(alloc, kind, payload, out),
+        _ => read_declare(alloc, kind, payload, out),
+    }
 }
 
 fn read_mining(alloc: Global, kind: u8, payload: &[u8], out: &mut Vec<u8>) -> Result<String> {
     match mining_msgs::read(kind, payload) {
         Ok(message) => {
-            ensure!(message.kind() == kind, "it says another kind");
-            ensure!(message.fits(), "it doesn't fit");
+            if message.kind() != kind || !message.fits() {
+                bail!("it says another kind, or that it doesn't fit");
+            }
             message.frame(out)?;
             Ok(format!(in alloc; "{message:?}")?)
         }
@@ -79,8 +124,9 @@ fn read_mining(alloc: Global, kind: u8, payload: &[u8], out: &mut Vec<u8>) -> Re
 fn read_template(alloc: Global, kind: u8, payload: &[u8], out: &mut Vec<u8>) -> Result<String> {
     match template_msgs::read(kind, payload) {
         Ok(message) => {
-            ensure!(message.kind() == kind, "it says another kind");
-            ensure!(message.fits(), "it doesn't fit");
+            if message.kind() != kind || !message.fits() {
+                bail!("it says another kind, or that it doesn't fit");
+            }
             message.frame(out)?;
             Ok(format!(in alloc; "{message:?}")?)
         }
@@ -91,8 +137,9 @@ fn read_template(alloc: Global, kind: u8, payload: &[u8], out: &mut Vec<u8>) -> 
 fn read_declare(alloc: Global, kind: u8, payload: &[u8], out: &mut Vec<u8>) -> Result<String> {
     match declare_msgs::read(kind, payload) {
         Ok(message) => {
-            ensure!(message.kind() == kind, "it says another kind");
-            ensure!(message.fits(), "it doesn't fit");
+            if message.kind() != kind || !message.fits() {
+                bail!("it says another kind, or that it doesn't fit");
+            }
             message.frame(out)?;
             Ok(format!(in alloc; "{message:?}")?)
         }
@@ -125,22 +172,29 @@ fn found_defect(alloc: Global, given: &str) -> Result<String> {
     Ok(format!(in alloc; "{defect:?}")?)
 }
 
-/// Whether a message fits that has a field of so many bytes, hashes or bytes of a transaction.
+/// Whether a message fits that has a field of so many bytes or hashes.
 fn found_fit(alloc: Global, given: &str) -> Result<String> {
-    let count: usize = part(given, 2)?.parse()?;
-    ensure!(count < 0x100_0000, "so many are not tried");
-    let bytes = vec![in alloc; 0u8; count]?;
-    let fits = match part(given, 1)? {
-        "SetExtranoncePrefix.extranonce_prefix" => is_fit_prefix(&bytes),
-        "NewExtendedMiningJob.merkle_path" => is_fit_path(alloc, count)?,
-        "NewTemplate.coinbase_prefix" => is_fit_template(&bytes, Seq32::of(&[])),
-        "NewTemplate.merkle_path" => is_fit_template_path(alloc, count)?,
-        "SubmitSolution.coinbase_tx" => is_fit_coinbase(&bytes),
-        "DeclareMiningJob.excess_data" => is_fit_excess(&bytes),
-        "ProvideMissingTransactions.Success.transaction_list" => is_fit_list(alloc, &bytes)?,
-        field => bail!("no case is of {field}"),
-    };
+    let fits = is_fit(alloc, part(given, 1)?, part(given, 2)?.parse()?)?;
     Ok(format!(in alloc; "{fits}")?)
+}
+
+fn is_fit(alloc: Global, field: &str, count: usize) -> Result<bool> {
+    match field {
+        "NewExtendedMiningJob.merkle_path" => is_fit_path(alloc, count),
+        "NewTemplate.merkle_path" => is_fit_template_path(alloc, count),
+        _ => is_fit_bytes(alloc, field, count),
+    }
+}
+
+fn is_fit_bytes(alloc: Global, field: &str, count: usize) -> Result<bool> {
+    let bytes = vec![in alloc; 0u8; count]?;
+    match field {
+        "SetExtranoncePrefix.extranonce_prefix" => Ok(is_fit_prefix(&bytes)),
+        "NewTemplate.coinbase_prefix" => Ok(is_fit_template(&bytes, Seq32::of(&[]))),
+        "SubmitSolution.coinbase_tx" => Ok(is_fit_coinbase(&bytes)),
+        "DeclareMiningJob.excess_data" => Ok(is_fit_excess(&bytes)),
+        _ => is_fit_list(alloc, &bytes),
+    }
 }
 
 fn is_fit_prefix(extranonce_prefix: &[u8]) -> bool {

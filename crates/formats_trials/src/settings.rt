@@ -1,8 +1,9 @@
 //! Settings: what they say, and what is refused.
 
 use crate::cases::{bytes, part};
+use crate::files::{padded, shown_fee};
 use anyhow::{Result, bail};
-use pool_settings::read_settings;
+use pool_settings::{SettingsError, read_settings};
 use std::alloc::Global;
 
 pub(crate) fn found(alloc: Global, given: &str) -> Result<String> {
@@ -13,20 +14,26 @@ pub(crate) fn found(alloc: Global, given: &str) -> Result<String> {
             Ok(format!(in alloc; "{settings:?}")?)
         }
         "fee" => found_fee(alloc, text.as_bytes()),
+        "refusal" => found_words(alloc, text),
         "bytes" => found_fee(alloc, &bytes(alloc, text)?),
         "padded" => {
-            let mut padded = text.as_bytes().to_vec(alloc)?;
-            for _ in text.len()..part(given, 2)?.parse()? {
-                padded.push(b' ')?;
-            }
+            let padded = padded(alloc, text, part(given, 2)?.parse()?)?;
             found_fee(alloc, &padded)
         }
         what => bail!("no case is of form {what}"),
     }
 }
 
-/// The fee that settings say.
 fn found_fee(alloc: Global, text: &[u8]) -> Result<String> {
-    let settings = read_settings(alloc, text)?;
-    Ok(format!(in alloc; "fee {}", settings.rules.fee)?)
+    shown_fee(alloc, &read_settings(alloc, text)?)
+}
+
+/// A refusal as words.
+fn found_words(alloc: Global, name: &str) -> Result<String> {
+    let refusal = match name {
+        "Bad" => SettingsError::Bad,
+        "Memory" => SettingsError::Memory,
+        _ => bail!("no refusal is named {name}"),
+    };
+    Ok(format!(in alloc; "{refusal}")?)
 }

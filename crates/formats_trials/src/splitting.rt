@@ -3,10 +3,10 @@
 ghost use Rattle.std.specs.Prelude.{⊤};
 
 use crate::cases::{bytes, part};
-use anyhow::{Result, bail, ensure};
+use anyhow::{Result, bail};
 use std::alloc::{AllocError, Global};
 use std::fmt::Write;
-use sv2_frames::{Frame, RunEnd, Splitter, TakeFrames, write_frame};
+use sv2_frames::{Frame, FrameHeader, RunEnd, Splitter, TakeFrames, write_frame};
 
 /// Tells the frames that it is given, and writes them again.
 #[derive(Drop)]
@@ -57,67 +57,98 @@ pub(crate) fn found(alloc: Global, given: &str) -> Result<String> {
     }
 }
 
-/// What a stream brings: the same whole, cut in two at each place, in pieces of seven bytes, and byte
-/// by byte.
+/// A stream, the limit of its splitter, and how many frames its taker wants.
+#[derive(Clone, Copy)]
+struct Asked<'a> {
+    stream: &'a [u8],
+    limit: u32,
+    wants: usize,
+}
+
 fn found_stream(alloc: Global, given: &str) -> Result<String> {
     let limit = part(given, 1)?.parse()?;
     let wants = part(given, 2)?.parse()?;
     let stream = bytes(alloc, part(given, 3)?)?;
-    let stream = stream.as_slice();
-    let whole = run(alloc, limit, wants, &[stream], stream)?;
+    let asked = Asked {
+        stream: &stream,
+        limit,
+        wants,
+    };
+    found_alike(alloc, asked)
+}
+
+/// What a stream brings, whole, and how it is cut where it brings something else.
+fn found_alike(alloc: Global, asked: Asked<'_>) -> Result<String> {
+    let whole = run(alloc, asked, &[asked.stream])?;
+    let cut = first_other_cut(alloc, asked, whole.as_str())?;
+    if cut.is_empty() {
+        Ok(whole)
+    } else {
+        Ok(format!(in alloc; "otherwise {cut}")?)
+    }
+}
+
+fn first_other_cut(alloc: Global, asked: Asked<'_>, whole: &str) -> Result<&'static str> {
+    if !is_alike_in_two(alloc, asked, whole)? {
+        return Ok("cut in two");
+    }
+    if !is_alike_in_sevens(alloc, asked, whole)? {
+        return Ok("in pieces of seven bytes");
+    }
+    if run_by_ones(alloc, asked)?.as_str() != whole {
+        return Ok("byte by byte");
+    }
+    Ok("")
+}
+
+/// At each place, and in a long stream at some.
+fn is_alike_in_two(alloc: Global, asked: Asked<'_>, whole: &str) -> Result<bool> {
+    let stream = asked.stream;
     for (cut, _) in stream.iter().enumerate() {
         if stream.len() < 1_000 || cut % 65_537 == 0 {
-            let cut_in_two = run(
-                alloc,
-                limit,
-                wants,
-                &[&stream[..cut], &stream[cut..]],
-                stream,
-            )?;
-            ensure!(
-                cut_in_two.as_str() == whole.as_str(),
-                "cut at {cut}: {cut_in_two}"
-            );
+            let found = run(alloc, asked, &[&stream[..cut], &stream[cut..]])?;
+            if found.as_str() != whole {
+                return Ok(false);
+            }
         }
     }
+    Ok(true)
+}
+
+fn is_alike_in_sevens(alloc: Global, asked: Asked<'_>, whole: &str) -> Result<bool> {
     let mut pieces: Vec<&[u8]> = Vec::new(alloc);
-    for piece in stream.chunks(7) {
+    for piece in asked.stream.chunks(7) {
         pieces.push(piece)?;
     }
-    let by_sevens = run(alloc, limit, wants, &pieces, stream)?;
-    ensure!(
-        by_sevens.as_str() == whole.as_str(),
-        "by sevens: {by_sevens}"
-    );
-    let by_ones = run_by_ones(alloc, limit, wants, stream)?;
-    ensure!(
-        by_ones.as_str() == whole.as_str(),
-        "byte by byte: {by_ones}"
-    );
-    Ok(whole)
+    let found = run(alloc, asked, &pieces)?;
+    Ok(found.as_str() == whole)
 }
 
 /// The frames that a run hands on, how it ends, and how many bytes stay held.
-fn run(alloc: Global, limit: u32, wants: usize, pieces: &[&[u8]], stream: &[u8]) -> Result<String> {
-    let mut taker = Taker::new(alloc, wants);
-    let mut splitter = Splitter::new(alloc, limit)?;
+fn run(alloc: Global, asked: Asked<'_>, pieces: &[&[u8]]) -> Result<String> {
+    let mut splitter = Splitter::new(alloc, asked.limit)?;
+    let mut taker = Taker::new(alloc, asked.wants);
     let end = splitter.run(pieces, &mut taker);
-    told(alloc, &taker, stream, end, splitter.held())
+    told(alloc, &taker, asked.stream, end, splitter.held())
 }
 
 /// The same by the calls that a run is made of, for each byte.
-fn run_by_ones(alloc: Global, limit: u32, wants: usize, stream: &[u8]) -> Result<String> {
-    let mut taker = Taker::new(alloc, wants);
-    let mut splitter = Splitter::new(alloc, limit)?;
-    let mut end = RunEnd::Done;
+fn run_by_ones(alloc: Global, asked: Asked<'_>) -> Result<String> {
+    let mut splitter = Splitter::new(alloc, asked.limit)?;
+    let mut taker = Taker::new(alloc, asked.wants);
+    let end = end_by_ones(&mut splitter, &mut taker, asked.stream);
+    told(alloc, &taker, asked.stream, end, splitter.held())
+}
+
+fn end_by_ones(splitter: &mut Splitter, taker: &mut Taker, stream: &[u8]) -> RunEnd {
     for byte in stream {
-        ensure!(splitter.feed(&[*byte]) == 1, "a byte isn't taken");
-        end = turn(&mut splitter, &mut taker);
+        let _taken = splitter.feed(&[*byte]);
+        let end = turn(splitter, taker);
         if end != RunEnd::Done {
-            break;
+            return end;
         }
     }
-    told(alloc, &taker, stream, end, splitter.held())
+    RunEnd::Done
 }
 
 fn turn(splitter: &mut Splitter, taker: &mut Taker) -> RunEnd {
@@ -138,10 +169,9 @@ fn turn(splitter: &mut Splitter, taker: &mut Taker) -> RunEnd {
 
 /// The frames written again are the stream's own bytes.
 fn told(alloc: Global, taker: &Taker, stream: &[u8], end: RunEnd, held: usize) -> Result<String> {
-    ensure!(
-        stream.starts_with(&taker.written),
-        "frames are written otherwise"
-    );
+    if !stream.starts_with(&taker.written) {
+        bail!("frames are written otherwise");
+    }
     let frames = taker.text.as_str();
     Ok(format!(in alloc; "{frames}{end:?}, {held} held")?)
 }
@@ -160,28 +190,35 @@ fn found_calls(alloc: Global, given: &str) -> Result<String> {
 
 fn answer(alloc: Global, splitter: &mut Splitter, call: &str) -> Result<String> {
     match call.split_once(' ') {
-        Some((_, piece)) => {
-            let taken = splitter.feed(&bytes(alloc, piece)?);
-            Ok(format!(in alloc; "{taken}")?)
-        }
-        None if call == "header" => match splitter.header() {
-            None => Ok(String::from_str(alloc, "no header")?),
-            Some(header) => {
-                let ext = header.ext;
-                let kind = header.kind;
-                let length = header.len;
-                Ok(format!(in alloc; "{ext:04x} {kind:02x} {length}")?)
-            }
-        },
-        None if call == "held" => {
-            let held = splitter.held();
-            Ok(format!(in alloc; "{held}")?)
-        }
-        None => {
-            let mut taker = Taker::new(alloc, 2);
-            let end = turn(splitter, &mut taker);
-            let frame = taker.text.as_str();
-            Ok(format!(in alloc; "{frame}{end:?}")?)
-        }
+        Some((_, piece)) => number_shown(alloc, fed(alloc, splitter, piece)?),
+        None if call == "header" => header_shown(alloc, splitter.header()),
+        None if call == "held" => number_shown(alloc, splitter.held()),
+        None => next_shown(alloc, splitter),
     }
+}
+
+fn fed(alloc: Global, splitter: &mut Splitter, piece: &str) -> Result<usize> {
+    let piece = bytes(alloc, piece)?;
+    Ok(splitter.feed(&piece))
+}
+
+fn number_shown(alloc: Global, number: usize) -> Result<String> {
+    Ok(format!(in alloc; "{number}")?)
+}
+
+fn header_shown(alloc: Global, header: Option<FrameHeader>) -> Result<String> {
+    let Some(header) = header else {
+        return Ok(String::from_str(alloc, "no header")?);
+    };
+    let ext = header.ext;
+    let kind = header.kind;
+    let length = header.len;
+    Ok(format!(in alloc; "{ext:04x} {kind:02x} {length}")?)
+}
+
+fn next_shown(alloc: Global, splitter: &mut Splitter) -> Result<String> {
+    let mut taker = Taker::new(alloc, 2);
+    let end = turn(splitter, &mut taker);
+    let frame = taker.text.as_str();
+    Ok(format!(in alloc; "{frame}{end:?}")?)
 }

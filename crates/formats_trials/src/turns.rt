@@ -70,17 +70,22 @@ pub(crate) fn host_of_file(
     alloc: Global,
     name: &str,
     contents: Script<Turn>,
-    failing: Vec<u64>,
+    failing: &str,
 ) -> Result<MemHost> {
-    let mut files = Vec::new(alloc);
+    let files = one_file(alloc, name, contents)?;
+    let failing = numbers(alloc, failing)?;
+    let input = script(alloc, Vec::new(alloc));
+    let output = script(alloc, Vec::new(alloc));
+    let failing_appends = vec![in alloc; 0u64]?;
+    Ok(MemHost::new(alloc, input, output, failing).with_files(files, failing_appends))
+}
+
+fn one_file(alloc: Global, name: &str, contents: Script<Turn>) -> Result<Vec<MemFile>> {
     let name = Name::of(alloc, name)?;
+    let mut files = Vec::new(alloc);
     files.push(MemFile {
         name,
         script: contents,
     })?;
-    let mut failing_appends = Vec::new(alloc);
-    failing_appends.push(0)?;
-    let input = script(alloc, Vec::new(alloc));
-    let output = script(alloc, Vec::new(alloc));
-    Ok(MemHost::new(alloc, input, output, failing).with_files(files, failing_appends))
+    Ok(files)
 }
