@@ -6,7 +6,7 @@ use std::alloc::Global;
 use std::fmt::Write;
 use std::str;
 use sv2_types::{
-    Blob, Hashes, ReadError, Reader, Seq32, SeqBytes, SeqU16, Str255, put_b16m, put_b32, put_b64k,
+    Blob, Hashes, ReadError, Reader, SeqBytes, SeqU16, Str255, put_b16m, put_b32, put_b64k,
     put_b255, put_boolean, put_f32_bytes, put_option_u32, put_seq_bytes, put_seq_u16, put_seq_u256,
     put_seq64k_u256, put_str255, put_u8, put_u16, put_u24, put_u32, put_u64, put_u256,
 };
