@@ -9,9 +9,9 @@ use crate::stream_host::StreamHost;
 use pool_io::{Host, HostError, Keeper, KeeperFailed, Sink, SinkFailed, Source, Took};
 use std::alloc::{AllocGlobal, Global};
 use std::cell::Cell;
-use std::fs::{File, Metadata, OpenFile};
+use std::fs::{File, Metadata, OpenFile, Permissions};
 use std::io::{ErrorKind, Read, Write};
-use std::os::unix::fs::FileExt;
+use std::os::unix::fs::{FileExt, PermissionsExt, symlink};
 use std::process::Abort;
 use std::rt::Files;
 use std::test::Fail;
@@ -22,6 +22,8 @@ pub fn stand_in_new_folder(rt: &HostRuntime, name: &str) -> Result<(), Fail> {
     let process = process::id(rt.process());
     let name = format!(in rt.alloc(); "maqefwi-{process}-{name}")?;
     let path = env::temp_dir(rt)?.join(rt.alloc(), name.as_str())?;
+    // One that a process of the same number left behind.
+    let _ = fs::remove_dir_all(rt, path.as_path());
     fs::create_dir(rt, path.as_path())?;
     env::set_current_dir(rt, path.as_path())?;
     Ok(())
@@ -98,6 +100,11 @@ fn take_and_put<S: Source, T: Sink>(rt: &impl Abort, source: &mut S, sink: &mut 
         (Ok(0), Took::End, failed),
         (Ok(0), Took::End, failed),
         (Err(ErrorKind::ConnectionReset), Took::Failed, failed),
+        (Err(ErrorKind::TimedOut), Took::Failed, failed),
+        (Err(ErrorKind::NotConnected), Took::Failed, failed),
+        (Err(ErrorKind::PermissionDenied), Took::Failed, failed),
+        (Err(ErrorKind::UnexpectedEof), Took::Failed, failed),
+        (Err(ErrorKind::Other), Took::Failed, failed),
         (Ok(3), Took::Bytes(3), Ok(3)),
     ] {
         told.answer.set(answer);
@@ -239,19 +246,39 @@ fn brings_nothing<H: Host>(host: &mut H, name: &str) -> bool {
     }
 }
 
+/// Keeps once in a file of a free name, and reads it again.
+fn keep_once<H: Host>(rt: &impl Abort, host: &mut H, name: &str) {
+    assert!(rt; brings_nothing(host, name), "{name}");
+    keep_in(rt, host, name, b"kept");
+    assert!(rt; is_refused(host, name), "{name}");
+    assert!(rt; is_refused(host, name), "{name}");
+    read_file(rt, host, &mut [0; 9], name, b"kept");
+}
+
 #[test]
 fn only_a_free_name_is_opened_for_a_keeper(rt: HostRuntime) -> Result<(), Fail> {
     stand_in_new_folder(&rt, "names")?;
+    fs::create_dir(&rt, "folder")?;
+    symlink(&rt, "nowhere", "link")?;
     let longest = "n".repeat(rt.alloc(), 255)?;
+    let here = env::current_dir(&rt)?.join(rt.alloc(), "absolute")?;
     let mut host = StreamHost::new(rt.alloc(), rt.stdin(), rt.stdout(), rt);
     for length in 1..256 {
-        let name = longest.get(..length).unwrap_or("");
-        assert!(rt; brings_nothing(&mut host, name), "{name}");
-        keep_in(&rt, &mut host, name, b"kept");
-        assert!(rt; is_refused(&mut host, name), "{name}");
-        assert!(rt; is_refused(&mut host, name), "{name}");
-        read_file(&rt, &mut host, &mut [0; 9], name, b"kept");
+        keep_once(&rt, &mut host, longest.get(..length).unwrap_or(""));
     }
+    for name in [
+        "folder/ledger",
+        "./A-b.1 é",
+        " n ",
+        "folder/../UP.ledger",
+        "-",
+        here.as_str(),
+    ] {
+        keep_once(&rt, &mut host, name);
+    }
+    // What a name that leads nowhere leads to isn't made.
+    assert!(rt; is_refused(&mut host, "link"));
+    assert!(rt; fs::read(&rt, "nowhere").is_err());
     remove_folder(&rt)
 }
 
@@ -265,14 +292,19 @@ fn what_is_no_file_is_no_source(rt: HostRuntime) -> Result<(), Fail> {
         assert!(rt; is_refused(&mut host, name), "{name}");
     }
     assert!(rt; brings_nothing(&mut host, "missing"));
+    read_file(&rt, &mut host, &mut [0; 9], "/dev/null", b"");
+    fs::write(&rt, "read-only", b"settings")?;
+    fs::set_permissions(&rt, "read-only", Permissions::from_mode(0o400))?;
+    read_file(&rt, &mut host, &mut [0; 9], "read-only", b"settings");
     remove_folder(&rt)
 }
 
-/// A file whose writes take five bytes at most. Its calls of some numbers fail, from `first` on and
+/// A file whose writes take five units at most. Its calls of some numbers fail, from `first` on and
 /// before `behind`; such a write has taken two.
 #[derive(Drop)]
 struct Failing<'a> {
     file: File,
+    unit: usize,
     calls: &'a Cell<u32>,
     first: u32,
     behind: u32,
@@ -293,10 +325,12 @@ impl FileExt for Failing<'_> {
 
     fn write_at(&self, piece: &[u8], offset: u64) -> io::Result<usize> {
         if self.fails() {
-            self.file.write_at(&piece[..piece.len().min(2)], offset)?;
+            let torn = piece.len().min(self.unit.saturating_mul(2));
+            self.file.write_at(&piece[..torn], offset)?;
             return Err(io::Error::from(ErrorKind::BrokenPipe));
         }
-        self.file.write_at(&piece[..piece.len().min(5)], offset)
+        let taken = piece.len().min(self.unit.saturating_mul(5));
+        self.file.write_at(&piece[..taken], offset)
     }
 }
 
@@ -321,26 +355,27 @@ impl OpenFile for Failing<'_> {
     }
 }
 
-/// Appends records over a file that fails so, one of this size behind the first that may be torn.
+/// Appends records over a file that fails so, one of so many units behind the first that may be torn.
 /// Each is kept whole behind those before it or answered by a failure, once for each failing call.
 fn keeps_what_it_says<R: Abort + Files<File = File> + AllocGlobal>(
     rt: &R,
-    first: u32,
-    failing: u32,
-    size: usize,
+    text: &[u8],
+    (first, failing, size): (u32, u32, usize),
 ) -> Result<(), Fail> {
     let calls = Cell::new(0);
+    let unit = text.len() / 36;
     let mut keeper = FileKeeper::new(Failing {
         file: File::create(rt, "torn")?,
+        unit,
         calls: &calls,
         first,
         behind: first.saturating_add(failing),
     });
     let mut kept = Vec::new(rt.alloc());
     let mut failed = 0u32;
-    let mut rest = "abcdefghijklmnopqrstuvwxyz0123456789".as_bytes();
+    let mut rest = text;
     for size in [3, 12, size, 1, 1, 6] {
-        let Some((record, behind)) = rest.split_at_checked(size) else {
+        let Some((record, behind)) = rest.split_at_checked(unit.saturating_mul(size)) else {
             panic!(rt; "no record")
         };
         rest = behind;
@@ -361,13 +396,92 @@ fn keeps_what_it_says<R: Abort + Files<File = File> + AllocGlobal>(
 #[test]
 fn what_a_failed_append_left_is_cut_off(rt: HostRuntime) -> Result<(), Fail> {
     stand_in_new_folder(&rt, "torn")?;
+    let short = pattern(rt.alloc(), 36)?;
+    let long = pattern(rt.alloc(), 36 * 5_000)?;
     // The second record's calls are those from 1 to 3.
     for first in 0..4 {
-        for failing in 0..4 {
+        for failing in 0..6 {
             for size in 0..14 {
-                keeps_what_it_says(&rt, first, failing, size)?;
+                keeps_what_it_says(&rt, &short, (first, failing, size))?;
             }
+            keeps_what_it_says(&rt, &long, (first, failing, 1))?;
+            keeps_what_it_says(&rt, &long, (first, failing, 13))?;
         }
     }
     remove_folder(&rt)
+}
+
+/// A file that keeps nothing but its length, and takes writes at its end alone. Where it fails, a
+/// write has taken ten bytes.
+#[derive(Drop)]
+struct Length<'a> {
+    length: &'a Cell<u64>,
+    fails: &'a Cell<bool>,
+}
+
+impl FileExt for Length<'_> {
+    fn read_at(&self, _: &mut [u8], _: u64) -> io::Result<usize> {
+        Ok(0)
+    }
+
+    fn write_at(&self, piece: &[u8], offset: u64) -> io::Result<usize> {
+        if offset != self.length.get() {
+            return Err(io::Error::from(ErrorKind::InvalidInput));
+        }
+        let fails = self.fails.get();
+        let taken = if fails {
+            piece.len().min(10)
+        } else {
+            piece.len()
+        };
+        self.length.set(offset.saturating_add(taken as u64));
+        if fails {
+            return Err(io::Error::from(ErrorKind::BrokenPipe));
+        }
+        Ok(taken)
+    }
+}
+
+impl OpenFile for Length<'_> {
+    fn metadata(&self) -> io::Result<Metadata> {
+        Err(io::Error::from(ErrorKind::Unsupported))
+    }
+
+    fn set_len(&self, size: u64) -> io::Result<()> {
+        self.length.set(size);
+        Ok(())
+    }
+
+    fn sync_all(&self) -> io::Result<()> {
+        Ok(())
+    }
+
+    fn sync_data(&self) -> io::Result<()> {
+        Ok(())
+    }
+}
+
+#[test]
+fn a_ledger_of_more_than_4_gibibytes_is_kept_on(rt: HostRuntime) -> Result<(), Fail> {
+    let record = pattern(rt.alloc(), 300_100)?;
+    let length = Cell::new(0);
+    let fails = Cell::new(false);
+    let mut keeper = FileKeeper::new(Length {
+        length: &length,
+        fails: &fails,
+    });
+    for number in 1..15_001_u64 {
+        assert_eq!(rt; append(&rt, &mut keeper, &record), Ok(()), "{number}");
+        assert_eq!(rt; length.get(), number.saturating_mul(300_100));
+    }
+    for _ in 0..20 {
+        fails.set(true);
+        let failed = Err(KeeperFailed::Failed);
+        assert_eq!(rt; append(&rt, &mut keeper, &record), failed);
+        fails.set(false);
+        assert_eq!(rt; append(&rt, &mut keeper, b""), Ok(()));
+        assert_eq!(rt; length.get(), 4_501_500_000);
+    }
+    assert_eq!(rt; append(&rt, &mut keeper, &record), Ok(()));
+    Ok(())
 }

@@ -5,6 +5,7 @@ use crate::answer;
 use crate::edge_tests::{remove_folder, stand_in_new_folder};
 use crate::stream_host::StreamHost;
 use crate::tcp::TcpNetwork;
+use crate::tcp_tests::own_address;
 use std::alloc::AllocGlobal;
 use std::env::FillError;
 use std::fs::File;
@@ -15,7 +16,7 @@ use std::sync::Wait;
 use std::test::Fail;
 use std::thread::Threads;
 use std::time::Clock;
-use std::{fs, io};
+use std::{fs, io, process};
 
 /// A process with the words of a line, its name first.
 #[derive(Clone, Copy)]
@@ -105,6 +106,8 @@ fn each_word_counts_and_files_are_left_for_others(rt: HostRuntime) -> Result<(),
             b"legal\nsessions 0\nevents 1\ncredits 0\nblocks 0\npool 0\n",
         ),
         (b"maqefwi serve settings unserved", b"", 7, b""),
+        (b"maqefwi audit ", b"", 7, b""),
+        (b"maqefwi audit \xc3\xa9", b"", 7, b""),
         (
             b"maqefwi solo fixed 43 \
             0000000000000000000000000000000000000000000000000000000000000000\
@@ -128,5 +131,25 @@ fn each_word_counts_and_files_are_left_for_others(rt: HostRuntime) -> Result<(),
     assert!(rt; fs::read(&rt, "copy")?.as_slice() == b"SV2LEDG2".as_slice());
     assert!(rt; fs::read(&rt, "begun")?.as_slice() == BEGUN);
     assert!(rt; fs::read(&rt, "unserved")?.as_slice() == BEGUN);
+    remove_folder(&rt)
+}
+
+#[test]
+fn a_feed_that_says_nothing_is_served_over_the_edge(rt: HostRuntime) -> Result<(), Fail> {
+    stand_in_new_folder(&rt, "serving")?;
+    let feed = TcpListener::bind(&rt, "127.0.0.1:0")?;
+    let at = feed.local_addr()?;
+    let own = own_address(rt.alloc(), process::id(rt.process()))?;
+    let settings = format!(in rt.alloc();
+        "{{\"pool_script\":\"51\",\"least_class\":0,\"fee\":100,\
+        \"rule\":\"proportional\",\"ntime_window\":600,\"credit_limit\":3,\"workers\":64,\
+        \"idle_turns\":1,\"door_turns\":1,\"address\":\"{own}\",\"feed\":\"{at}\"}}"
+    )?;
+    fs::write(&rt, "settings", settings.as_bytes())?;
+    let report =
+        b"served\nfeed idle-out\nsessions 0\nevents 1\ncredits 0\nblocks 0\npool 0\n".as_slice();
+    assert_eq!(rt; answer_to(&rt, b"maqefwi serve settings ledger", b"")?, 0);
+    assert!(rt; fs::read(&rt, "output")?.as_slice() == report);
+    assert!(rt; fs::read(&rt, "ledger")?.as_slice() == BEGUN);
     remove_folder(&rt)
 }

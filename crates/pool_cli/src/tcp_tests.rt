@@ -12,13 +12,13 @@ use pool_network::Network;
 use std::alloc::Global;
 use std::cell::Cell;
 use std::fs::File;
-use std::io;
 use std::net::{Net, OpenListener, SocketAddr, TcpListener, TcpStream};
 use std::os::fd::OwnedFd;
 use std::process::Abort;
 use std::rt::Files;
 use std::test::Fail;
 use std::time::{Clock, Duration};
+use std::{io, process};
 
 /// The system, which keeps the address of the last listener and how long was slept in all.
 #[derive(Clone, Copy)]
@@ -79,18 +79,28 @@ fn address_of(alloc: Global, bound: &Cell<Option<SocketAddr>>) -> Result<String,
     }
 }
 
-/// The next caller at a door, who may still be on the way.
-fn caller_at<C: Clock + Drop>(rt: &impl Abort, door: &mut TcpDoor<TcpListener, C>) -> TcpLink
+/// The next caller at a door, who may still be on the way, and how often nobody came before.
+fn caller_behind<L: OpenListener<Stream = TcpStream> + Drop, C: Clock + Drop>(
+    rt: &impl Abort,
+    door: &mut TcpDoor<L, C>,
+) -> (TcpLink, u32)
     ensures { 0 < door.new.out }
 {
-    for _ in 0..50 {
+    for idle in 0..50 {
         match door.accept() {
-            Came::Caller(link) => return link,
+            Came::Caller(link) => return (link, idle),
             Came::Idle => {}
             Came::Closed | Came::Failed | Came::Memory => panic!(rt; "the door is shut"),
         }
     }
     panic!(rt; "nobody came")
+}
+
+/// The next caller at a door.
+fn caller_at<C: Clock + Drop>(rt: &impl Abort, door: &mut TcpDoor<TcpListener, C>) -> TcpLink
+    ensures { 0 < door.new.out }
+{
+    caller_behind(rt, door).0
 }
 
 /// What a link brings next, which may still be on the way.
@@ -128,16 +138,24 @@ fn hear(rt: &impl Abort, link: &mut TcpLink, buffer: &mut [u8], wanted: &[u8])
     assert!(rt; rest.is_empty());
 }
 
-/// Carries a text from one link to the other, in takes of so much room.
-fn carry(rt: &impl Abort, from: &mut TcpLink, to: &mut TcpLink, buffer: &mut [u8], text: &[u8])
-    requires { 0 < length buffer.old }
+/// Carries a text from one link to the other, in puts of so many bytes, and in takes of so much room.
+fn carry(
+    rt: &impl Abort,
+    from: &mut TcpLink,
+    to: &mut TcpLink,
+    most: usize,
+    buffer: &mut [u8],
+    text: &[u8],
+)
+    requires some { 0 < most }
+    requires room { 0 < length buffer.old }
 {
     let mut rest = text;
     for _ in 0..text.len() {
         if rest.is_empty() {
             break;
         }
-        let Ok(count) = from.put(&rest[..rest.len().min(50_000)]) else {
+        let Ok(count) = from.put(&rest[..rest.len().min(most)]) else {
             panic!(rt; "{} bytes don't go", rest.len())
         };
         hear(rt, to, buffer, &rest[..count]);
@@ -197,7 +215,7 @@ fn meet<N: Net<Listener = TcpListener, Stream = TcpStream> + Clock + Copy + Drop
     }
 }
 
-/// Carries texts both ways, in takes of so much room.
+/// Carries texts both ways, in takes of so much room, and one way in puts of as many bytes.
 fn carry_both_ways(
     rt: &impl Abort,
     caller: &mut TcpLink,
@@ -213,21 +231,39 @@ fn carry_both_ways(
     ) else {
         panic!(rt; "no room, or no text")
     };
-    assert!(rt; !buffer.is_empty());
-    carry(rt, caller, link, buffer, first);
-    carry(rt, link, caller, buffer, second);
+    assert!(rt; size > 0 && !buffer.is_empty());
+    carry(rt, caller, link, 50_000, buffer, first);
+    carry(rt, link, caller, size, buffer, second);
 }
 
-/// Puts until a put fails, which comes short before, and hears just what is said to have gone; then
+/// Waits for what doesn't come, a tenth of a second or more.
+fn wait_for_nothing(rt: &(impl Abort + Clock), link: &mut TcpLink) -> Result<(), Fail> {
+    let before = rt.monotonic()?;
+    assert_eq!(rt; link.take(&mut [0; 8]), Took::Idle);
+    let waited = rt.monotonic()?.saturating_sub(before);
+    assert!(rt; waited >= Duration::from_millis(90));
+    Ok(())
+}
+
+/// Puts until a put fails, which waits five seconds, and hears just what is said to have gone; then
 /// the caller is gone.
-fn hear_to_the_end(rt: &impl Abort, mut caller: TcpLink, link: &mut TcpLink, text: &[u8]) {
+fn hear_to_the_end(
+    rt: &(impl Abort + Clock),
+    mut caller: TcpLink,
+    link: &mut TcpLink,
+    text: &[u8],
+) -> Result<(), Fail> {
     let mut room = [0; 65_536];
+    let before = rt.monotonic()?;
     let gone = put_until_it_fails(rt, &mut caller, text);
+    let waited = rt.monotonic()?.saturating_sub(before);
+    assert!(rt; waited >= Duration::from_millis(4_900));
     hear_again(rt, link, &mut room, text, gone);
-    carry(rt, &mut caller, link, &mut room, b"and on");
+    carry(rt, &mut caller, link, 6, &mut room, b"and on");
     drop(caller);
     assert_eq!(rt; heard(link, &mut room), Took::End);
     assert_eq!(rt; link.take(&mut room), Took::End);
+    Ok(())
 }
 
 #[test]
@@ -242,11 +278,12 @@ fn each_byte_goes_over_as_it_is(rt: HostRuntime) -> Result<(), Fail> {
         panic!(rt; "no door")
     };
     let (mut caller, mut link) = meet(&rt, &mut network, door, address.as_str());
-    for size in [1, 999, 1_000, 1_001, 65_536] {
+    for size in [1, 22, 26, 336, 999, 1_000, 1_001, 4_096, 65_536] {
         carry_both_ways(&rt, &mut caller, &mut link, size, &text);
     }
-    hear_to_the_end(&rt, caller, &mut link, &text);
-    Ok(())
+    wait_for_nothing(&rt, &mut caller)?;
+    wait_for_nothing(&rt, &mut link)?;
+    hear_to_the_end(&rt, caller, &mut link, &text)
 }
 
 /// Lets in one who hangs up on what it hasn't read.
@@ -287,12 +324,11 @@ fn let_in<C: Clock + Drop>(rt: &impl Abort, door: &mut TcpDoor<TcpListener, C>, 
         assert_eq!(rt; heard(&mut link, &mut buffer), Took::Bytes(1), "{number}");
         assert_eq!(rt; buffer[0], number);
     }
-    let behind = if number % 2 > 0 {
-        Took::Idle
+    if number % 2 > 0 {
+        assert_eq!(rt; link.take(&mut buffer), Took::Idle, "{number}");
     } else {
-        Took::End
-    };
-    assert_eq!(rt; heard(&mut link, &mut buffer), behind, "{number}");
+        assert_eq!(rt; heard(&mut link, &mut buffer), Took::End, "{number}");
+    }
     door.done(link);
 }
 
@@ -329,6 +365,43 @@ fn let_all_in<N: Net<Listener = TcpListener, Stream = TcpStream> + Clock + Copy 
     Ok(())
 }
 
+/// Lets in so many, one after the other: each is heard, answered and let go of.
+fn let_many_in<N: Net<Listener = TcpListener, Stream = TcpStream> + Clock + Copy + Drop>(
+    rt: &impl Abort,
+    network: &mut TcpNetwork<N>,
+    door: &mut TcpDoor<TcpListener, N>,
+    address: &str,
+    count: u32,
+) {
+    let mut buffer = [0; 2];
+    for number in 0..count {
+        let said = (number % 251) as u8;
+        let (mut caller, mut link) = meet(rt, network, door, address);
+        assert_eq!(rt; caller.put(&[said]), Ok(1));
+        assert_eq!(rt; heard(&mut link, &mut buffer), Took::Bytes(1), "{number}");
+        assert_eq!(rt; link.put(&[buffer[0], 7]), Ok(2));
+        assert_eq!(rt; heard(&mut caller, &mut buffer), Took::Bytes(2), "{number}");
+        assert_eq!(rt; buffer, [said, 7]);
+        door.done(link);
+        assert_eq!(rt; heard(&mut caller, &mut buffer), Took::End, "{number}");
+    }
+}
+
+#[test]
+fn a_door_lets_in_as_many_as_come(rt: HostRuntime) -> Result<(), Fail> {
+    let bound = Cell::new(None);
+    let slept = Cell::new(Duration::ZERO);
+    let mut network = TcpNetwork::new(rt.alloc(), watching(rt, &bound, &slept));
+    let mut doors = network.open_doors("127.0.0.1:0", 64)?;
+    let address = address_of(rt.alloc(), &bound)?;
+    assert_eq!(rt; doors.len(), 64);
+    let Some(door) = doors.last_mut() else {
+        panic!(rt; "no door")
+    };
+    let_many_in(&rt, &mut network, door, address.as_str(), 300);
+    Ok(())
+}
+
 #[test]
 fn callers_come_in_their_order_whoever_hangs_up(rt: HostRuntime) -> Result<(), Fail> {
     let bound = Cell::new(None);
@@ -342,6 +415,12 @@ fn callers_come_in_their_order_whoever_hangs_up(rt: HostRuntime) -> Result<(), F
     Ok(())
 }
 
+/// A loopback address that no other process of this number's machine takes.
+pub fn own_address(alloc: Global, process: u32) -> Result<String, Fail> {
+    let (high, middle, low) = (process >> 16 & 63, process >> 8 & 255, process & 255);
+    Ok(format!(in alloc; "127.{}.{middle}.{low}:3333", high + 1)?)
+}
+
 #[test]
 fn an_address_is_reached_where_it_is_one_and_free(rt: HostRuntime) -> Result<(), Fail> {
     let bound = Cell::new(None);
@@ -353,6 +432,13 @@ fn an_address_is_reached_where_it_is_one_and_free(rt: HostRuntime) -> Result<(),
         let opened = network.open_doors(address, 1);
         assert!(rt; matches!(opened, Err(HostError::Failed)), "{address}");
     }
+    // An address of this process's own, with a port of its own; and all that the machine has.
+    let own = own_address(rt.alloc(), process::id(rt.process()))?;
+    let _own_doors = network.open_doors(own.as_str(), 4)?;
+    assert_eq!(rt; address_of(rt.alloc(), &bound)?.as_str(), own.as_str());
+    assert!(rt; network.dial(own.as_str()).is_ok());
+    let _all_doors = network.open_doors("0.0.0.0:0", 1)?;
+    assert!(rt; address_of(rt.alloc(), &bound)?.starts_with("0.0.0.0:"));
     // Nobody listens at port 1.
     for address in ["127.0.0.1:1", "", "nowhere", "127.0.0.1:65536"] {
         let dialled = network.dial(address);
@@ -361,16 +447,66 @@ fn an_address_is_reached_where_it_is_one_and_free(rt: HostRuntime) -> Result<(),
     Ok(())
 }
 
-#[test]
-fn a_link_has_its_limits(rt: HostRuntime) -> Result<(), Fail> {
-    let listener = TcpListener::bind(&rt, "127.0.0.1:0")?;
-    let stream = TcpStream::connect(&rt, listener.local_addr()?)?;
-    // It shares the options.
-    let other = stream.try_clone()?;
-    let _link = link_over(stream)?;
+/// A listener that keeps another handle of who called last.
+#[derive(Drop)]
+struct Keeping<'a> {
+    listener: TcpListener,
+    last: &'a Cell<Option<TcpStream>>,
+}
+
+impl OpenListener for Keeping<'_> {
+    type Stream = TcpStream;
+
+    fn accept(&self) -> io::Result<(TcpStream, SocketAddr)> {
+        let (stream, address) = self.listener.accept()?;
+        self.last.set(Some(stream.try_clone()?));
+        Ok((stream, address))
+    }
+}
+
+/// Whether a link waits as it should, and sends at once. Another handle shares the options.
+fn has_limits(rt: &impl Abort, other: &TcpStream) -> Result<(), Fail> {
     assert_eq!(rt; other.read_timeout()?, Some(Duration::from_millis(100)));
     assert_eq!(rt; other.write_timeout()?, Some(Duration::from_secs(5)));
     assert!(rt; other.nodelay()?);
+    Ok(())
+}
+
+#[test]
+fn a_link_has_its_limits(rt: HostRuntime) -> Result<(), Fail> {
+    let bound = Cell::new(None);
+    let slept = Cell::new(Duration::ZERO);
+    let last = Cell::new(None);
+    let listener = TcpListener::bind(&rt, "127.0.0.1:0")?;
+    listener.set_nonblocking(true)?;
+    let stream = TcpStream::connect(&rt, listener.local_addr()?)?;
+    let dialled = stream.try_clone()?;
+    let mut link = link_over(stream)?;
+    has_limits(&rt, &dialled)?;
+    let keeping = Keeping {
+        listener,
+        last: &last,
+    };
+    let mut door = TcpDoor::new(keeping, watching(rt, &bound, &slept));
+    let (mut caller, idle) = caller_behind(&rt, &mut door);
+    // It waits where nobody came, and no longer.
+    assert_eq!(rt;
+        slept.get(),
+        Duration::from_millis(100).saturating_mul(idle)
+    );
+    let Some(accepted) = last.take() else {
+        panic!(rt; "nobody was let in")
+    };
+    has_limits(&rt, &accepted)?;
+    // However long nothing comes, a link goes on.
+    dialled.set_read_timeout(Some(Duration::from_millis(1)))?;
+    for number in 0..2_000 {
+        assert_eq!(rt; link.take(&mut [0; 4]), Took::Idle, "{number}");
+    }
+    assert_eq!(rt; caller.put(b"late"), Ok(4));
+    dialled.set_read_timeout(Some(Duration::from_secs(5)))?;
+    assert_eq!(rt; link.take(&mut [0; 4]), Took::Bytes(4));
+    door.done(caller);
     Ok(())
 }
 
@@ -404,16 +540,33 @@ const PASSING: [i32; 21] = [
     1, 4, 11, 12, 23, 24, 63, 64, 71, 92, 93, 94, 95, 100, 101, 103, 104, 105, 110, 112, 113,
 ];
 
+/// A clock that counts how long was slept, and doesn't wait.
+#[derive(Clone, Copy)]
+struct Counting<'a>(&'a Cell<Duration>);
+
+impl Clock for Counting<'_> {
+    fn monotonic(&self) -> io::Result<Duration> {
+        Ok(self.0.get())
+    }
+
+    fn since_1970(&self) -> io::Result<Duration> {
+        Ok(self.0.get())
+    }
+
+    fn sleep(&self, duration: Duration) {
+        self.0.set(self.0.get().saturating_add(duration));
+    }
+}
+
 #[test]
 fn a_door_goes_on_a_turn_later_unless_its_listener_failed(rt: HostRuntime) {
-    let bound = Cell::new(None);
     let slept = Cell::new(Duration::ZERO);
     let error = Cell::new(0);
     let listener = Refusing {
         system: rt,
         error: &error,
     };
-    let mut door = TcpDoor::new(listener, watching(rt, &bound, &slept));
+    let mut door = TcpDoor::new(listener, Counting(&slept));
     for number in 0..134 {
         error.set(number);
         slept.set(Duration::ZERO);
@@ -425,4 +578,11 @@ fn a_door_goes_on_a_turn_later_unless_its_listener_failed(rt: HostRuntime) {
             assert!(rt; matches!(came, Came::Failed), "{number}");
         }
     }
+    // However long nobody comes, a door goes on.
+    error.set(11);
+    slept.set(Duration::ZERO);
+    for number in 0..100_000 {
+        assert!(rt; matches!(door.accept(), Came::Idle), "{number}");
+    }
+    assert_eq!(rt; slept.get(), Duration::from_secs(10_000));
 }
