@@ -208,7 +208,9 @@ fn meet<N: Net<Listener = TcpListener, Stream = TcpStream> + Clock + Copy + Drop
     network: &mut TcpNetwork<N>,
     door: &mut TcpDoor<TcpListener, N>,
     address: &str,
-) -> (TcpLink, TcpLink) {
+) -> (TcpLink, TcpLink)
+    ensures { 0 < door.new.out }
+{
     match network.dial(address) {
         Ok(caller) => (caller, caller_at(rt, door)),
         Err(_) => panic!(rt; "nobody is reached"),
