@@ -158,11 +158,11 @@ fn coming_to<'a>(
     taken: &'a [AtomicU64],
 ) -> Result<VecDeque<Arrival<GatedLink<'a>>>> {
     let mut coming = VecDeque::new(alloc);
-    let mut place = 0;
+    let mut place = 0usize;
     for line in case.lines() {
         let (at, frames) = line.rest.split_once(' ').unwrap_or((line.rest, ""));
         if line.key == "caller" {
-            place += 1;
+            place = place.saturating_add(1);
             if number(at)? == door {
                 let link = link_of(alloc, names, frames, place, taken)?;
                 coming.push_back(Arrival::Caller(link))?;
