@@ -449,66 +449,16 @@ fn an_address_is_reached_where_it_is_one_and_free(rt: HostRuntime) -> Result<(),
     Ok(())
 }
 
-/// A listener that keeps another handle of who called last.
-#[derive(Drop)]
-struct Keeping<'a> {
-    listener: TcpListener,
-    last: &'a Cell<Option<TcpStream>>,
-}
-
-impl OpenListener for Keeping<'_> {
-    type Stream = TcpStream;
-
-    fn accept(&self) -> io::Result<(TcpStream, SocketAddr)> {
-        let (stream, address) = self.listener.accept()?;
-        self.last.set(Some(stream.try_clone()?));
-        Ok((stream, address))
-    }
-}
-
-/// Whether a link waits as it should, and sends at once. Another handle shares the options.
-fn has_limits(rt: &impl Abort, other: &TcpStream) -> Result<(), Fail> {
+#[test]
+fn a_link_has_its_limits(rt: HostRuntime) -> Result<(), Fail> {
+    let listener = TcpListener::bind(&rt, "127.0.0.1:0")?;
+    let stream = TcpStream::connect(&rt, listener.local_addr()?)?;
+    // It shares the options.
+    let other = stream.try_clone()?;
+    let _link = link_over(stream)?;
     assert_eq!(rt; other.read_timeout()?, Some(Duration::from_millis(100)));
     assert_eq!(rt; other.write_timeout()?, Some(Duration::from_secs(5)));
     assert!(rt; other.nodelay()?);
-    Ok(())
-}
-
-#[test]
-fn a_link_has_its_limits(rt: HostRuntime) -> Result<(), Fail> {
-    let bound = Cell::new(None);
-    let slept = Cell::new(Duration::ZERO);
-    let last = Cell::new(None);
-    let listener = TcpListener::bind(&rt, "127.0.0.1:0")?;
-    listener.set_nonblocking(true)?;
-    let stream = TcpStream::connect(&rt, listener.local_addr()?)?;
-    let dialled = stream.try_clone()?;
-    let mut link = link_over(stream)?;
-    has_limits(&rt, &dialled)?;
-    let keeping = Keeping {
-        listener,
-        last: &last,
-    };
-    let mut door = TcpDoor::new(keeping, watching(rt, &bound, &slept));
-    let (mut caller, idle) = caller_behind(&rt, &mut door);
-    // It waits where nobody came, and no longer.
-    assert_eq!(rt;
-        slept.get(),
-        Duration::from_millis(100).saturating_mul(idle)
-    );
-    let Some(accepted) = last.take() else {
-        panic!(rt; "nobody was let in")
-    };
-    has_limits(&rt, &accepted)?;
-    // However long nothing comes, a link goes on.
-    dialled.set_read_timeout(Some(Duration::from_millis(1)))?;
-    for number in 0..2_000 {
-        assert_eq!(rt; link.take(&mut [0; 4]), Took::Idle, "{number}");
-    }
-    assert_eq!(rt; caller.put(b"late"), Ok(4));
-    dialled.set_read_timeout(Some(Duration::from_secs(5)))?;
-    assert_eq!(rt; link.take(&mut [0; 4]), Took::Bytes(4));
-    door.done(caller);
     Ok(())
 }
 
