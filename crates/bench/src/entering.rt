@@ -3,11 +3,11 @@
 use anyhow::{Result, bail};
 use pool_history::{Kind, OpenAsk, Reply, Request, Role, Submission, TemplateData, TipData};
 use pool_io::SureKeeper;
-use pool_trials::example_rules;
 use share_check::{check, rolled_length};
 use share_ledger::Book;
 use std::alloc::{AllocError, Global};
 use sv2_types::{Blob, Hashes, Str255, U256};
+use trial_support::example_rules;
 
 /// The most credits of a book.
 const MOST_CREDITS: u32 = 16_777_215;

@@ -5,10 +5,10 @@ ghost use Rattle.std.specs.Prelude.{◌≡◌};
 use anyhow::Result;
 use channels::Channels;
 use pool_history::{Kind, OpenAsk, Rules};
-use pool_trials::example_rules;
 use std::alloc::{AllocError, Global};
 use std::io::Write;
 use sv2_types::{Str255, U256};
+use trial_support::example_rules;
 
 /// The most channels that a session opens here.
 const OF_A_SESSION: u32 = 1000;

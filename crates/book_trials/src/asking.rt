@@ -11,7 +11,7 @@ use share_check::{check, rolled_length};
 use share_ledger::Book;
 use std::alloc::{AllocError, Global};
 use sv2_types::{Blob, Hashes, Str255, U256};
-use trial_lines::{bytes, kind, number, role, word};
+use trial_support::{bytes, kind, number, role, word};
 
 /// What a book answers the worker of a line.
 pub(crate) fn answer<K: Keeper>(

@@ -5,11 +5,10 @@ ghost use Rattle.std.specs.Prelude.{◌≤◌};
 use crate::asking::{answer, brief_of, commit, submission, submit, told_reply};
 use pool_history::Brief;
 use pool_io::{Keeper, KeptRecord, MemKeeper};
-use pool_trials::example_rules;
 use share_ledger::Book;
 use std::alloc::Global;
 use std::{mem, str};
-use trial_lines::{Subject, hex_of, number, told, word};
+use trial_support::{Subject, example_rules, hex_of, number, told, word};
 
 /// A book over a keeper in memory, briefs that were asked for, and how many shares were numbered.
 #[derive(Drop)]

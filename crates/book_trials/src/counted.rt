@@ -10,7 +10,7 @@ use std::alloc::Global;
 use std::sync::Wait;
 use std::thread;
 use std::thread::Threads;
-use trial_lines::Tried;
+use trial_support::Tried;
 
 /// Tries a file, each line of which names a play and wants what comes of it. None where there is no
 /// memory.

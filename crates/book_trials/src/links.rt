@@ -5,16 +5,16 @@ ghost use Rattle.std.specs.Prelude.{◌≡◌};
 use crate::books::begun;
 use crate::desks::{closed, opened};
 use desk::{Desk, Pass};
-use desk_worker::DeskWorker;
-use link_session::serve_link;
 use pool_core::SessionEnd;
 use pool_history::Role;
-use pool_io::{Limits, MemKeeper, MemSink, MemSource, Piece, Turn};
-use pool_links::Streams;
+use pool_io::{MemKeeper, MemSink, MemSource, Piece, Turn};
+use pool_network::Streams;
+use session_steps::Manner;
+use session_workers::{DeskWorker, serve_link};
 use share_ledger::Book;
 use std::alloc::Global;
 use std::sync::Wait;
-use trial_lines::{Tried, bytes, hex_of, number, role, word, words_of};
+use trial_support::{Tried, bytes, hex_of, number, role, word, words_of};
 
 /// Tries each line of a file: a session in a role over the turns of a link, where a take, a put or an
 /// append may fail. Says what went wrong, and how many lines there were; none where there is no
@@ -98,11 +98,12 @@ fn visit(
         pass,
         faults: 0,
     };
-    let limits = Limits {
+    let manner = Manner {
+        role,
+        rolling: true,
         idle_turns: 2,
-        door_turns: 1,
     };
-    let end = serve_link(alloc, &mut asker, link, role, true, limits);
+    let end = serve_link(alloc, &mut asker, link, manner);
     let DeskWorker {
         rt: _,
         desk: _,

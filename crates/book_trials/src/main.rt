@@ -16,7 +16,7 @@ use crate::books::Books;
 use crate::pieces::Pieces;
 use anyhow::{Context, Result};
 use std::fs;
-use trial_lines::try_cases;
+use trial_support::try_cases;
 
 fn main(rt: HostRuntime) -> Result<()> {
     let alloc = rt.alloc();

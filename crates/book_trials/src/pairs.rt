@@ -9,14 +9,13 @@ use crate::desks::{closed, opened};
 use desk::{Desk, Pass};
 use pool_history::{Kind, Reply, Request, Submission};
 use pool_io::SureKeeper;
-use pool_trials::example_rules;
 use share_check::{check, rolled_length};
 use share_ledger::Book;
 use std::alloc::Global;
 use std::sync::Wait;
 use std::thread;
 use std::thread::Threads;
-use trial_lines::Tried;
+use trial_support::{Tried, example_rules};
 
 type Trial = Book<SureKeeper>;
 
@@ -99,7 +98,7 @@ fn go(
             continue;
         }
         if let Some((operation, want)) = line.split_once(" -> ") {
-            let words = trial_lines::words_of(alloc, operation)?;
+            let words = trial_support::words_of(alloc, operation)?;
             let found = match operation.starts_with("0 ") {
                 true => answer_at_desk(rt, alloc, desk, first, words.as_slice()),
                 false => answer_at_desk(rt, alloc, desk, second, words.as_slice()),

@@ -3,14 +3,14 @@
 
 use pool_core::SessionEnd;
 use pool_history::Role;
-use pool_io::{Limits, Piece, Sink, SinkFailed, Source, SureKeeper, SureSource, Took, Turn};
-use pool_links::Streams;
-use pool_sessions::converse;
-use pool_trials::example_rules;
+use pool_io::{Piece, Sink, SinkFailed, Source, SureKeeper, SureSource, Took, Turn};
+use pool_network::Streams;
+use session_loop::converse;
+use session_steps::Manner;
 use share_ledger::Book;
-use sole_book::SoleBook;
+use solo_session::SoleBook;
 use std::alloc::Global;
-use trial_lines::{Subject, bytes, number, role, word};
+use trial_support::{Subject, bytes, example_rules, number, role, word};
 
 /// A source that keeps the greatest room that it was given.
 #[derive(Drop)]
@@ -22,9 +22,7 @@ struct RoomSource {
 impl Source for RoomSource {
     ghost use Rattle.std.specs.Prelude.{None};
 
-    ghost faults = { λ _. 0 };
-
-    ghost left = { λ _. None };
+    ghost seen = { λ _. record { faults = 0; left = None } };
 
     fn take(&mut self, buffer: &mut [u8]) -> Took {
         self.greatest = self.greatest.max(buffer.len());
@@ -42,9 +40,7 @@ struct PieceSink {
 impl Sink for PieceSink {
     ghost use Rattle.std.specs.Prelude.{None};
 
-    ghost faults = { λ _. 0 };
-
-    ghost held = { λ _. None };
+    ghost seen = { λ _. record { faults = 0; held = None } };
 
     fn put(&mut self, piece: &[u8]) -> Result<usize, SinkFailed> {
         if self.lengths.push(piece.len()).is_err() {
@@ -142,11 +138,12 @@ fn talk(
     role: Role,
 ) -> SessionEnd {
     let mut sole = SoleBook { book, worker: 0 };
-    let limits = Limits {
+    let manner = Manner {
+        role,
+        rolling: true,
         idle_turns: 2,
-        door_turns: 1,
     };
-    let end = converse(alloc, link, &mut sole, role, true, limits);
+    let end = converse(alloc, link, &mut sole, manner);
     let SoleBook { book, worker: _ } = sole;
     let (_keeper, _history) = book.into_parts();
     end

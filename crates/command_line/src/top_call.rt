@@ -2,30 +2,27 @@
 
 ghost use Rattle.std.specs.Prelude.{◌≡◌, ◌==◌, ◌↔◌, ◌⊎◌};
 ghost use Rattle.pool_io.specs.Outside.{CountsFailure};
-ghost use Rattle.pool_turns.specs.declared.status.Status.{Status as Answer};
-ghost use Rattle.pool_turns.specs.Statuses.{status_code};
-ghost use Rattle.door_worker.specs.Shifts.{telling_of};
-ghost use Rattle.audit_command.specs.Row.{AuditRow};
-ghost use Rattle.migrate_command.specs.Row.{MigrateRow};
+ghost use Rattle.stream_commands.specs.declared.status.Status.{Status as Answer};
+ghost use Rattle.stream_commands.specs.Statuses.{status_code};
+ghost use Rattle.ledger_commands.specs.Auditing.{AuditRow};
+ghost use Rattle.ledger_commands.specs.Migrating.{MigrateRow};
 ghost use Rattle.serve_command.specs.Row.{ServeRow};
-ghost use Rattle.settings_file.specs.Views.{IsHandedBack, view_of};
-ghost use Rattle.solo_command.specs.Row.{SoloRow, accounts_of, meanings_of};
+ghost use Rattle.pool_io.specs.Hosts.{IsHandedBack};
+ghost use Rattle.solo_command.specs.Row.{SoloRow};
 ghost use Rattle.command_line.specs.declared.words.Form.{Form as Asked};
 ghost use Rattle.command_line.specs.Forms.{HasNoForm, IsAudit, IsForm, IsMigrate, IsServe, IsSolo};
 ghost use Rattle.command_line.specs.Running.{DoesForm, IsAlone, IsWithinLimits, OwesRow};
 
 use crate::words::{Form, Word, audit_name, form_of, migrate_names, serve_names, solo_names};
-use audit_command::audit_ledger;
-use fixed_job::judge_shares;
-use frame_listing::list_frames;
-use migrate_command::migrate_ledger;
-use pool_doors::Door;
+use fixed_command::judge_shares;
+use frames_command::list_frames;
+use ledger_commands::{audit_ledger, migrate_ledger};
 use pool_io::Host;
-use pool_network::Network;
-use pool_turns::Status;
+use pool_network::{Door, Network};
 use std::alloc::Global;
 use std::sync::Wait;
 use std::thread::Threads;
+use stream_commands::Status;
 
 /// Does what the words ask for, and answers the status of the process.
 pub fn run<R: Threads + Wait + Sync, H: Host, N: Network>(
@@ -42,38 +39,30 @@ where
     // 2 exactly where the words are none of the forms; then nothing was opened.
     ensures usage { result ≡ 2 ↔ HasNoForm words.now }
     ensures unopened { result ≡ 2 → H.seen host.new ≡ H.seen host.old }
-    ensures uncalled { result ≡ 2 → H.openings host.new ≡ H.openings host.old }
 
     // What the words ask for was done: the answer is a status, and what the command owes at it
     // stands. Where the host and the network tell their opening calls, they are those that the words
     // ask for, in their order, up to the first that was refused or to the step at which the command
     // ended.
     ensures does { (form : Asked) → IsForm words.now form → DoesForm
-        (accounts_of H.S.left H.T.held H.K.records H.S.faults H.T.faults H.K.faults)
-        (telling_of N.D.coming N.D.out N.D.back N.D.faults N.D.asked N.D.L.left N.D.L.held N.D.L.read_faults
-        N.D.L.write_faults) words.now form
-        (record { host = view_of H.seen H.openings host.old; network = N.seen network.old })
-        (record { host = view_of H.seen H.openings host.new; network = N.seen network.new }) result }
+        words.now form (record { host = H.seen host.old; network = N.seen network.old })
+        (record { host = H.seen host.new; network = N.seen network.new }) result }
 
     // So for each words: 2, or a form that they have was done.
     ensures formed { (result ≡ 2) ⊎ ((form : Asked) × IsForm words.now form × DoesForm
-        (accounts_of H.S.left H.T.held H.K.records H.S.faults H.T.faults H.K.faults)
-        (telling_of N.D.coming N.D.out N.D.back N.D.faults N.D.asked N.D.L.left N.D.L.held N.D.L.read_faults
-        N.D.L.write_faults) words.now form
-        (record { host = view_of H.seen H.openings host.old; network = N.seen network.old })
-        (record { host = view_of H.seen H.openings host.new; network = N.seen network.new }) result) }
+        words.now form (record { host = H.seen host.old; network = N.seen network.old })
+        (record { host = H.seen host.new; network = N.seen network.new }) result) }
 
     // Whatever the words: there are no other statuses, and everything that the host and the network
     // gave has come back. Nothing but `serve` asks for anything at an address, and where the words
     // don't ask for it, 7 is answered exactly where the host's count rose, by one.
     ensures statuses { (status : Answer) × (result ≡ status_code status) }
-    ensures back { IsHandedBack (view_of H.seen H.openings host.old)
-        (view_of H.seen H.openings host.new) }
+    ensures back { IsHandedBack (H.seen host.old) (H.seen host.new) }
     ensures links { (N.seen network.new).links.lent ≡ (N.seen network.old).links.lent }
     ensures doors { (N.seen network.new).doors.lent ≡ (N.seen network.old).doors.lent }
     ensures alone { (IsServe words.now → ⊥) → N.seen network.new ≡ N.seen network.old }
     ensures counts { (IsServe words.now → ⊥) → CountsFailure (result == 7)
-        (H.seen host.old).faults (H.seen host.new).faults }
+        (H.seen host.old).streams.faults (H.seen host.new).streams.faults }
 {
     match form_of(words) {
         None => Status::Usage.code(),
@@ -96,18 +85,15 @@ where
     <N::D as Door>::L: Send,
     requires limits { IsWithinLimits form }
     requires names { IsForm words.now form }
-    ensures row { OwesRow (accounts_of H.S.left H.T.held H.K.records H.S.faults H.T.faults H.K.faults)
-        (telling_of N.D.coming N.D.out N.D.back N.D.faults N.D.asked N.D.L.left N.D.L.held N.D.L.read_faults
-        N.D.L.write_faults) words.now form
-        (record { host = view_of H.seen H.openings host.old; network = N.seen network.old })
-        (record { host = view_of H.seen H.openings host.new; network = N.seen network.new }) result }
-    ensures back { IsHandedBack (view_of H.seen H.openings host.old)
-        (view_of H.seen H.openings host.new) }
+    ensures row { OwesRow words.now form
+        (record { host = H.seen host.old; network = N.seen network.old })
+        (record { host = H.seen host.new; network = N.seen network.new }) result }
+    ensures back { IsHandedBack (H.seen host.old) (H.seen host.new) }
     ensures links { (N.seen network.new).links.lent ≡ (N.seen network.old).links.lent }
     ensures doors { (N.seen network.new).doors.lent ≡ (N.seen network.old).doors.lent }
     ensures alone { IsAlone form → N.seen network.new ≡ N.seen network.old }
     ensures counts { IsAlone form → CountsFailure (status_code result == 7)
-        (H.seen host.old).faults (H.seen host.new).faults }
+        (H.seen host.old).streams.faults (H.seen host.new).streams.faults }
 {
     match form {
         Form::SoloFixed { class, job } => judge_shares(alloc, host, class, &job),
@@ -133,13 +119,10 @@ where
     <N::D as Door>::L: Send,
     requires names { IsServe words.now }
     ensures row { (names : IsServe words.now) × ServeRow
-        (accounts_of H.S.left H.T.held H.K.records H.S.faults H.T.faults H.K.faults)
-        (telling_of N.D.coming N.D.out N.D.back N.D.faults N.D.asked N.D.L.left N.D.L.held N.D.L.read_faults
-        N.D.L.write_faults) names.settings names.ledger
-        (record { host = view_of H.seen H.openings host.old; network = N.seen network.old })
-        (record { host = view_of H.seen H.openings host.new; network = N.seen network.new }) result }
-    ensures back { IsHandedBack (view_of H.seen H.openings host.old)
-        (view_of H.seen H.openings host.new) }
+        names.settings names.ledger
+        (record { host = H.seen host.old; network = N.seen network.old })
+        (record { host = H.seen host.new; network = N.seen network.new }) result }
+    ensures back { IsHandedBack (H.seen host.old) (H.seen host.new) }
     ensures links { (N.seen network.new).links.lent ≡ (N.seen network.old).links.lent }
     ensures doors { (N.seen network.new).doors.lent ≡ (N.seen network.old).doors.lent }
 {
@@ -156,14 +139,11 @@ where
 /// Serves a session by the files that the words name.
 fn solo_named<H: Host>(alloc: Global, host: &mut H, words: &[Word]) -> Status
     requires names { IsSolo words.now }
-    ensures row { (names : IsSolo words.now) × SoloRow
-        (accounts_of H.S.left H.T.held H.K.records H.S.faults H.T.faults H.K.faults)
-        names.settings names.ledger (view_of H.seen H.openings host.old)
-        (view_of H.seen H.openings host.new) result }
-    ensures back { IsHandedBack (view_of H.seen H.openings host.old)
-        (view_of H.seen H.openings host.new) }
-    ensures counts { CountsFailure (status_code result == 7) (H.seen host.old).faults
-        (H.seen host.new).faults }
+    ensures row { (names : IsSolo words.now) × SoloRow names.settings names.ledger (H.seen host.old)
+        (H.seen host.new) result }
+    ensures back { IsHandedBack (H.seen host.old) (H.seen host.new) }
+    ensures counts { CountsFailure (status_code result == 7) (H.seen host.old).streams.faults
+        (H.seen host.new).streams.faults }
 {
     match solo_names(words) {
         Some((settings, ledger)) => {
@@ -178,14 +158,11 @@ fn solo_named<H: Host>(alloc: Global, host: &mut H, words: &[Word]) -> Status
 /// Audits the ledger that the words name.
 fn audit_named<H: Host>(alloc: Global, host: &mut H, words: &[Word]) -> Status
     requires names { IsAudit words.now }
-    ensures row { (name : IsAudit words.now) × AuditRow (meanings_of
-        (accounts_of H.S.left H.T.held H.K.records H.S.faults H.T.faults H.K.faults))
-        name.ledger (view_of H.seen H.openings host.old)
-        (view_of H.seen H.openings host.new) result }
-    ensures back { IsHandedBack (view_of H.seen H.openings host.old)
-        (view_of H.seen H.openings host.new) }
-    ensures counts { CountsFailure (status_code result == 7) (H.seen host.old).faults
-        (H.seen host.new).faults }
+    ensures row { (name : IsAudit words.now) × AuditRow name.ledger (H.seen host.old)
+        (H.seen host.new) result }
+    ensures back { IsHandedBack (H.seen host.old) (H.seen host.new) }
+    ensures counts { CountsFailure (status_code result == 7) (H.seen host.old).streams.faults
+        (H.seen host.new).streams.faults }
 {
     match audit_name(words) {
         Some(ledger) => {
@@ -200,13 +177,11 @@ fn audit_named<H: Host>(alloc: Global, host: &mut H, words: &[Word]) -> Status
 fn migrate_named<H: Host>(alloc: Global, host: &mut H, words: &[Word]) -> Status
     requires names { IsMigrate words.now }
     ensures row { (names : IsMigrate words.now) × MigrateRow
-        (accounts_of H.S.left H.T.held H.K.records H.S.faults H.T.faults H.K.faults)
-        names.old_ledger names.new_ledger (view_of H.seen H.openings host.old)
-        (view_of H.seen H.openings host.new) result }
-    ensures back { IsHandedBack (view_of H.seen H.openings host.old)
-        (view_of H.seen H.openings host.new) }
-    ensures counts { CountsFailure (status_code result == 7) (H.seen host.old).faults
-        (H.seen host.new).faults }
+        names.old_ledger names.new_ledger (H.seen host.old)
+        (H.seen host.new) result }
+    ensures back { IsHandedBack (H.seen host.old) (H.seen host.new) }
+    ensures counts { CountsFailure (status_code result == 7) (H.seen host.old).streams.faults
+        (H.seen host.new).streams.faults }
 {
     match migrate_names(words) {
         Some((old_ledger, new_ledger)) => {

@@ -4,10 +4,10 @@ ghost use Rattle.std.specs.Prelude.{◌≡◌, ◌↔◌, ◌<◌, ◌^◌, ℕ,
 ghost use Rattle.std.specs.Prelude.{IfSome, IfNone, Ok, [], ◌∷◌, codes};
 ghost use Rattle.hex.specs.Hex.{decode_sized};
 ghost use Rattle.command_line.specs.Numbers.{IsNumber};
-ghost use Rattle.fixed_job.specs.declared.judge.Job.{Job as Work};
+ghost use Rattle.fixed_command.specs.declared.judge.Job.{Job as Work};
 ghost use Rattle.command_line.specs.Forms.{IsAudit, IsForm, IsFrames, IsJob, IsMigrate, IsServe, IsSolo, IsSoloFixed};
 
-use fixed_job::Job;
+use fixed_command::Job;
 use hex::FromHex;
 use std::marker::Model;
 

@@ -7,7 +7,7 @@ use Rattle.atomic_table.specs.Table.{Me}
 use Rattle.atomic_table.specs.Seated.{TableId}
 use Rattle.pool_base.specs.Counts.{Rose}
 use Rattle.pool_base.specs.Lists.{Begins}
-use Rattle.calls.specs.Calls.{Call, IsOutcome, RiseFrom}
+use Rattle.pool_base.specs.Calls.{Call, IsOutcome, RiseFrom}
 use Rattle.desk.specs.declared.rule.Held.{Held}
 use Rattle.desk.specs.declared.rule.Note.{Note}
 use Rattle.desk.specs.Machines.{MakesTurn}

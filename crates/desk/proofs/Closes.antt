@@ -12,9 +12,9 @@ use lib.ListN.{get_elem?}
 use Rattle.atomic_table.specs.Table.{State}
 use Rattle.atomic_table.proofs.Lists.{set_else}
 use Rattle.pool_base.specs.Lists.{Begins}
-use Rattle.calls.specs.Calls.{Call, GoodCalls, IsGoodCall, Parted}
-use Rattle.calls.specs.Standing.{AreAll}
-use Rattle.calls.proofs.Behind.{calls-all}
+use Rattle.pool_base.specs.Calls.{Call, GoodCalls, IsGoodCall, Parted}
+use Rattle.pool_base.specs.Standing.{AreAll}
+use Rattle.pool_base.proofs.Behind.{calls-all}
 use Rattle.desk.specs.declared.rule.Held.{Held}
 use Rattle.desk.specs.Views.{View, spent_view, workers_from}
 use Rattle.desk.specs.Rule.{HasTurn, IsAtHome, IsOneHistory}

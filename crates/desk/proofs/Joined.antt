@@ -5,8 +5,8 @@ use Rattle.std.specs.List.{AllByRecursion}
 use Rattle.atomic_table.specs.Table.{Me}
 use Rattle.atomic_table.specs.Seated.{TableId}
 use Rattle.pool_base.specs.Lists.{Begins}
-use Rattle.calls.specs.Calls.{Call, GoodCalls, Parted}
-use Rattle.calls.proofs.Behind.{all-map}
+use Rattle.pool_base.specs.Calls.{Call, GoodCalls, Parted}
+use Rattle.pool_base.proofs.Behind.{all-map}
 use Rattle.desk.specs.Views.{View, joined_view}
 use Rattle.desk.specs.Plays.{HasLooked}
 use Rattle.desk.specs.Passes.{IsResting, Opening, Progress, progress_of}

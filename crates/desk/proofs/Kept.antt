@@ -9,7 +9,7 @@ use prog.Atomic.{either}
 use Rattle.atomic_table.specs.Table.{State, Me, step, Act, Valid, Allows, keeps, takes, gives, stepped, carried_after}
 use Rattle.atomic_table.proofs.Lists.{at_set, set_here, set_else, exchanged}
 use Rattle.pool_base.specs.Lists.{Begins}
-use Rattle.calls.specs.Calls.{Call, GoodCalls, IsGoodCall, PartsFrom}
+use Rattle.pool_base.specs.Calls.{Call, GoodCalls, IsGoodCall, PartsFrom}
 use Rattle.desk.specs.declared.rule.Held.{Held}
 use Rattle.desk.specs.Views.{View, acting_view, looking_view, workers_from}
 use Rattle.desk.specs.Rule.{FitsHistory, HasTurn, IsAtHome, IsOneHistory, turns_out}

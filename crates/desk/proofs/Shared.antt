@@ -7,7 +7,7 @@ use mathlib.Core.Option as maybe
 use lib.ListN.{get_elem?}
 use Rattle.atomic_table.specs.Table.{State, Splits, Joins, opening}
 use Rattle.atomic_table.proofs.Lists.{at_longer, at_snoc, set_else}
-use Rattle.calls.specs.Calls.{Call}
+use Rattle.pool_base.specs.Calls.{Call}
 use Rattle.desk.specs.declared.rule.Held.{Held}
 use Rattle.desk.specs.Views.{View, dealt_view, fresh_view, joined_view, left_view, spent_view, telling_view, workers_from}
 use Rattle.desk.specs.Rule.{FitsHistory, IsOneHistory}

@@ -3,7 +3,7 @@ use Rattle.std.specs.Prelude.{◌≡◌, ℕ, ◌<◌, ◌≤◌, Bool, false, L
 use Rattle.std.specs.List.{AllByRecursion, Contains, flat_map}
 use Rattle.atomic_table.specs.Table.{Me}
 use Rattle.pool_base.specs.Lists.{Begins}
-use Rattle.calls.specs.Calls.{Call, GoodCalls, Parted}
+use Rattle.pool_base.specs.Calls.{Call, GoodCalls, Parted}
 use Rattle.desk.specs.Views.{View}
 use Rattle.desk.specs.Passes.{AreOfWorker, CallsRise, Opening, Progress}
 

@@ -4,7 +4,7 @@ use Rattle.std.specs.List.{AllByRecursion}
 use Rattle.atomic_table.specs.Seated.{TableId}
 use Rattle.atomic_table.specs.Table.{Me}
 use Rattle.pool_base.specs.Lists.{Begins}
-use Rattle.calls.specs.Calls.{Call, Faulted, IsOutcome, Outcome, Replied, RiseFrom}
+use Rattle.pool_base.specs.Calls.{Call, Faulted, IsOutcome, Outcome, Replied, RiseFrom}
 use Rattle.desk.specs.Views.{View, longer, workers_from}
 
 -- whose desk's pass it is, its worker, what it has seen, the number of calls that it knows of, and
@@ -83,6 +83,11 @@ IsAnswered answers wants_memory before after asked (Ok answered) =
     MakesCall answers wants_memory before after answered.0 asked (Replied answered.1)
 IsAnswered answers wants_memory before after asked (Err failed) =
     MakesCall answers wants_memory before after failed.0 asked (Faulted failed.1)
+
+-- how many events there were, as was answered
+abbrev pub answered_front : {R F : Type 0} → Result (ℕ × R) (ℕ × F) → ℕ
+answered_front (Ok answered) = answered.0
+answered_front (Err failed) = failed.0
 
 -- the numbers of a pass's calls rise, and their fronts with them
 abbrev pub CallsRise : {E Q R F : Type 0} → Progress E Q R F → Type 0

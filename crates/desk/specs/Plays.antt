@@ -3,7 +3,7 @@ use Rattle.std.specs.Prelude.{◌≡◌, ◌≢◌, ℕ, ◌+◌, ◌/◌, ◌�
 use Rattle.atomic_table.specs.Table.{Me, Step}
 use Rattle.atomic_table.specs.Seated.{TableId}
 use Rattle.pool_base.specs.Lists.{Begins}
-use Rattle.calls.specs.Calls.{Call, IsOutcome, Outcome, Replied, Faulted}
+use Rattle.pool_base.specs.Calls.{Call, IsOutcome, Outcome, Replied, Faulted}
 use Rattle.desk.specs.declared.rule.Held.{Held}
 use Rattle.desk.specs.declared.rule.Note.{Note}
 use Rattle.desk.specs.Views.{View, acting_view, looking_view, longer}

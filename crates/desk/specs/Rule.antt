@@ -6,7 +6,7 @@ use mathlib.Core.Option as maybe
 use lib.ListN.{get_elem?}
 use Rattle.atomic_table.specs.Table.{State}
 use Rattle.pool_base.specs.Lists.{Begins}
-use Rattle.calls.specs.Calls.{Call, GoodCalls, PartsFrom}
+use Rattle.pool_base.specs.Calls.{Call, GoodCalls, PartsFrom}
 use Rattle.desk.specs.declared.rule.Held.{Held}
 use Rattle.desk.specs.Views.{View, workers_from}
 

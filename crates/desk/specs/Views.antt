@@ -1,7 +1,7 @@
 -- What a seat at a desk's table knows, and how seats share it (this project's own). No value of it
 -- is made.
 use Rattle.std.specs.Prelude.{ℕ, zero, suc, ◌+◌, Bool, true, false, List, [], ◌∷◌, ◌++◌, length, take, drop, max, nat_lt, cond}
-use Rattle.calls.specs.Calls.{Call}
+use Rattle.pool_base.specs.Calls.{Call}
 
 -- what was seen, what was told by a seat that was joined, the known number, the own calls, the
 -- workers that it calls for, whether it has the turn, and the count of faults when the turn came

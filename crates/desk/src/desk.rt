@@ -1,7 +1,7 @@
 //! The desk itself.
 
-ghost use Rattle.std.specs.Prelude.{◌≡◌, ◌≤◌};
-ghost use Rattle.desk.specs.Passes.{CallsRise, HasMet, IsAnswered, IsSamePass};
+ghost use Rattle.std.specs.Prelude.{◌≡◌, ◌≤◌, ◌<◌, ◌^◌};
+ghost use Rattle.desk.specs.Passes.{CallsRise, HasMet, IsAnswered, IsSamePass, answered_front};
 
 use crate::machine::Machine;
 use crate::pass::Pass;
@@ -51,6 +51,7 @@ impl<M: Machine> Desk<M> {
         requires { pass.old.table ≡ self.now.table }
         ensures same { IsSamePass pass.old pass.new }
         ensures call { IsAnswered M.answers M.wants_memory pass.old pass.new request result }
+        ensures few { answered_front result < 2 ^ 62 }
         ensures rise { CallsRise pass.new }
     {
         let board = &self.table.shared;

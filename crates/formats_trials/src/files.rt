@@ -4,10 +4,9 @@ use crate::cases::{part, shown};
 use crate::turns::{host_of_file, numbers, put_piece, turns};
 use anyhow::{Result, bail};
 use pool_io::{MemSource, Script, Turn};
-use pool_settings::Settings;
-use settings_file::open_settings;
+use pool_settings::{Settings, open_settings};
 use std::alloc::Global;
-use whole_input::{Unread, read_whole};
+use stream_commands::{Unread, read_whole};
 
 pub(crate) fn found_whole(alloc: Global, given: &str) -> Result<String> {
     match part(given, 0)? {

@@ -8,7 +8,6 @@ mod fields;
 mod files;
 mod headers;
 mod hosts;
-mod listings;
 mod messages;
 mod settings;
 mod splitting;
@@ -20,7 +19,7 @@ use std::alloc::Global;
 use std::fs;
 
 /// What is tried, each on the cases of the file of its name.
-const SUBJECTS: [&str; 12] = [
+const SUBJECTS: [&str; 11] = [
     "comparing",
     "sv2_types",
     "sv2_frames",
@@ -31,7 +30,6 @@ const SUBJECTS: [&str; 12] = [
     "whole_input",
     "pool_settings",
     "settings_file",
-    "frame_listing",
     "pool_io",
 ];
 
@@ -85,7 +83,6 @@ fn found(alloc: Global, subject: &str, given: &str) -> Result<String> {
         "whole_input" => files::found_whole(alloc, given),
         "pool_settings" => settings::found(alloc, given),
         "settings_file" => files::found_settings(alloc, given),
-        "frame_listing" => listings::found(alloc, given),
         "pool_io" => hosts::found(alloc, given),
         _ => bail!("no subject is named {subject}"),
     }

@@ -54,16 +54,6 @@ pub(crate) fn script<T>(alloc: Global, contents: Vec<T>) -> Script<T> {
     }
 }
 
-/// A host with these turns as its standard input.
-pub(crate) fn host_of_input(alloc: Global, turns: Vec<Turn>) -> MemHost {
-    MemHost::new(
-        alloc,
-        script(alloc, turns),
-        script(alloc, Vec::new(alloc)),
-        Vec::new(alloc),
-    )
-}
-
 /// A host with one file, whose opening calls of these numbers fail, and whose first keeper fails at
 /// its first append.
 pub(crate) fn host_of_file(

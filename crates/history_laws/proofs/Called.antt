@@ -5,8 +5,8 @@ use Rattle.std.proofs.lemmas.List.{length-append}
 use Rattle.std.specs.Prelude.{nat_lt}
 use Rattle.std.specs.List.{AllByRecursion}
 use Rattle.std.specs.Option.{option_to_list}
-use Rattle.calls.proofs.Behind.{all-ordered, its-front}
-use Rattle.calls.specs.Calls.{Faulted, IsOutcome, Outcome, PartsFrom, Replied}
+use Rattle.pool_base.proofs.Behind.{all-ordered, its-front}
+use Rattle.pool_base.specs.Calls.{Faulted, IsOutcome, Outcome, PartsFrom, Replied}
 use Rattle.pool_history.specs.declared.events.Event.{Event}
 use Rattle.pool_history.specs.declared.refusals.BookError.{BookError}
 use Rattle.pool_history.specs.declared.replies.Reply.{Reply}

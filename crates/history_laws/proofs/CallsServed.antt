@@ -2,8 +2,8 @@
 use Rattle.std.proofs.Common.{List, [], ◌∷◌, ◌++◌, take, subst, sym}
 use Rattle.std.proofs.lemmas.List.{append-nil}
 use Rattle.std.specs.List.{AllByRecursion}
-use Rattle.calls.proofs.Behind.{all-kept, its-front}
-use Rattle.calls.specs.Calls.{Faulted, IsOutcome, Outcome, Replied}
+use Rattle.pool_base.proofs.Behind.{all-kept, its-front}
+use Rattle.pool_base.specs.Calls.{Faulted, IsOutcome, Outcome, Replied}
 use Rattle.pool_history.specs.declared.events.Event.{Event}
 use Rattle.pool_history.specs.declared.refusals.BookError.{BookError}
 use Rattle.pool_history.specs.declared.replies.Reply.{Reply}

@@ -4,8 +4,8 @@ use Rattle.std.proofs.lemmas.Bool.{cond_both}
 use Rattle.std.specs.Prelude.{bit_and, nat_lt}
 use Rattle.std.specs.List.{AllByRecursion}
 use Rattle.std.specs.Option.{option_to_list}
-use Rattle.calls.proofs.Behind.{all-map, callers-go_on}
-use Rattle.calls.specs.Standing.{StandInOrder, StandsBehind}
+use Rattle.pool_base.proofs.Behind.{all-map, callers-go_on}
+use Rattle.pool_base.specs.Standing.{StandInOrder, StandsBehind}
 use Rattle.pool_history.specs.declared.asking.Request.TheVariants as request
 use Rattle.pool_history.specs.declared.events.Event.{Event}
 use Rattle.pool_history.specs.declared.events.Event.TheVariants as event

@@ -1,7 +1,7 @@
 -- What the calls that made a history leave (this project's own).
 use Rattle.std.specs.Prelude.{◌≡◌, ℕ, ◌≤◌, Some, List, ◌∷◌, ◌++◌, bit_and, length, take}
 use Rattle.std.specs.List.{AllByRecursion}
-use Rattle.calls.specs.Calls.{Parted, Replied, RiseFrom}
+use Rattle.pool_base.specs.Calls.{Parted, Replied, RiseFrom}
 use Rattle.pool_history.specs.declared.asking.Request.TheVariants as request
 use Rattle.pool_history.specs.declared.events.Event.{Event}
 use Rattle.pool_history.specs.declared.events.Role.{Role}

@@ -3,7 +3,7 @@ use Rattle.std.specs.Prelude.{ℕ, ◌≡◌, ◌⊎◌, ◌<◌, ◌≤◌, Lis
 use Rattle.pool_history.specs.declared.events.Event.{Event}
 use Rattle.pool_history.specs.Sessions.{past_of}
 use Rattle.pool_history.specs.Summary.{summary_of, summary_text}
-use Rattle.pool_turns.specs.Duties.{Duty}
+use Rattle.stream_commands.specs.Duties.{Duty}
 use Rattle.ledger_audit.specs.declared.format.Format.{Format}
 use Rattle.ledger_audit.specs.declared.verdict.Verdict.{Verdict}
 use Rattle.ledger_audit.specs.declared.verdict.Verdict.TheVariants as verdict

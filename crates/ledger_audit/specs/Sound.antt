@@ -4,7 +4,7 @@ use Rattle.std.proofs.lemmas.Bool.{cases_lt}
 use Rattle.ledger_laws.proofs.Records.{formats_differ}
 use Rattle.pool_history.specs.declared.events.Event.{Event}
 use Rattle.pool_history.specs.Ledger.{magic_1, magic_2}
-use Rattle.pool_turns.specs.Duties.{IsSoundDuty}
+use Rattle.stream_commands.specs.Duties.{IsSoundDuty}
 use Rattle.ledger_audit.specs.declared.auditor.Auditor.{Auditor}
 use Rattle.ledger_audit.specs.declared.format.Format.{Format}
 use Rattle.ledger_audit.specs.declared.format.Format.TheVariants.{Plain, Chained}

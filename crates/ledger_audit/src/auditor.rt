@@ -6,8 +6,8 @@ ghost use Rattle.ledger_audit.specs.Lines.{verdict_line};
 use crate::format::{BODY_LIMIT, Format, HEAD_LEN, body_len};
 use crate::records::{Halt, Records};
 use crate::verdict::{Verdict, write_verdict};
-use pool_turns::{MOST_BYTES, Stop, StreamCommand};
 use std::alloc::{AllocError, Global};
+use stream_commands::{MOST_BYTES, Stop, StreamCommand};
 
 /// Holds less than a record, and what was told of those before it.
 #[derive(Drop)]

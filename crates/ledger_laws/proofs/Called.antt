@@ -1,8 +1,8 @@
 -- Calls that part a history keep a ledger of it.
 use Rattle.std.proofs.Common.{List, ◌++◌, subst, sym}
 use Rattle.std.proofs.lemmas.List.{append-nil}
-use Rattle.calls.proofs.Behind.{all-kept}
-use Rattle.calls.specs.Calls.{Faulted, IsOutcome, Outcome, Replied}
+use Rattle.pool_base.proofs.Behind.{all-kept}
+use Rattle.pool_base.specs.Calls.{Faulted, IsOutcome, Outcome, Replied}
 use Rattle.pool_history.specs.declared.events.Event.{Event}
 use Rattle.pool_history.specs.declared.refusals.BookError.{BookError}
 use Rattle.pool_history.specs.declared.replies.Reply.{Reply}

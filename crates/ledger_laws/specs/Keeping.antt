@@ -8,7 +8,7 @@ use Rattle.pool_history.specs.declared.replies.Reply.{Reply}
 use Rattle.pool_history.specs.declared.settings.Rules.{Rules}
 use Rattle.pool_history.specs.Accounts.{are_in_range}
 use Rattle.pool_history.specs.Answering.{Answer}
-use Rattle.calls.specs.Calls.{Parted}
+use Rattle.pool_base.specs.Calls.{Parted}
 use Rattle.pool_history.specs.Calls.{GoodPoolCalls, PoolCall}
 use Rattle.pool_history.specs.Ledger.{ledger_text}
 use Rattle.pool_history.specs.Legal.{Legal}

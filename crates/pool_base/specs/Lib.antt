@@ -1,3 +1,5 @@
+pub mod Calls
 pub mod Counts
 pub mod Lists
 pub mod Results
+pub mod Standing

@@ -1,2 +1,3 @@
+pub mod Connections
 pub mod Edges
 pub mod Incoming

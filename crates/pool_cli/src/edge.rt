@@ -47,11 +47,9 @@ impl<R: Read + Drop> ReadSource<R> {
 impl<R: Read + Drop> Source for ReadSource<R> {
     ghost use Rattle.std.specs.Prelude.{None, ◌<◌, ◌≤◌, length};
     ghost use Rattle.pool_io.specs.Outside.{IsWithinRoom, TakesTurn, CountsFailure, is_failed_take};
-    ghost use Rattle.pool_cli.specs.Edges.{ReadsOn};
+    ghost use Rattle.pool_cli.specs.Edges.{ReadsOn, untold_source};
 
-    ghost faults = { λ s. s.faults };
-
-    ghost left = { λ _. None };
+    ghost seen = { λ s. untold_source s.faults };
 
     fn take(&mut self, buffer: &mut [u8]) -> Took
         requires { 0 < length buffer.old }
@@ -97,10 +95,9 @@ impl<W: Write + Drop> Sink for WriteSink<W> {
     ghost use Rattle.std.specs.Prelude.{None, ◌<◌, ◌≤◌, length, take, IfOk, OnErr};
     ghost use Rattle.std.specs.Io.KnownBytes.{Appends, Keeps};
     ghost use Rattle.pool_io.specs.Outside.{AddsBytes, CountsFailure, is_failed_put};
+    ghost use Rattle.pool_cli.specs.Edges.{untold_sink};
 
-    ghost faults = { λ s. s.faults };
-
-    ghost held = { λ _. None };
+    ghost seen = { λ s. untold_sink s.faults };
 
     fn put(&mut self, piece: &[u8]) -> Result<usize, SinkFailed>
         requires { 0 < length piece.now }

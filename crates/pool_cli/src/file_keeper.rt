@@ -49,12 +49,11 @@ impl<F: OpenFile + FileExt + Drop> FileKeeper<F> {
 }
 
 impl<F: OpenFile + FileExt + Drop> Keeper for FileKeeper<F> {
-    ghost use Rattle.std.specs.Prelude.{None, true, ◌≤◌, OnOk, OnErr};
+    ghost use Rattle.std.specs.Prelude.{true, ◌≤◌, OnOk, OnErr};
     ghost use Rattle.pool_io.specs.Outside.{CountsFailure, is_failed_append};
+    ghost use Rattle.pool_cli.specs.Edges.{untold_keeper};
 
-    ghost faults = { λ k. k.faults };
-
-    ghost records = { λ _. None };
+    ghost seen = { λ k. untold_keeper k.faults };
 
     fn append(&mut self, bytes: &[u8]) -> Result<(), KeeperFailed>
         requires { length bytes.now ≤ 300100 }

@@ -17,10 +17,8 @@ mod tcp;
 mod tcp_tests;
 
 use command_line::{Word, run};
-use pool_doors::Door;
 use pool_io::Host;
-use pool_network::Network;
-use pool_turns::Status;
+use pool_network::{Door, Network};
 use std::alloc::{AllocError, Global};
 use std::env::Args;
 use std::process::ExitCode;
@@ -28,6 +26,7 @@ use std::rt::Env;
 use std::sync::Wait;
 use std::thread::Threads;
 use std::{env, io};
+use stream_commands::Status;
 use stream_host::StreamHost;
 use tcp::TcpNetwork;
 

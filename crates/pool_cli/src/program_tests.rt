@@ -76,55 +76,58 @@ const SHARE: &[u8] = b"\x00\x80\x1a\x18\x00\x00\x01\x00\x00\x00\x00\x00\x00\x00\
 const CREDITED: &[u8] =
     b"\x00\x80\x1c\x14\x00\x00\x01\x00\x00\x00\x00\x00\x00\x00\x01\x00\x00\x00\x00\x00\x00\x00\x00\x08\x00\x00";
 
+/// Lines of words, each with its input, and the status and the output that answer it.
+const LINES: [(&[u8], &[u8], u8, &[u8]); 13] = [
+    (b"maqefwi", b"", 2, b""),
+    (b"maqefwi \xff", b"", 2, b""),
+    (
+        b"maqefwi frames",
+        SETUP,
+        0,
+        b"frame 0 ext 0000 kind 00 length 16 SetupConnection\n",
+    ),
+    (
+        b"maqefwi audit none",
+        b"",
+        0,
+        b"legal\nsessions 0\nevents 0\ncredits 0\nblocks 0\npool 0\n",
+    ),
+    (b"maqefwi migrate none copy", b"", 0, b"migrated 0\n"),
+    (b"maqefwi migrate none copy", b"", 7, b""),
+    (b"maqefwi solo settings begun", b"", 0, b""),
+    (
+        b"maqefwi audit begun",
+        b"",
+        0,
+        b"legal\nsessions 0\nevents 1\ncredits 0\nblocks 0\npool 0\n",
+    ),
+    (b"maqefwi serve settings unserved", b"", 7, b""),
+    (b"maqefwi audit ", b"", 7, b""),
+    (b"maqefwi audit \xc3\xa9", b"", 7, b""),
+    (
+        b"maqefwi solo fixed 43 \
+        0000000000000000000000000000000000000000000000000000000000000000\
+        3ba3edfd7a7b12b27ac72c3e67768f617fc81bc3888a51323a9fb8aa4b1e5e4affff001d",
+        SHARE,
+        0,
+        CREDITED,
+    ),
+    (
+        b"maqefwi solo fixed 43 \
+        0000000000000000000000000000000000000000000000000000000000000000\
+        3ba3edfd7a7b12b27ac72c3e67768f617fc81bc3888a51323a9fb8aa4b1e5e4affff001d more",
+        SHARE,
+        2,
+        b"",
+    ),
+];
+
 #[test]
 fn each_word_counts_and_files_are_left_for_others(rt: HostRuntime) -> Result<(), Fail> {
     stand_in_new_folder(&rt, "program")?;
     fs::write(&rt, "none", b"SV2LEDG2")?;
     fs::write(&rt, "settings", SETTINGS.as_bytes())?;
-    for (line, input, status, output) in [
-        (b"maqefwi".as_slice(), b"".as_slice(), 2, b"".as_slice()),
-        (b"maqefwi \xff", b"", 2, b""),
-        (
-            b"maqefwi frames",
-            SETUP,
-            0,
-            b"frame 0 ext 0000 kind 00 length 16 SetupConnection\n",
-        ),
-        (
-            b"maqefwi audit none",
-            b"",
-            0,
-            b"legal\nsessions 0\nevents 0\ncredits 0\nblocks 0\npool 0\n",
-        ),
-        (b"maqefwi migrate none copy", b"", 0, b"migrated 0\n"),
-        (b"maqefwi migrate none copy", b"", 7, b""),
-        (b"maqefwi solo settings begun", b"", 0, b""),
-        (
-            b"maqefwi audit begun",
-            b"",
-            0,
-            b"legal\nsessions 0\nevents 1\ncredits 0\nblocks 0\npool 0\n",
-        ),
-        (b"maqefwi serve settings unserved", b"", 7, b""),
-        (b"maqefwi audit ", b"", 7, b""),
-        (b"maqefwi audit \xc3\xa9", b"", 7, b""),
-        (
-            b"maqefwi solo fixed 43 \
-            0000000000000000000000000000000000000000000000000000000000000000\
-            3ba3edfd7a7b12b27ac72c3e67768f617fc81bc3888a51323a9fb8aa4b1e5e4affff001d",
-            SHARE,
-            0,
-            CREDITED,
-        ),
-        (
-            b"maqefwi solo fixed 43 \
-            0000000000000000000000000000000000000000000000000000000000000000\
-            3ba3edfd7a7b12b27ac72c3e67768f617fc81bc3888a51323a9fb8aa4b1e5e4affff001d more",
-            SHARE,
-            2,
-            b"",
-        ),
-    ] {
+    for (line, input, status, output) in LINES {
         assert_eq!(rt; answer_to(&rt, line, input)?, status, "{output:?}");
         assert!(rt; fs::read(&rt, "output")?.as_slice() == output, "{status}");
     }

@@ -52,8 +52,9 @@ impl<R: Read + Copy + Drop, W: Write + Copy + Drop, F: Files<File = File> + Drop
 impl<R: Read + Copy + Drop, W: Write + Copy + Drop, F: Files<File = File> + Drop> Host
     for StreamHost<R, W, F> {
     ghost use Rattle.std.specs.Prelude.{None, ◌≢◌, ◌<◌, IfOk, OnOk, OnErr};
-    ghost use Rattle.pool_io.specs.Lending.{lent_one, with_back};
+    ghost use Rattle.pool_io.specs.Lending.{lending_seen, lent_one, with_back};
     ghost use Rattle.pool_io.specs.Outside.{CountsFailure, is_failed_gift};
+    ghost use Rattle.pool_cli.specs.Edges.{untold_keeper, untold_sink, untold_source};
     ghost use Rattle.pool_cli.specs.declared.edge.Incoming.TheVariants as incoming;
 
     type S = ReadSource<Incoming<R, File>>;
@@ -63,17 +64,18 @@ impl<R: Read + Copy + Drop, W: Write + Copy + Drop, F: Files<File = File> + Drop
     type K = FileKeeper<File>;
 
     ghost seen = { λ h. record {
-      faults = h.faults;
-      input = None;
-      output = None;
-      sources = h.sources;
-      sinks = h.sinks;
-    } };
-
-    ghost openings = { λ h. record {
-      calls = None;
-      brings = λ _. None;
-      keepers = h.keepers;
+      streams = record {
+        faults = h.faults;
+        input = None;
+        output = None;
+        sources = lending_seen (λ source. untold_source source.faults) h.sources;
+        sinks = lending_seen (λ sink. untold_sink sink.faults) h.sinks;
+      };
+      openings = record {
+        calls = None;
+        brings = λ _. None;
+        keepers = lending_seen (λ keeper. untold_keeper keeper.faults) h.keepers;
+      };
     } };
 
     fn input(&mut self) -> Result<ReadSource<Incoming<R, File>>, HostError>

@@ -3,13 +3,11 @@
 ghost use Rattle.std.specs.Prelude.{◌≡◌, ◌<◌, [], IfOk, vec_len};
 ghost use Rattle.pool_io.specs.Lending.{with_back};
 ghost use Rattle.pool_io.specs.Outside.{next_count};
-ghost use Rattle.pool_doors.specs.declared.door.Came.TheVariants as came;
+ghost use Rattle.pool_network.specs.declared.door.Came.TheVariants as came;
 
 use crate::edge::{ReadSource, WriteSink};
-use pool_doors::{Came, Door};
 use pool_io::{HostError, Shelf, Sink, SinkFailed, Source, Took};
-use pool_links::Link;
-use pool_network::Network;
+use pool_network::{Came, Door, Link, Network};
 use std::alloc::Global;
 use std::io::Error;
 use std::net::{Net, OpenListener, TcpListener, TcpStream};
@@ -24,15 +22,9 @@ pub struct TcpLink {
 }
 
 impl Link for TcpLink {
-    ghost use Rattle.std.specs.Prelude.{None};
+    ghost use Rattle.pool_cli.specs.Connections.{link_seen};
 
-    ghost read_faults = { λ link. link.source.faults };
-
-    ghost write_faults = { λ link. link.sink.faults };
-
-    ghost left = { λ _. None };
-
-    ghost held = { λ _. None };
+    ghost seen = { link_seen };
 
     fn take(&mut self, buffer: &mut [u8]) -> Took {
         self.source.take(buffer)
@@ -132,19 +124,11 @@ impl<L: OpenListener<Stream = TcpStream> + Drop, C: Clock + Drop> TcpDoor<L, C> 
 }
 
 impl<L: OpenListener<Stream = TcpStream> + Drop, C: Clock + Drop> Door for TcpDoor<L, C> {
-    ghost use Rattle.std.specs.Prelude.{None};
+    ghost use Rattle.pool_cli.specs.Connections.{door_seen};
 
     type L = TcpLink;
 
-    ghost faults = { λ door. door.faults };
-
-    ghost asked = { λ door. door.asked };
-
-    ghost coming = { λ _. None };
-
-    ghost out = { λ door. door.out };
-
-    ghost back = { λ _. None };
+    ghost seen = { door_seen };
 
     fn accept(&mut self) -> Came<TcpLink> {
         self.asked = self.asked.saturating_add(1);
@@ -215,6 +199,8 @@ impl<N: Net<Listener = TcpListener, Stream = TcpStream> + Clock + Copy + Drop> T
 impl<N: Net<Listener = TcpListener, Stream = TcpStream> + Clock + Copy + Drop> Network
     for TcpNetwork<N> {
     ghost use Rattle.std.specs.Prelude.{None, map};
+    ghost use Rattle.pool_io.specs.Lending.{lending_seen};
+    ghost use Rattle.pool_cli.specs.Connections.{door_seen, link_seen};
 
     type D = TcpDoor<TcpListener, N>;
 
@@ -223,11 +209,8 @@ impl<N: Net<Listener = TcpListener, Stream = TcpStream> + Clock + Copy + Drop> N
       calls = None;
       to_dial = None;
       to_open = None;
-      links = network.links;
-      doors = record {
-        lent = network.doors.lent;
-        back = map (λ doors. doors.items) network.doors.back;
-      };
+      links = lending_seen link_seen network.links;
+      doors = lending_seen (λ doors. map door_seen doors.items) network.doors;
     } };
 
     fn dial(&mut self, address: &str) -> Result<TcpLink, HostError> {

@@ -5,10 +5,8 @@ ghost use Rattle.std.specs.Prelude.{◌<◌, length};
 
 use crate::edge_tests::pattern;
 use crate::tcp::{TcpDoor, TcpLink, TcpNetwork, link_over};
-use pool_doors::{Came, Door};
 use pool_io::{HostError, SinkFailed, Took};
-use pool_links::Link;
-use pool_network::Network;
+use pool_network::{Came, Door, Link, Network};
 use std::alloc::Global;
 use std::cell::Cell;
 use std::fs::File;

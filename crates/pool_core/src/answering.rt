@@ -142,7 +142,18 @@ pub(crate) fn put_answer(
         Reply::Granted(grant, script) => put_token(about, *grant, script, out),
         Reply::CustomJob(job) => put_own_job(about, *job, out),
         Reply::CustomRefused(error) => put_own_job_error(about, error.code(), out),
-        _ => Ok(false),
+        Reply::PoolFull(_)
+        | Reply::NoSession
+        | Reply::Left
+        | Reply::Job(_)
+        | Reply::TemplateRefused(_)
+        | Reply::Named
+        | Reply::NameRefused(_)
+        | Reply::Closed
+        | Reply::NotOpen
+        | Reply::Brief(_)
+        | Reply::News(_, _)
+        | Reply::GrantRefused(_) => Ok(false),
     }
 }
 

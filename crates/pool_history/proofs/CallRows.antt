@@ -6,7 +6,7 @@ use Rattle.pool_history.specs.declared.events.Event.{Event}
 use Rattle.pool_history.specs.declared.events.Kind.TheVariants as kind
 use Rattle.pool_history.specs.declared.events.Role.TheVariants as role
 use Rattle.pool_history.specs.declared.replies.Reply.TheVariants as reply
-use Rattle.calls.specs.Calls.{PartsFrom, Replied, Faulted}
+use Rattle.pool_base.specs.Calls.{PartsFrom, Replied, Faulted}
 use Rattle.pool_history.specs.Calls.{GoodPoolCalls, PoolCall}
 use Rattle.pool_history.specs.declared.refusals.BookError.TheVariants.{KeeperFault}
 use Rattle.pool_history.specs.Spaces.{first_free}

@@ -2,7 +2,7 @@
 -- (this project's own).
 -- Computed on four calls with a fault and a poll among them (`CallRows`).
 use Rattle.std.specs.Prelude.{Bool, true, false, List}
-use Rattle.calls.specs.Calls.{Call, Faulted, GoodCalls, IsGoodCall, Outcome, Replied}
+use Rattle.pool_base.specs.Calls.{Call, Faulted, GoodCalls, IsGoodCall, Outcome, Replied}
 use Rattle.pool_history.specs.declared.asking.Request.{Request}
 use Rattle.pool_history.specs.declared.events.Event.{Event}
 use Rattle.pool_history.specs.declared.refusals.BookError.{BookError}

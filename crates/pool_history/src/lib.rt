@@ -9,6 +9,7 @@ mod codes;
 mod events;
 mod laws;
 mod leads;
+mod ranges;
 mod refusals;
 mod replies;
 mod settings;
@@ -22,6 +23,7 @@ pub use causes::Cause;
 pub use events::{Event, JobState, Kind, Role};
 pub use laws::{classes_by_places, jobs_by_places, states_by_places};
 pub use leads::Lead;
+pub use ranges::are_rules_in_range;
 pub use refusals::{
     BookError, CustomError, Failed, GrantError, JobError, NameError, OpenError, UpdateError,
 };

@@ -1,3 +1,4 @@
+pub mod Hosts
 pub mod Lending
 pub mod Memory
 pub mod MemoryHost

@@ -1,15 +1,24 @@
--- What contracts see of a host.
+-- What contracts see of sources, sinks and keepers (this project's own).
 use Rattle.std.specs.Prelude.{ℕ, List, Option}
-use Rattle.pool_io.specs.Lending.{Lending}
 use Rattle.pool_io.specs.declared.turn.Turn.{Turn}
 
--- a host with sources S and sinks T
-pub record Seen (S T : Type 0) : Type 0 where
+-- a source
+pub record SourceSeen : Type 0 where
   -- how often it has failed
   pub faults : ℕ
-  -- what standard input will bring, where it is told
-  pub input : Option (List Turn)
-  -- what standard output holds before anything is put, where it is told
-  pub output : Option (List ℕ)
-  pub sources : Lending S
-  pub sinks : Lending T
+  -- the turns still to come, where it tells them
+  pub left : Option (List Turn)
+
+-- a sink
+pub record SinkSeen : Type 0 where
+  -- how often it has failed
+  pub faults : ℕ
+  -- the bytes that it has taken, where it tells them
+  pub held : Option (List ℕ)
+
+-- a keeper
+pub record KeeperSeen : Type 0 where
+  -- how often it has failed
+  pub faults : ℕ
+  -- the records that it keeps, where it tells them
+  pub records : Option (List (List ℕ))

@@ -1,11 +1,11 @@
 //! What a program gets from the system that runs it.
 
-ghost use Rattle.std.specs.Prelude.{◌≡◌, ◌<◌, ◌≤◌, ℕ, [], None, OnOk, OnErr, IfOk, IfSome};
+ghost use Rattle.std.specs.Prelude.{◌≡◌, ◌<◌, [], None, OnOk, OnErr, IfOk, IfSome};
 ghost use Rattle.pool_io.specs.declared.opening.Opening.TheVariants as opening;
+ghost use Rattle.pool_io.specs.Hosts.{HostSeen};
 ghost use Rattle.pool_io.specs.Lending.{lent_one, with_back, nothing_left};
-ghost use Rattle.pool_io.specs.Openings.{Openings, openings_after, openings_after_keeper};
+ghost use Rattle.pool_io.specs.Openings.{openings_after, openings_after_keeper, with_keeper_back};
 ghost use Rattle.pool_io.specs.Outside.{CountsFailure, is_failed_gift};
-ghost use Rattle.pool_io.specs.Seen.{Seen};
 
 use crate::{Keeper, Sink, Source};
 use thiserror::Error;
@@ -28,92 +28,88 @@ pub trait Host {
 
     type K: Keeper;
 
-    ghost seen: { Self → Seen Self.S Self.T };
-
-    ghost openings: { Self → Openings Self.K };
+    /// How often the host has failed (a counter stays at 2^64 - 1 once it is there), what it gives,
+    /// what is out, and what has come back.
+    ghost seen: { Self → HostSeen };
 
     /// Standard input.
     fn input(&mut self) -> Result<Self::S, HostError>
-        ensures told { IfOk result (λ source. Self.S.left source ≡ (seen self.old).input) }
-        ensures fresh { IfOk result (λ source. Self.S.faults source ≡ 0) }
-        ensures given { OnOk result (seen self.new ≡ record (seen self.old) {
-          input = nothing_left (seen self.old).input;
-          sources = lent_one (seen self.old).sources;
+        ensures told { IfOk result (λ source.
+            Self.S.seen source ≡ record { faults = 0; left = (seen self.old).streams.input }) }
+        ensures given { OnOk result ((seen self.new).streams ≡ record (seen self.old).streams {
+          input = nothing_left (seen self.old).streams.input;
+          sources = lent_one (seen self.old).streams.sources;
         }) }
-        ensures refused { OnErr result (seen self.new
-            ≡ record (seen self.old) { faults = (seen self.new).faults }) }
-        ensures counts { CountsFailure (is_failed_gift result) (seen self.old).faults
-            (seen self.new).faults }
-        ensures called { openings self.new
-            ≡ openings_after opening.Input result (openings self.old) };
+        ensures refused { OnErr result ((seen self.new).streams
+            ≡ record (seen self.old).streams { faults = (seen self.new).streams.faults }) }
+        ensures counts { CountsFailure (is_failed_gift result) (seen self.old).streams.faults
+            (seen self.new).streams.faults }
+        ensures called { (seen self.new).openings
+            ≡ openings_after opening.Input result (seen self.old).openings };
 
     /// Standard output.
     fn output(&mut self) -> Result<Self::T, HostError>
-        ensures told { IfOk result (λ sink. Self.T.held sink ≡ (seen self.old).output) }
-        ensures fresh { IfOk result (λ sink. Self.T.faults sink ≡ 0) }
-        ensures given { OnOk result (seen self.new ≡ record (seen self.old) {
-          output = nothing_left (seen self.old).output;
-          sinks = lent_one (seen self.old).sinks;
+        ensures told { IfOk result (λ sink.
+            Self.T.seen sink ≡ record { faults = 0; held = (seen self.old).streams.output }) }
+        ensures given { OnOk result ((seen self.new).streams ≡ record (seen self.old).streams {
+          output = nothing_left (seen self.old).streams.output;
+          sinks = lent_one (seen self.old).streams.sinks;
         }) }
-        ensures refused { OnErr result (seen self.new
-            ≡ record (seen self.old) { faults = (seen self.new).faults }) }
-        ensures counts { CountsFailure (is_failed_gift result) (seen self.old).faults
-            (seen self.new).faults }
-        ensures called { openings self.new
-            ≡ openings_after opening.Output result (openings self.old) };
+        ensures refused { OnErr result ((seen self.new).streams
+            ≡ record (seen self.old).streams { faults = (seen self.new).streams.faults }) }
+        ensures counts { CountsFailure (is_failed_gift result) (seen self.old).streams.faults
+            (seen self.new).streams.faults }
+        ensures called { (seen self.new).openings
+            ≡ openings_after opening.Output result (seen self.old).openings };
 
     /// The bytes of the file of this name.
     fn open_source(&mut self, name: &str) -> Result<Self::S, HostError>
-        ensures told { IfOk result (λ source.
-            Self.S.left source ≡ (openings self.old).brings name.now) }
-        ensures fresh { IfOk result (λ source. Self.S.faults source ≡ 0) }
-        ensures given { OnOk result (seen self.new ≡ record (seen self.old) {
-          sources = lent_one (seen self.old).sources;
+        ensures told { IfOk result (λ source. Self.S.seen source
+            ≡ record { faults = 0; left = (seen self.old).openings.brings name.now }) }
+        ensures given { OnOk result ((seen self.new).streams ≡ record (seen self.old).streams {
+          sources = lent_one (seen self.old).streams.sources;
         }) }
-        ensures refused { OnErr result (seen self.new
-            ≡ record (seen self.old) { faults = (seen self.new).faults }) }
-        ensures counts { CountsFailure (is_failed_gift result) (seen self.old).faults
-            (seen self.new).faults }
-        ensures called { openings self.new
-            ≡ openings_after (opening.Source name.now) result (openings self.old) };
+        ensures refused { OnErr result ((seen self.new).streams
+            ≡ record (seen self.old).streams { faults = (seen self.new).streams.faults }) }
+        ensures counts { CountsFailure (is_failed_gift result) (seen self.old).streams.faults
+            (seen self.new).streams.faults }
+        ensures called { (seen self.new).openings
+            ≡ openings_after (opening.Source name.now) result (seen self.old).openings };
 
     /// A keeper over a new file of this name, which keeps no record yet. It fails where the name
     /// exists.
     fn open_keeper(&mut self, name: &str) -> Result<Self::K, HostError>
-        ensures fresh { IfOk result (λ keeper. Self.K.faults keeper ≡ 0) }
-        ensures empty { IfOk result (λ keeper. IfSome (Self.K.records keeper)
+        ensures fresh { IfOk result (λ keeper. (Self.K.seen keeper).faults ≡ 0) }
+        ensures empty { IfOk result (λ keeper. IfSome (Self.K.seen keeper).records
             (λ records. records ≡ [])) }
-        ensures new { OnOk result ((openings self.old).brings name.now ≡ None) }
-        ensures stays { seen self.new
-            ≡ record (seen self.old) { faults = (seen self.new).faults } }
-        ensures counts { CountsFailure (is_failed_gift result) (seen self.old).faults
-            (seen self.new).faults }
-        ensures called { openings self.new
-            ≡ openings_after_keeper (opening.Keeper name.now) result (openings self.old) };
+        ensures new { OnOk result ((seen self.old).openings.brings name.now ≡ None) }
+        ensures stays { (seen self.new).streams
+            ≡ record (seen self.old).streams { faults = (seen self.new).streams.faults } }
+        ensures counts { CountsFailure (is_failed_gift result) (seen self.old).streams.faults
+            (seen self.new).streams.faults }
+        ensures called { (seen self.new).openings
+            ≡ openings_after_keeper (opening.Keeper name.now) result (seen self.old).openings };
 
     /// Takes a source back, without memory.
     fn done_source(&mut self, source: Self::S)
-        requires { 0 < (seen self.old).sources.lent }
-        ensures back { seen self.new ≡ record (seen self.old) {
-          sources = with_back
-              (seen self.old).sources source;
+        requires { 0 < (seen self.old).streams.sources.lent }
+        ensures back { (seen self.new).streams ≡ record (seen self.old).streams {
+          sources = with_back (seen self.old).streams.sources (Self.S.seen source);
         } }
-        ensures openings { openings self.new ≡ openings self.old };
+        ensures openings { (seen self.new).openings ≡ (seen self.old).openings };
 
     /// Takes a sink back, without memory.
     fn done_sink(&mut self, sink: Self::T)
-        requires { 0 < (seen self.old).sinks.lent }
-        ensures back { seen self.new ≡ record (seen self.old) {
-          sinks = with_back (seen self.old).sinks
-              sink;
+        requires { 0 < (seen self.old).streams.sinks.lent }
+        ensures back { (seen self.new).streams ≡ record (seen self.old).streams {
+          sinks = with_back (seen self.old).streams.sinks (Self.T.seen sink);
         } }
-        ensures openings { openings self.new ≡ openings self.old };
+        ensures openings { (seen self.new).openings ≡ (seen self.old).openings };
 
     /// Takes a keeper back, without memory.
     fn done_keeper(&mut self, keeper: Self::K)
-        requires { 0 < (openings self.old).keepers.lent }
-        ensures back { openings self.new ≡ record (openings self.old) {
-          keepers = with_back (openings self.old).keepers keeper;
-        } }
-        ensures seen { seen self.new ≡ seen self.old };
+        requires { 0 < (seen self.old).openings.keepers.lent }
+        ensures back { (seen self.new).openings
+            ≡ with_keeper_back (seen self.old).openings (Self.K.seen keeper) }
+        ensures streams { (seen self.new).streams ≡ (seen self.old).streams };
 }

@@ -1,2 +1,6 @@
+pub mod Doors
+pub mod MemoryDoors
+pub mod MemoryLinks
+pub mod MemoryNetworks
 pub mod Networks
-pub mod Memory
+pub mod Seen

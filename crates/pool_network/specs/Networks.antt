@@ -4,19 +4,20 @@ use Rattle.pool_io.specs.declared.host.HostError.{HostError}
 use Rattle.pool_io.specs.declared.host.HostError.TheVariants as host
 use Rattle.pool_io.specs.Lending.{Lending}
 use Rattle.pool_network.specs.declared.network.Reaching.{Reaching}
+use Rattle.pool_network.specs.Seen.{DoorSeen, LinkSeen}
 
--- a network with links L, that opens doors D
-pub record NetworkView (L D : Type 0) : Type 0 where
+-- a network
+pub record NetworkSeen : Type 0 where
   -- how often it has failed
   pub faults : ℕ
   -- the calls that named an address so far, in their order, where they are told
   pub calls : Option (List Reaching)
   -- the links that it will give, and the doors, where they are told
-  pub to_dial : Option (List L)
-  pub to_open : Option (List D)
+  pub to_dial : Option (List LinkSeen)
+  pub to_open : Option (List DoorSeen)
   -- the links that are out, and those that came back; the same of the lists of doors
-  pub links : Lending L
-  pub doors : Lending (List D)
+  pub links : Lending LinkSeen
+  pub doors : Lending (List DoorSeen)
 
 -- one more call, where the calls are told
 abbrev pub reaching_and : Option (List Reaching) → Reaching → Option (List Reaching)

@@ -1,12 +1,12 @@
 //! A network: what is asked by an address.
 
-ghost use Rattle.std.specs.Prelude.{◌≡◌, ◌<◌, ℕ, [], ◌∷◌, IfOk, OnErr, length, vec_len};
+ghost use Rattle.std.specs.Prelude.{◌≡◌, ◌<◌, [], ◌∷◌, IfOk, OnErr, map, vec_len};
 ghost use Rattle.pool_io.specs.Lending.{lent_one, with_back};
 ghost use Rattle.pool_io.specs.Outside.{CountsFailure, is_failed_gift};
 ghost use Rattle.pool_network.specs.declared.network.Reaching.TheVariants as reaching;
-ghost use Rattle.pool_network.specs.Networks.{GivesNext, NetworkView, calls_after};
+ghost use Rattle.pool_network.specs.Networks.{GivesNext, NetworkSeen, calls_after};
 
-use pool_doors::Door;
+use crate::Door;
 use pool_io::{HostError, Name};
 
 /// A call that named an address.
@@ -23,12 +23,14 @@ pub enum Reaching {
 pub trait Network {
     type D: Door;
 
-    ghost seen: { Self → NetworkView Self.D.L Self.D };
+    /// How often the network has failed (a counter stays at 2^64 - 1 once it is there), what it gives,
+    /// what is out, and what has come back.
+    ghost seen: { Self → NetworkSeen };
 
     /// A connection to the peer at this address.
     fn dial(&mut self, address: &str) -> Result<<Self::D as Door>::L, HostError>
         ensures given { IfOk result (λ link. GivesNext (seen self.old).to_dial (seen self.new).to_dial
-            (link ∷ [])) }
+            (Self.D.L.seen link ∷ [])) }
         ensures lent { IfOk result (λ link. (seen self.new).links ≡ lent_one (seen self.old).links) }
         ensures stays { IfOk result (λ link. seen self.new ≡ record (seen self.old) {
           calls = (seen self.new).calls;
@@ -47,7 +49,7 @@ pub trait Network {
     /// So many doors at this address.
     fn open_doors(&mut self, address: &str, count: u32) -> Result<Vec<Self::D>, HostError>
         ensures given { IfOk result (λ doors. GivesNext (seen self.old).to_open (seen self.new).to_open
-            doors.items) }
+            (map Self.D.seen doors.items)) }
         ensures as_many { IfOk result (λ doors. vec_len doors ≡ count) }
         ensures lent { IfOk result (λ doors. (seen self.new).doors ≡ lent_one (seen self.old).doors) }
         ensures stays { IfOk result (λ doors. seen self.new ≡ record (seen self.old) {
@@ -68,13 +70,13 @@ pub trait Network {
     fn done_link(&mut self, link: <Self::D as Door>::L)
         requires { 0 < (seen self.old).links.lent }
         ensures back { seen self.new ≡ record (seen self.old) {
-          links = with_back (seen self.old).links link;
+          links = with_back (seen self.old).links (Self.D.L.seen link);
         } };
 
     /// Takes doors back, without memory.
     fn done_doors(&mut self, doors: Vec<Self::D>)
         requires { 0 < (seen self.old).doors.lent }
         ensures back { seen self.new ≡ record (seen self.old) {
-          doors = with_back (seen self.old).doors doors.items;
+          doors = with_back (seen self.old).doors (map Self.D.seen doors.items);
         } };
 }

@@ -3,9 +3,9 @@ use Rattle.std.proofs.Common.{◌≡◌, ℕ, ◌+◌, ◌-◌, ◌^◌, ◌≤�
 use Rattle.std.specs.Prelude.{if◌then◌else◌}
 use Rattle.pool_io.specs.Outside.{next_count}
 use Rattle.pool_history.specs.Calls.{PoolCall, has_keeper_failed}
-use Rattle.desk_worker.specs.Calling.{faults_after, faults_through}
-use Rattle.door_worker.specs.declared.working.DoorEnd.{DoorEnd}
-use Rattle.door_worker.specs.Shifts.{is_failed_end}
+use Rattle.session_workers.specs.Calling.{faults_after, faults_through}
+use Rattle.session_workers.specs.declared.working.DoorEnd.{DoorEnd}
+use Rattle.session_workers.specs.Shifts.{is_failed_end}
 use Rattle.pool_server.specs.Counting.{capped, count_if, failed_in, faulted_in, is_starved_end, starved_in}
 
 count_one_more : (b : Bool) (n rest : ℕ) → n ≤ 2 ^ 64 - 1

@@ -2,9 +2,9 @@
 use Rattle.std.proofs.Common.{◌≡◌, ℕ, ◌+◌, List, [], ◌∷◌, ◌++◌, Some, map, length, refl, sym, ap, subst, ◌∙◌, append_assoc, append-nil, arith}
 use Rattle.std.proofs.lemmas.List.{length-append, map-append}
 use Rattle.session_steps.specs.declared.ends.SessionEnd.{SessionEnd}
-use Rattle.desk_worker.specs.Calling.{PoolPass}
-use Rattle.door_worker.specs.declared.working.DoorEnd.{DoorEnd}
-use Rattle.door_worker.specs.Shifts.{is_failed_end}
+use Rattle.session_workers.specs.Calling.{PoolPass}
+use Rattle.session_workers.specs.declared.working.DoorEnd.{DoorEnd}
+use Rattle.session_workers.specs.Shifts.{is_failed_end}
 use Rattle.pool_server.specs.declared.pairing.Tended.{Tended}
 use Rattle.pool_server.specs.declared.parts.ThreadPart.{ThreadPart}
 use Rattle.pool_server.specs.declared.parts.ThreadTask.{ThreadTask}

@@ -5,12 +5,12 @@ use Rattle.std.proofs.Math.Seq.{take-append_seam}
 use Rattle.std.proofs.lemmas.List.Elements.{All-from_recursion, recursion_from_All}
 use Rattle.std.specs.List.{AllByRecursion}
 use Rattle.session_steps.specs.Steps.{calls_in}
-use Rattle.desk_worker.specs.Calling.{PoolPass}
+use Rattle.session_workers.specs.Calling.{PoolPass}
 use Rattle.pool_server.specs.declared.pairing.Tended.{Tended}
 use Rattle.pool_server.specs.declared.parts.ThreadPart.{ThreadPart}
 use Rattle.pool_server.specs.Counting.{capped, failed_in, faulted_in, starved_in}
 use Rattle.pool_server.specs.Pairing.{HasDoneTasks, IsPaired, IsUnpaired, door_part, door_parts, faults_in, feed_part, feed_row_part, row_parts}
-use Rattle.pool_server.specs.Parts.{AttendsByPlace, AttendsEach, IsAttended, Service}
+use Rattle.pool_server.specs.Parts.{AttendsByPlace, AttendsEach, IsAttended, Seeing}
 use Rattle.pool_server.specs.Tending.{IsTended, calls_of_shifts}
 use Rattle.pool_server.proofs.Counts.{capped_sum, faulted_both, through_zero}
 use Rattle.pool_server.proofs.Rows.{AllDone, all_done}
@@ -55,24 +55,24 @@ module _ {D L K : Type 0} where
       let l = length-append (door_parts {D = D} {L = L} {K = K} doors paired.others) (feed_part feed paired.first ∷ []) in
       omega (arith, p, e, l)
 
-module _ {D L K : Type 0} (service : Service D L) where
+module _ {D L K : Type 0} (seeing : Seeing D L) where
   each_places : (olds news : List (ThreadPart D L K)) → length news ≡ length olds
-      → ((place : ℕ) (part : ThreadPart D L K) → place < length olds → IsAttended service (slice_index_or olds place part) (slice_index_or news place part)) → AttendsEach service olds news
+      → ((place : ℕ) (part : ThreadPart D L K) → place < length olds → IsAttended seeing (slice_index_or olds place part) (slice_index_or news place part)) → AttendsEach seeing olds news
   each_places [] [] long each = tt
   each_places [] (new ∷ news) long each = absurd (omega (arith, long))
   each_places (old ∷ olds) [] long each = absurd (omega (arith, long))
   each_places (old ∷ olds) (new ∷ news) long each =
       (each 0 old (omega arith), each_places olds news (omega (arith, long)) (λ place part less. each (suc place) part (omega (arith, less))))
 
-  pub attends_each : {olds news : List (ThreadPart D L K)} → AttendsByPlace service olds news → AttendsEach service olds news
+  pub attends_each : {olds news : List (ThreadPart D L K)} → AttendsByPlace seeing olds news → AttendsEach seeing olds news
   attends_each {olds = olds} {news = news} by_place = each_places olds news by_place.long by_place.each
 
   module _ {doors : List D} {passes : List PoolPass} {feed : L} {made parts : List (ThreadPart D L K)} (paired : IsPaired doors passes feed made) (as_many : length passes ≡ length doors + 1)
-      (attended : AttendsEach service made parts) where
-    done_all : AllDone service doors feed paired.first paired.others parts
+      (attended : AttendsEach seeing made parts) where
+    done_all : AllDone seeing doors feed paired.first paired.others parts
     done_all =
-        all_done service doors feed paired.first paired.others parts (paired_even paired as_many)
-        (subst (λ (l : List (ThreadPart D L K)). AttendsEach service l parts) paired.parts_are attended)
+        all_done seeing doors feed paired.first paired.others parts (paired_even paired as_many)
+        (subst (λ (l : List (ThreadPart D L K)). AttendsEach seeing l parts) paired.parts_are attended)
 
     parts_of_rows : parts ≡ row_parts done_all.asked.rows ++ feed_row_part done_all.fed.2.row ∷ []
     parts_of_rows =
@@ -85,7 +85,7 @@ module _ {D L K : Type 0} (service : Service D L) where
     whole = record { rows = done_all.asked.rows; feed = done_all.fed.2.row; parts_are = parts_of_rows }
 
     -- and this became of all
-    pub tended_all : (tended : Tended D L K) → IsUnpaired parts tended → IsTended service doors feed passes tended
+    pub tended_all : (tended : Tended D L K) → IsUnpaired parts tended → IsTended seeing doors feed passes tended
     tended_all tended unpaired =
         let done = done_all in
         let row = done.fed.2.row in
@@ -107,7 +107,7 @@ module _ {D L K : Type 0} (service : Service D L) where
           fed_calls = served.asks.goes_on;
           worked = done.asked.worked;
           doors_before = done.asked.before;
-          doors_after = done.asked.after ∙ sym restored.doors_are;
+          doors_after = done.asked.after ∙ ap (λ (l : List D). map seeing.door l) (sym restored.doors_are);
           ledger_faults_are = restored.ledger_faults_are ∙ ap (λ n. capped (n + faults_in rows)) counted
               ∙ capped_sum (faulted_in (calls_in served.steps)) (faults_in rows) (faulted_in (calls_of_shifts shifts)) done.asked.faults
               ∙ ap (λ n. capped n) (sym (faulted_both (calls_in served.steps) (calls_of_shifts shifts)));
@@ -121,18 +121,18 @@ back_of {X} len slice items new value long same =
     let e : len ≡ length new = long ∙ ap (λ (l : List X). length l) (sym value) ∙ sym same in
     ap (λ n. take n (new ++ drop (length new) items)) e ∙ take-append_seam new (drop (length new) items)
 
-module _ {D L K : Type 0} (service : Service D L) {doors : List D} {passes : List PoolPass} {feed : L} {made slice new : List (ThreadPart D L K)} (len : ℕ)
+module _ {D L K : Type 0} (seeing : Seeing D L) {doors : List D} {passes : List PoolPass} {feed : L} {made slice new : List (ThreadPart D L K)} (len : ℕ)
     (paired : IsPaired doors passes feed made) (as_many : length passes ≡ length doors + 1) (value : slice ≡ made) (long : len ≡ length made)
-    (by_place : AttendsByPlace service slice new) where
-  each_new : AttendsEach service made new
-  each_new = subst (λ (l : List (ThreadPart D L K)). AttendsEach service l new) value (attends_each service by_place)
+    (by_place : AttendsByPlace seeing slice new) where
+  each_new : AttendsEach seeing made new
+  each_new = subst (λ (l : List (ThreadPart D L K)). AttendsEach seeing l new) value (attends_each seeing by_place)
 
   written : take len (new ++ drop (length new) made) ≡ new
   written = back_of len slice made new value long by_place.long
 
   pub whole_written : HasDoneTasks (take len (new ++ drop (length new) made))
-  whole_written = subst (λ (l : List (ThreadPart D L K)). HasDoneTasks l) (sym written) (whole service paired as_many each_new)
+  whole_written = subst (λ (l : List (ThreadPart D L K)). HasDoneTasks l) (sym written) (whole seeing paired as_many each_new)
 
-  pub tended_written : (tended : Tended D L K) → IsUnpaired (take len (new ++ drop (length new) made)) tended → IsTended service doors feed passes tended
+  pub tended_written : (tended : Tended D L K) → IsUnpaired (take len (new ++ drop (length new) made)) tended → IsTended seeing doors feed passes tended
   tended_written tended unpaired =
-      tended_all service paired as_many each_new tended (subst (λ (l : List (ThreadPart D L K)). IsUnpaired l tended) written unpaired)
+      tended_all seeing paired as_many each_new tended (subst (λ (l : List (ThreadPart D L K)). IsUnpaired l tended) written unpaired)

@@ -1,12 +1,12 @@
 -- From the passes of a desk that was just opened to the calls of all when it is closed.
-use Rattle.std.proofs.Common.{◌≡◌, ◌≢◌, ℕ, zero, suc, ◌+◌, ◌<◌, ◌≤◌, All, List, [], ◌∷◌, ◌++◌, length, refl, sym, ap, ◌∙◌, subst, arith}
+use Rattle.std.proofs.Common.{◌≡◌, ◌≢◌, ℕ, zero, suc, ◌+◌, ◌<◌, ◌≤◌, All, List, [], ◌∷◌, ◌++◌, length, map, refl, sym, ap, ◌∙◌, subst, arith}
 use Rattle.std.specs.Global.{Vec}
 use Rattle.std.specs.List.{AllByRecursion, Contains}
 use Rattle.std.proofs.lemmas.List.Elements.{All-from_recursion}
 use native.Mathlib.Decide.{dec_le, ℕ_discrete}
 use Rattle.atomic_table.specs.Seated.{TableId}
 use Rattle.pool_base.specs.Lists.{Begins}
-use Rattle.calls.specs.Calls.{Parted, RiseFrom}
+use Rattle.pool_base.specs.Calls.{Parted, RiseFrom}
 use Rattle.desk.specs.Closing.{HasClosed, HasEveryWorker, calls_of, workers_of}
 use Rattle.desk.specs.Passes.{HasJustOpened, Opening, fresh_passes}
 use Rattle.desk.specs.Views.{workers_from}
@@ -17,15 +17,15 @@ use Rattle.pool_history.specs.Calls.{GoodPoolCalls, PoolCall, wants_memory}
 use Rattle.ledger_laws.specs.Keeping.{IsKept}
 use Rattle.share_ledger.specs.Books.{BookSeen, KeepsLedger}
 use Rattle.session_steps.specs.Steps.{calls_in}
-use Rattle.desk_worker.specs.Calling.{PoolPass}
-use Rattle.link_session.specs.Visits.{IsVisit}
-use Rattle.door_worker.specs.Shifts.{Shift, calls_at}
+use Rattle.session_workers.specs.Calling.{PoolPass}
+use Rattle.session_workers.specs.Visits.{IsVisit}
+use Rattle.session_workers.specs.Shifts.{Shift, calls_at}
 use Rattle.pool_server.specs.declared.pairing.Tended.{Tended}
 use Rattle.pool_server.specs.declared.serving.Served.{Served}
 use Rattle.pool_server.specs.declared.serving.Served.TheVariants as served
 use Rattle.pool_server.specs.Ending.{HasServed, IsFinished}
-use Rattle.pool_server.specs.Parts.{Service, manner_of}
-use Rattle.pool_server.specs.Serving.{AreShifts, HasRun, KeeperTelling, NumbersRise}
+use Rattle.pool_server.specs.Parts.{Seeing, manner_of}
+use Rattle.pool_server.specs.Serving.{AreShifts, HasRun, NumbersRise}
 use Rattle.pool_server.specs.Tending.{AreWorked, IsTended, all_calls, calls_of_shifts}
 
 -- a pass that was just dealt
@@ -54,16 +54,16 @@ contains_workers first (suc n) w from below = by_case (ℕ_discrete first w) (λ
     by_case (yes same) rest = contains_first (workers_from (first + 1) n) first w same
     by_case (no other) rest = contains_later (workers_from (first + 1) n) first w (rest (less_from first w other from))
 
-module _ {D L : Type 0} (service : Service D L) (table : TableId) (start : List Event) where
+module _ {D L : Type 0} (seeing : Seeing D L) (table : TableId) (start : List Event) where
   -- what passes did that were just dealt to workers in a row
-  pub record Dealt (worker count : ℕ) (shifts : List (Shift D L)) (news : List PoolPass) : Type 0 where
-    pub shifts_are : AreShifts service worker shifts
+  pub record Dealt (worker count : ℕ) (shifts : List Shift) (news : List PoolPass) : Type 0 where
+    pub shifts_are : AreShifts seeing.service worker shifts
     pub workers : workers_of news ≡ workers_from worker count
     pub calls : calls_of news ≡ calls_of_shifts shifts
-    pub rise : AllByRecursion (λ (shift : Shift D L). NumbersRise (calls_at shift.answers)) shifts
+    pub rise : AllByRecursion (λ (shift : Shift). NumbersRise (calls_at shift.answers)) shifts
     pub tables : AllByRecursion (λ (pass : PoolPass). pass.table ≡ table) news
 
-  pub dealt : (worker count : ℕ) (shifts : List (Shift D L)) (news : List PoolPass) → AreWorked service (fresh_passes table start (workers_from worker count)) shifts news
+  pub dealt : (worker count : ℕ) (shifts : List Shift) (news : List PoolPass) → AreWorked seeing.service (fresh_passes table start (workers_from worker count)) shifts news
       → Dealt worker count shifts news
   dealt worker zero [] [] h = record { shifts_are = tt; workers = refl; calls = refl; rise = tt; tables = tt }
   dealt worker zero [] (new ∷ news) h = absurd h
@@ -83,22 +83,22 @@ module _ {D L : Type 0} (service : Service D L) (table : TableId) (start : List 
 
   module _ {K : Type 0} (doors : List D) (feed : L) (passes : List PoolPass) (tended : Tended D L K) where
     -- what all passes did
-    pub record Ready (count : ℕ) (is : IsTended service doors feed passes tended) : Type 0 where
-      pub fed : IsVisit service.door.link (manner_of service role.Feed) 0 (record { before = feed; after = tended.feed; steps = is.steps; reason = tended.feed_end })
-      pub shifts_are : AreShifts service 1 is.shifts
+    pub record Ready (count : ℕ) (is : IsTended seeing doors feed passes tended) : Type 0 where
+      pub fed : IsVisit (manner_of seeing.service role.Feed) 0 (record { before = seeing.link feed; after = seeing.link tended.feed; steps = is.steps; reason = tended.feed_end })
+      pub shifts_are : AreShifts seeing.service 1 is.shifts
       pub workers : workers_of tended.passes.items ≡ workers_from 0 count
       pub calls : calls_of tended.passes.items ≡ all_calls is.steps is.shifts
-      pub rise : NumbersRise (calls_in is.steps) × AllByRecursion (λ (shift : Shift D L). NumbersRise (calls_at shift.answers)) is.shifts
+      pub rise : NumbersRise (calls_in is.steps) × AllByRecursion (λ (shift : Shift). NumbersRise (calls_at shift.answers)) is.shifts
       pub tables : AllByRecursion (λ (pass : PoolPass). pass.table ≡ table) tended.passes.items
 
-    ready_for : (n : ℕ) (is : IsTended service doors feed passes tended) → is.first ≡ fresh_pass table start 0 → is.others ≡ fresh_passes table start (workers_from 1 n)
+    ready_for : (n : ℕ) (is : IsTended seeing doors feed passes tended) → is.first ≡ fresh_pass table start 0 → is.others ≡ fresh_passes table start (workers_from 1 n)
         → Ready (suc n) is
     ready_for n is first others =
-        let later = dealt 1 n is.shifts is.others_after (subst (λ (l : List PoolPass). AreWorked service l is.shifts is.others_after) others is.worked) in
+        let later = dealt 1 n is.shifts is.others_after (subst (λ (l : List PoolPass). AreWorked seeing.service l is.shifts is.others_after) others is.worked) in
         let on = is.fed_calls in
         let after = is.passes_after in
         record {
-          fed = subst (λ (pass : PoolPass). IsVisit service.door.link (manner_of service role.Feed) pass.worker (record { before = feed; after = tended.feed; steps = is.steps; reason = tended.feed_end })) first is.fed;
+          fed = subst (λ (pass : PoolPass). IsVisit (manner_of seeing.service role.Feed) pass.worker (record { before = seeing.link feed; after = seeing.link tended.feed; steps = is.steps; reason = tended.feed_end })) first is.fed;
           shifts_are = later.shifts_are;
           workers = ap (λ (l : List PoolPass). workers_of l) after ∙ (λ i. (on.same.1 ∙ ap (λ (p : PoolPass). p.worker) first) i ∷ later.workers i);
           calls = ap (λ (l : List PoolPass). calls_of l) after
@@ -108,19 +108,19 @@ module _ {D L : Type 0} (service : Service D L) (table : TableId) (start : List 
           tables = subst (λ (l : List PoolPass). AllByRecursion (λ (pass : PoolPass). pass.table ≡ table) l) (sym after) ((on.same.0 ∙ ap (λ (p : PoolPass). p.table) first), later.tables);
         }
 
-    pub ready : (count n : ℕ) → count ≡ suc n → passes ≡ fresh_passes table start (workers_from 0 count) → (is : IsTended service doors feed passes tended) → Ready count is
+    pub ready : (count n : ℕ) → count ≡ suc n → passes ≡ fresh_passes table start (workers_from 0 count) → (is : IsTended seeing doors feed passes tended) → Ready count is
     ready count n long are is =
         let e : is.first ∷ is.others ≡ fresh_pass table start 0 ∷ fresh_passes table start (workers_from 1 n) = sym is.passes_are ∙ are ∙ ap (λ m. fresh_passes table start (workers_from 0 m)) long in
         let first : is.first ≡ fresh_pass table start 0 = cc in
         let others : is.others ≡ fresh_passes table start (workers_from 1 n) = cc in
         subst (λ m. Ready m is) (sym long) (ready_for n is first others)
 
-module _ {D L K : Type 0} {service : Service D L} {desk : Opening (BookSeen K)} {start : BookSeen K} {feed : L} {passes : List PoolPass} {tended : Tended D L K} {count : ℕ} (doors : Vec D)
-    (opened : HasJustOpened (λ (seen : BookSeen K). seen.events) start count desk passes) (long : count ≡ length doors.items + 1)
-    (is : IsTended service doors.items feed passes tended) where
+module _ {D L K : Type 0} {seeing : Seeing D L} {desk : Opening BookSeen} {start : BookSeen} {feed : L} {passes : List PoolPass} {tended : Tended D L K} {count : ℕ} (doors : Vec D)
+    (opened : HasJustOpened (λ (seen : BookSeen). seen.events) start count desk passes) (long : count ≡ length doors.items + 1)
+    (is : IsTended seeing doors.items feed passes tended) where
   -- a desk that was just opened has a pass for the feed and one for each door
-  ready_opened : Ready service desk.table start.events doors.items feed passes tended count is
-  ready_opened = ready service desk.table start.events doors.items feed passes tended count (length doors.items) (omega (arith, long)) opened.passes_are is
+  ready_opened : Ready seeing desk.table start.events doors.items feed passes tended count is
+  ready_opened = ready seeing desk.table start.events doors.items feed passes tended count (length doors.items) (omega (arith, long)) opened.passes_are is
 
   -- all passes are the desk's
   pub tables_are : All (λ (pass : PoolPass). pass.table ≡ desk.table) tended.passes.items
@@ -131,38 +131,38 @@ module _ {D L K : Type 0} {service : Service D L} {desk : Opening (BookSeen K)} 
   every_worker = λ worker less.
       subst (λ (l : List ℕ). Contains l worker) (sym ready_opened.workers) (contains_workers 0 count worker (omega arith) (let dealt = opened.dealt in omega (arith, less, dealt)))
 
-  module _ (keeper : KeeperTelling K) where
-    has_run : (book : BookSeen K) → HasClosed Answer wants_memory (λ (seen : BookSeen K). seen.events) (λ (seen : BookSeen K). keeper.faults seen.keeper) desk tended.passes.items book
-        → IsKept book.events → KeepsLedger (keeper.records book.keeper) book.events
-        → HasRun service keeper (record { book = start; doors = doors.items; feed = feed }) (record { book = book; doors = tended.doors.items; feed = tended.feed })
-        tended.feed_end tended.ledger_faults tended.door_faults tended.door_memory
-    has_run book closed kept ledger =
-        let all = ready_opened in
-        record {
-          steps = is.steps;
-          shifts = is.shifts;
-          fed = all.fed;
-          worked = all.shifts_are;
-          doors_before = is.doors_before;
-          doors_after = is.doors_after;
-          begins = subst (λ (s : BookSeen K). Begins s.events book.events) opened.start closed.begins;
-          kept = kept;
-          ledger = ledger;
-          good = subst (λ (l : List PoolCall). GoodPoolCalls book.events l) all.calls closed.good;
-          parted =
-              subst (λ (s : BookSeen K). Parted s.events book.events (keeper.faults s.keeper) (keeper.faults book.keeper) (all_calls is.steps is.shifts)) opened.start
-              (subst (λ (l : List PoolCall). Parted desk.start.events book.events (keeper.faults desk.start.keeper) (keeper.faults book.keeper) l) all.calls closed.parted);
-          rise = all.rise;
-          ledger_faults_are = is.ledger_faults_are;
-          door_faults_are = is.door_faults_are;
-          door_memory_is = is.door_memory_is;
-        }
+  has_run : (book : BookSeen) → HasClosed Answer wants_memory (λ (seen : BookSeen). seen.events) (λ (seen : BookSeen). seen.keeper.faults) desk tended.passes.items book
+      → IsKept book.events → KeepsLedger book.keeper.records book.events
+      → HasRun seeing.service (record { book = start; doors = map seeing.door doors.items; feed = seeing.link feed })
+      (record { book = book; doors = map seeing.door tended.doors.items; feed = seeing.link tended.feed })
+      tended.feed_end tended.ledger_faults tended.door_faults tended.door_memory
+  has_run book closed kept ledger =
+      let all = ready_opened in
+      record {
+        steps = is.steps;
+        shifts = is.shifts;
+        fed = all.fed;
+        worked = all.shifts_are;
+        doors_before = is.doors_before;
+        doors_after = is.doors_after;
+        begins = subst (λ (s : BookSeen). Begins s.events book.events) opened.start closed.begins;
+        kept = kept;
+        ledger = ledger;
+        good = subst (λ (l : List PoolCall). GoodPoolCalls book.events l) all.calls closed.good;
+        parted =
+            subst (λ (s : BookSeen). Parted s.events book.events s.keeper.faults book.keeper.faults (all_calls is.steps is.shifts)) opened.start
+            (subst (λ (l : List PoolCall). Parted desk.start.events book.events desk.start.keeper.faults book.keeper.faults l) all.calls closed.parted);
+        rise = all.rise;
+        ledger_faults_are = is.ledger_faults_are;
+        door_faults_are = is.door_faults_are;
+        door_memory_is = is.door_memory_is;
+      }
 
-    -- so the whole is as was said
-    pub has_served : (served : Served K D L) → IsFinished keeper desk tended served → HasServed service keeper start doors feed served
-    has_served (served.Ran book doors' feed' reason ledger_faults door_faults door_memory) finished =
-        rw (finished.3, finished.4, finished.5, finished.6, finished.7, finished.8) (has_run book finished.0 finished.1 finished.2)
-    has_served (served.Memory book doors' feed') finished = absurd finished
+  -- so the whole is as was said
+  pub has_served : (served : Served K D L) → IsFinished desk tended served → HasServed seeing start doors feed served
+  has_served (served.Ran book doors' feed' reason ledger_faults door_faults door_memory) finished =
+      rw (finished.3, finished.4, finished.5, finished.6, finished.7, finished.8) (has_run book finished.0 finished.1 finished.2)
+  has_served (served.Memory book doors' feed') finished = absurd finished
 
 abbrev fresh_of : TableId → List Event → List ℕ → List PoolPass
 fresh_of table start workers = fresh_passes table start workers
@@ -172,6 +172,6 @@ fresh_from table start first zero = refl
 fresh_from table start first (suc n) = let e = fresh_from table start (first + 1) n in omega (arith, e)
 
 -- so many passes were dealt
-pub passes_long : {K : Type 0} {desk : Opening (BookSeen K)} {start : BookSeen K} {passes : List PoolPass} {count : ℕ}
-    → HasJustOpened (λ (seen : BookSeen K). seen.events) start count desk passes → length passes ≡ count
+pub passes_long : {desk : Opening BookSeen} {start : BookSeen} {passes : List PoolPass} {count : ℕ}
+    → HasJustOpened (λ (seen : BookSeen). seen.events) start count desk passes → length passes ≡ count
 passes_long {desk = desk} {start = start} {count = count} opened = ap (λ (l : List PoolPass). length l) opened.passes_are ∙ fresh_from desk.table start.events 0 count

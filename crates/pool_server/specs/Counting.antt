@@ -1,9 +1,9 @@
 -- How calls and doors are counted that failed (this project's own).
 use Rattle.std.specs.Prelude.{ℕ, ◌+◌, ◌-◌, ◌^◌, min, Bool, true, false, if◌then◌else◌, List, [], ◌∷◌}
 use Rattle.pool_history.specs.Calls.{PoolCall, has_keeper_failed}
-use Rattle.door_worker.specs.declared.working.DoorEnd.{DoorEnd}
-use Rattle.door_worker.specs.declared.working.DoorEnd.TheVariants as end
-use Rattle.door_worker.specs.Shifts.{is_failed_end}
+use Rattle.session_workers.specs.declared.working.DoorEnd.{DoorEnd}
+use Rattle.session_workers.specs.declared.working.DoorEnd.TheVariants as end
+use Rattle.session_workers.specs.Shifts.{is_failed_end}
 
 -- a counter stands still at its type's end
 abbrev pub capped : ℕ → ℕ

@@ -1,8 +1,8 @@
 -- Parts of doors and passes, and doors and passes of parts (this project's own).
 use Rattle.std.specs.Prelude.{◌≡◌, ℕ, ◌+◌, None, Some, List, [], ◌∷◌, ◌++◌, map}
 use Rattle.session_steps.specs.declared.ends.SessionEnd.{SessionEnd}
-use Rattle.desk_worker.specs.Calling.{PoolPass}
-use Rattle.door_worker.specs.declared.working.DoorEnd.{DoorEnd}
+use Rattle.session_workers.specs.Calling.{PoolPass}
+use Rattle.session_workers.specs.declared.working.DoorEnd.{DoorEnd}
 use Rattle.pool_server.specs.declared.pairing.Tended.{Tended}
 use Rattle.pool_server.specs.declared.parts.ThreadPart.{ThreadPart}
 use Rattle.pool_server.specs.declared.parts.ThreadTask.{ThreadTask}

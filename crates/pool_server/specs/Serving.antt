@@ -1,36 +1,32 @@
 -- What is left when many sessions were served on one book (this project's own).
-use Rattle.std.specs.Prelude.{◌≡◌, ℕ, ◌+◌, Option, List, [], ◌∷◌, map}
+use Rattle.std.specs.Prelude.{◌≡◌, ℕ, ◌+◌, List, [], ◌∷◌, map}
 use Rattle.std.specs.List.{AllByRecursion}
 use Rattle.pool_base.specs.Lists.{Begins}
-use Rattle.calls.specs.Calls.{Parted, RiseFrom}
+use Rattle.pool_base.specs.Calls.{Parted, RiseFrom}
+use Rattle.pool_network.specs.Seen.{DoorSeen, LinkSeen}
 use Rattle.pool_history.specs.declared.events.Role.TheVariants as role
 use Rattle.pool_history.specs.Calls.{GoodPoolCalls, PoolCall}
 use Rattle.ledger_laws.specs.Keeping.{IsKept}
 use Rattle.share_ledger.specs.Books.{BookSeen, KeepsLedger}
 use Rattle.session_steps.specs.declared.ends.SessionEnd.{SessionEnd}
 use Rattle.session_steps.specs.Steps.{SessionStep, calls_in}
-use Rattle.link_session.specs.Visits.{IsVisit}
-use Rattle.door_worker.specs.Shifts.{IsShift, Shift, calls_at}
+use Rattle.session_workers.specs.Visits.{IsVisit}
+use Rattle.session_workers.specs.Shifts.{IsShift, Shift, calls_at}
 use Rattle.pool_server.specs.Counting.{capped, failed_in, faulted_in, starved_in}
 use Rattle.pool_server.specs.Parts.{Service, manner_of}
 use Rattle.pool_server.specs.Tending.{all_calls}
 
--- what a keeper tells, and how often it failed
-pub record KeeperTelling (K : Type 0) : Type 0 where
-  pub records : K → Option (List (List ℕ))
-  pub faults : K → ℕ
-
 -- a book, its doors and a feed's link, as they came and as they went
-pub record Hall (K D L : Type 0) : Type 0 where
-  pub book : BookSeen K
-  pub doors : List D
-  pub feed : L
+pub record Hall : Type 0 where
+  pub book : BookSeen
+  pub doors : List DoorSeen
+  pub feed : LinkSeen
 
 -- the shifts are those of this worker and the next ones, each at its door
-abbrev pub AreShifts : {D L : Type 0} → Service D L → ℕ → List (Shift D L) → Type 0
+abbrev pub AreShifts : Service → ℕ → List Shift → Type 0
 AreShifts service worker [] = Unit {0}
 AreShifts service worker (shift ∷ shifts) =
-    IsShift service.door (manner_of service role.Miner) worker service.door_turns shift
+    IsShift (manner_of service role.Miner) worker service.door_turns shift
     × AreShifts service (worker + 1) shifts
 
 -- the numbers of these calls rise
@@ -41,12 +37,11 @@ NumbersRise calls = (known : ℕ) × RiseFrom 0 calls known
 -- The history begins with the one that came, is legal and has records; the keeper's are its ledger,
 -- where it tells them. The calls of all these sessions are good, and are all that became of the
 -- history that came; the numbers of each worker's rise.
-pub record HasRun {K D L : Type 0} (service : Service D L) (keeper : KeeperTelling K)
-    (old new : Hall K D L) (reason : SessionEnd) (ledger_faults door_faults door_memory : ℕ) :
-    Type 0 where
+pub record HasRun (service : Service) (old new : Hall) (reason : SessionEnd)
+    (ledger_faults door_faults door_memory : ℕ) : Type 0 where
   pub steps : List SessionStep
-  pub shifts : List (Shift D L)
-  pub fed : IsVisit service.door.link (manner_of service role.Feed) 0 (record {
+  pub shifts : List Shift
+  pub fed : IsVisit (manner_of service role.Feed) 0 (record {
     before = old.feed;
     after = new.feed;
     steps = steps;
@@ -57,10 +52,10 @@ pub record HasRun {K D L : Type 0} (service : Service D L) (keeper : KeeperTelli
   pub doors_after : map (λ shift. shift.after) shifts ≡ new.doors
   pub begins : Begins old.book.events new.book.events
   pub kept : IsKept new.book.events
-  pub ledger : KeepsLedger (keeper.records new.book.keeper) new.book.events
+  pub ledger : KeepsLedger new.book.keeper.records new.book.events
   pub good : GoodPoolCalls new.book.events (all_calls steps shifts)
-  pub parted : Parted old.book.events new.book.events (keeper.faults old.book.keeper)
-      (keeper.faults new.book.keeper) (all_calls steps shifts)
+  pub parted : Parted old.book.events new.book.events old.book.keeper.faults
+      new.book.keeper.faults (all_calls steps shifts)
   pub rise : NumbersRise (calls_in steps)
       × AllByRecursion (λ shift. NumbersRise (calls_at shift.answers)) shifts
   pub ledger_faults_are : ledger_faults ≡ capped (faulted_in (all_calls steps shifts))

@@ -8,6 +8,5 @@ mod parts;
 mod running;
 mod serving;
 
-pub use door_worker::{DoorEnd, work};
-pub use link_session::serve_link;
 pub use serving::{Served, serve};
+pub use session_workers::{DoorEnd, serve_link, work};

@@ -2,16 +2,16 @@
 
 ghost use Rattle.std.specs.Prelude.{◌≡◌, ◌+◌, ◌≤◌, [], Some, vec_len};
 ghost use Rattle.std.specs.Vec.{vec_capacity};
-ghost use Rattle.door_worker.specs.Shifts.{is_failed_end};
+ghost use Rattle.session_workers.specs.Shifts.{is_failed_end};
 ghost use Rattle.pool_server.specs.declared.parts.ThreadTask.TheVariants as done;
 ghost use Rattle.pool_server.specs.Counting.{capped, count_if, is_starved_end};
 ghost use Rattle.pool_server.specs.Pairing.{HasDoneTasks, IsAskedTask, IsFedTask, IsPaired, IsUnpaired};
 
 use crate::parts::{ThreadPart, ThreadTask};
 use desk::Pass;
-use door_worker::DoorEnd;
 use pool_core::SessionEnd;
 use pool_io::Keeper;
+use session_workers::DoorEnd;
 use share_ledger::Book;
 
 /// What came back once all tasks were done.

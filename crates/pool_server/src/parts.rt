@@ -1,17 +1,16 @@
 //! What one thread has in hand, and its work.
 
 ghost use Rattle.std.specs.Prelude.{◌≡◌, ◌<◌};
-ghost use Rattle.door_worker.specs.Shifts.{telling_of};
-ghost use Rattle.pool_server.specs.Parts.{IsAttended, service_of};
+ghost use Rattle.pool_server.specs.Parts as manners;
+ghost use Rattle.pool_server.specs.Parts.{IsAttended, seeing_of, service_of};
 
 use desk::{Desk, Pass};
-use desk_worker::DeskWorker;
-use door_worker::{DoorEnd, work};
-use link_session::serve_link;
 use pool_core::SessionEnd;
-use pool_doors::Door;
 use pool_history::Role;
 use pool_io::{Keeper, Limits};
+use pool_network::Door;
+use session_steps::Manner;
+use session_workers::{DeskWorker, DoorEnd, serve_link, work};
 use share_ledger::Book;
 use std::alloc::Global;
 use std::sync::Wait;
@@ -40,8 +39,7 @@ pub(crate) fn attend<R: Wait, K: Keeper, D: Door>(
 )
     requires desk { part.old.pass.table ≡ desk.now.table }
     requires waits { (0 < limits.idle_turns) × (0 < limits.door_turns) }
-    ensures { IsAttended (service_of (telling_of D.coming D.out D.back D.faults D.asked D.L.left
-        D.L.held D.L.read_faults D.L.write_faults) rolling limits.idle_turns limits.door_turns)
+    ensures { IsAttended (seeing_of D.seen D.L.seen (service_of rolling limits))
         part.old part.new }
 {
     let ThreadPart { task, pass, faults } = part;
@@ -53,9 +51,13 @@ pub(crate) fn attend<R: Wait, K: Keeper, D: Door>(
     };
     match task {
         ThreadTask::Feed(link, end) => {
-            *end = Some(serve_link(alloc, &mut asker, link, Role::Feed, rolling, limits));
+            let manner = manner_of(Role::Feed, rolling, limits);
+            *end = Some(serve_link(alloc, &mut asker, link, manner));
         }
-        ThreadTask::Door(door, end) => *end = Some(work(alloc, &mut asker, door, rolling, limits)),
+        ThreadTask::Door(door, end) => {
+            let manner = manner_of(Role::Miner, rolling, limits);
+            *end = Some(work(alloc, &mut asker, door, manner, limits.door_turns));
+        }
     }
     let DeskWorker {
         rt: _,
@@ -64,4 +66,15 @@ pub(crate) fn attend<R: Wait, K: Keeper, D: Door>(
         faults: counted,
     } = asker;
     *faults = counted;
+}
+
+/// How this role's sessions are held.
+fn manner_of(role: Role, rolling: bool, limits: Limits) -> Manner
+    ensures { result ≡ manners.manner_of (service_of rolling limits) role }
+{
+    Manner {
+        role,
+        rolling,
+        idle_turns: limits.idle_turns,
+    }
 }

@@ -2,15 +2,14 @@
 
 ghost use Rattle.std.specs.Prelude.{◌≡◌, ◌<◌, ◌≤◌, ◌+◌, [], All, length, vec_len};
 ghost use Rattle.std.specs.Vec.{vec_capacity};
-ghost use Rattle.door_worker.specs.Shifts.{telling_of};
-ghost use Rattle.pool_server.specs.Parts.{AttendsByPlace, IsAttended, service_of};
+ghost use Rattle.pool_server.specs.Parts.{AttendsByPlace, IsAttended, seeing_of, service_of};
 ghost use Rattle.pool_server.specs.Tending.{IsTended};
 
 use crate::pairing::{Tended, pair, unpair};
 use crate::parts::{ThreadPart, attend};
 use desk::{Desk, Pass};
-use pool_doors::Door;
 use pool_io::{Keeper, Limits};
+use pool_network::Door;
 use share_ledger::Book;
 use std::alloc::Global;
 use std::sync::Wait;
@@ -31,8 +30,7 @@ where
     requires some { 0 < length parts.old }
     requires desk { All (λ part. part.pass.table ≡ desk.now.table) parts.old }
     requires waits { (0 < limits.idle_turns) × (0 < limits.door_turns) }
-    ensures { AttendsByPlace (service_of (telling_of D.coming D.out D.back D.faults D.asked D.L.left
-        D.L.held D.L.read_faults D.L.write_faults) rolling limits.idle_turns limits.door_turns)
+    ensures { AttendsByPlace (seeing_of D.seen D.L.seen (service_of rolling limits))
         parts.old parts.new }
 {
     let threads = parts.len();
@@ -43,8 +41,7 @@ where
         &|_place: usize, part: &mut ThreadPart<D, D::L, K>|
             requires { (part.now.pass.table ≡ desk.now.table)
                 × (0 < limits.idle_turns) × (0 < limits.door_turns) }
-            ensures { IsAttended (service_of (telling_of D.coming D.out D.back D.faults D.asked D.L.left
-                D.L.held D.L.read_faults D.L.write_faults) rolling limits.idle_turns limits.door_turns)
+            ensures { IsAttended (seeing_of D.seen D.L.seen (service_of rolling limits))
                 part.entry.now part.exit.now }
         { attend(rt, alloc, desk, rolling, limits, part) },
     );
@@ -70,8 +67,7 @@ where
     requires empty { parts.items ≡ [] }
     requires room { vec_len doors + 1 ≤ vec_capacity parts }
     requires waits { (0 < limits.idle_turns) × (0 < limits.door_turns) }
-    ensures { IsTended (service_of (telling_of D.coming D.out D.back D.faults D.asked D.L.left
-        D.L.held D.L.read_faults D.L.write_faults) rolling limits.idle_turns limits.door_turns)
+    ensures { IsTended (seeing_of D.seen D.L.seen (service_of rolling limits))
         doors.items feed passes.items result }
 {
     pair(&mut doors, &mut passes, feed, &mut parts);

@@ -2,16 +2,15 @@
 
 ghost use Rattle.std.specs.Prelude.{◌≡◌, ◌<◌, ◌-◌, ◌^◌, All, vec_len};
 ghost use Rattle.desk.specs.Closing.{HasEveryWorker};
-ghost use Rattle.door_worker.specs.Shifts.{telling_of};
 ghost use Rattle.pool_server.specs.Ending.{HasServed, IsFinished};
-ghost use Rattle.pool_server.specs.Parts.{service_of};
+ghost use Rattle.pool_server.specs.Parts.{seeing_of, service_of};
 
 use crate::pairing::Tended;
 use crate::running::run;
 use desk::Desk;
 use pool_core::SessionEnd;
-use pool_doors::Door;
 use pool_io::{Keeper, Limits};
+use pool_network::Door;
 use share_ledger::Book;
 use std::alloc::Global;
 use std::sync::Wait;
@@ -52,9 +51,8 @@ where
     D::L: Send,
     requires few { vec_len doors < 2 ^ 32 - 1 }
     requires waits { (0 < limits.idle_turns) × (0 < limits.door_turns) }
-    ensures { HasServed (service_of (telling_of D.coming D.out D.back D.faults D.asked D.L.left
-        D.L.held D.L.read_faults D.L.write_faults) rolling limits.idle_turns limits.door_turns)
-        (record { records = K.records; faults = K.faults }) book doors feed result }
+    ensures { HasServed (seeing_of D.seen D.L.seen (service_of rolling limits))
+        book doors feed result }
 {
     let Ok(parts) = Vec::with_capacity(alloc, doors.len() + 1) else {
         return Served::Memory(book, doors, feed);
@@ -78,7 +76,7 @@ where
 fn finish<K: Keeper, D: Door>(desk: Desk<Book<K>>, tended: Tended<D, D::L, K>) -> Served<K, D>
     requires desk { All (λ pass. pass.table ≡ desk.table) tended.passes.items }
     requires complete { HasEveryWorker desk.count tended.passes.items }
-    ensures { IsFinished (record { records = K.records; faults = K.faults }) desk tended result }
+    ensures { IsFinished desk tended result }
 {
     let Tended {
         doors,

@@ -4,11 +4,10 @@ ghost use Rattle.std.specs.Prelude.{◌≡◌, Option, List, ℕ, codes, map, st
 ghost use Rattle.serde_json.specs.View.{items_view, view};
 ghost use Rattle.pool_settings.specs.Reading.{IsAnswered, IsSaid, rules_in, script_at, short_text, texts_of, users_at, window_at, window_by};
 
-use crate::ranges::are_rules_in_range;
 use crate::settings::SettingsError;
 use crate::values::{flag_of, number_of};
 use hex::FromHexError;
-use pool_history::{Rules, Users};
+use pool_history::{Rules, Users, are_rules_in_range};
 use serde_json::Value;
 use std::alloc::Global;
 use sv2_types::{Blob, Str255};

@@ -4,8 +4,8 @@ use Rattle.std.specs.List.{AllByRecursion}
 use Rattle.std.proofs.lemmas.List.Elements.{All-from_recursion, recursion_from_All}
 use Rattle.std.proofs.lemmas.List.Sorted.{All-permutation}
 use Rattle.pool_base.specs.Counts.{Rose}
-use Rattle.calls.specs.Calls.{IsOutcome, Outcome, Replied, Faulted, PartsFrom}
-use Rattle.calls.proofs.Behind.{all-map}
+use Rattle.pool_base.specs.Calls.{IsOutcome, Outcome, Replied, Faulted, PartsFrom}
+use Rattle.pool_base.proofs.Behind.{all-map}
 use Rattle.pool_io.specs.Outside.{CountsFailure}
 use Rattle.pool_history.specs.declared.events.Event.{Event}
 use Rattle.pool_history.specs.declared.refusals.BookError.{BookError}
@@ -13,11 +13,11 @@ use Rattle.pool_history.specs.declared.refusals.BookError.TheVariants as fault
 use Rattle.pool_history.specs.declared.replies.Reply.{Reply}
 use Rattle.pool_history.specs.Answering.{Answer}
 use Rattle.pool_history.specs.Calls.{GoodPoolCalls, PoolCall, has_keeper_failed, wants_memory}
-use Rattle.door_worker.specs.Shifts.{Shift, is_failed_end}
+use Rattle.session_workers.specs.Shifts.{Shift, is_failed_end}
 use Rattle.session_steps.specs.declared.ends.SessionEnd.{SessionEnd}
 use Rattle.pool_server.specs.Counting.{count_if, failed_in, faulted_in}
 use Rattle.pool_server.specs.Parts.{Service}
-use Rattle.pool_server.specs.Serving.{AreShifts, Hall, HasRun, KeeperTelling}
+use Rattle.pool_server.specs.Serving.{AreShifts, Hall, HasRun}
 use Rattle.pool_server.specs.Tending.{all_calls}
 use Rattle.serve_command.specs.Serving.{SomeDoorFailed}
 
@@ -61,27 +61,27 @@ failed_or : {G : Type 0} (failed : Bool) (before now later : ℕ) → CountsFail
 failed_or true before now later counts rises more some = rises (omega (arith, counts))
 failed_or false before now later counts rises more some = more (omega (arith, some))
 
-some_failed : {D L : Type 0} (service : Service D L) (worker : ℕ) (shifts : List (Shift D L)) → AreShifts service worker shifts
-    → 0 < failed_in (map (λ (s : Shift D L). s.reason) shifts)
-    → SomeDoorFailed service.door.faults (map (λ (s : Shift D L). s.before) shifts) (map (λ (s : Shift D L). s.after) shifts)
+some_failed : (service : Service) (worker : ℕ) (shifts : List Shift) → AreShifts service worker shifts
+    → 0 < failed_in (map (λ (s : Shift). s.reason) shifts)
+    → SomeDoorFailed (map (λ (s : Shift). s.before) shifts) (map (λ (s : Shift). s.after) shifts)
 some_failed service worker [] are some = absurd (omega (arith, some))
-some_failed {D} {L} service worker (shift ∷ shifts) are some =
-    failed_or (is_failed_end shift.reason) (service.door.faults shift.before) (service.door.faults shift.after)
-    (failed_in (map (λ (s : Shift D L). s.reason) shifts)) are.0.counts (λ rose. inl rose) (λ more. inr (some_failed service (worker + 1) shifts are.1 more)) some
+some_failed service worker (shift ∷ shifts) are some =
+    failed_or (is_failed_end shift.reason) shift.before.faults shift.after.faults
+    (failed_in (map (λ (s : Shift). s.reason) shifts)) are.0.counts (λ rose. inl rose) (λ more. inr (some_failed service (worker + 1) shifts are.1 more)) some
 
 -- what `serve` counted
-module _ {K D L : Type 0} (service : Service D L) (keeper : KeeperTelling K) (old new : Hall K D L) (reason : SessionEnd)
-    (ledger_faults door_faults door_memory : ℕ) (ran : HasRun service keeper old new reason ledger_faults door_faults door_memory) where
-  pub keeper_failed : 0 < ledger_faults → Rose (keeper.faults old.book.keeper) (keeper.faults new.book.keeper)
+module _ (service : Service) (old new : Hall) (reason : SessionEnd)
+    (ledger_faults door_faults door_memory : ℕ) (ran : HasRun service old new reason ledger_faults door_faults door_memory) where
+  pub keeper_failed : 0 < ledger_faults → Rose old.book.keeper.faults new.book.keeper.faults
   keeper_failed some =
-      let P = λ (call : PoolCall). Rose call.faults_before call.faults_after → Rose (keeper.faults old.book.keeper) (keeper.faults new.book.keeper) in
+      let P = λ (call : PoolCall). Rose call.faults_before call.faults_after → Rose old.book.keeper.faults new.book.keeper.faults in
       let calls = all_calls ran.steps ran.shifts in
-      let within = rises_within old.book.events 0 (keeper.faults old.book.keeper) new.book.events (keeper.faults new.book.keeper) ran.parted.ordered ran.parted.parts in
+      let within = rises_within old.book.events 0 old.book.keeper.faults new.book.events new.book.keeper.faults ran.parted.ordered ran.parted.parts in
       let moved = recursion_from_All P calls (All-permutation P ran.parted.ordered calls ran.parted.same (All-from_recursion P ran.parted.ordered within)) in
-      some_faulted new.book.events (keeper.faults old.book.keeper) (keeper.faults new.book.keeper) calls ran.good moved (omega (arith, ran.ledger_faults_are, some))
+      some_faulted new.book.events old.book.keeper.faults new.book.keeper.faults calls ran.good moved (omega (arith, ran.ledger_faults_are, some))
 
-  pub doors_failed : 0 < door_faults → SomeDoorFailed service.door.faults old.doors new.doors
+  pub doors_failed : 0 < door_faults → SomeDoorFailed old.doors new.doors
   doors_failed some =
-      subst (λ olds. SomeDoorFailed service.door.faults olds new.doors) ran.doors_before
-      (subst (λ news. SomeDoorFailed service.door.faults (map (λ (s : Shift D L). s.before) ran.shifts) news) ran.doors_after
+      subst (λ olds. SomeDoorFailed olds new.doors) ran.doors_before
+      (subst (λ news. SomeDoorFailed (map (λ (s : Shift). s.before) ran.shifts) news) ran.doors_after
       (some_failed service 1 ran.shifts ran.worked (omega (arith, ran.door_faults_are, some))))

@@ -2,12 +2,13 @@
 use Rattle.std.proofs.Common.{◌≡◌, ℕ, List, [], ◌∷◌, Option, Err, length, refl, sym, ap, subst, ◌∙◌, arith}
 use Rattle.pool_io.specs.declared.host.HostError.{HostError}
 use Rattle.pool_io.specs.declared.host.HostError.TheVariants as host
+use Rattle.pool_io.specs.Hosts.{CameBack}
 use Rattle.pool_io.specs.Lending.{Lending, lent_one, with_back}
 use Rattle.pool_io.specs.Outside.{CountsFailure, is_failed_gift}
-use Rattle.pool_turns.specs.Rows.{CameBack}
 use Rattle.pool_network.specs.declared.network.Reaching.{Reaching}
 use Rattle.pool_network.specs.declared.network.Reaching.TheVariants as reaching
-use Rattle.pool_network.specs.Networks.{GivesNext, NetworkView, calls_after, reaching_and}
+use Rattle.pool_network.specs.Networks.{GivesNext, NetworkSeen, calls_after, reaching_and}
+use Rattle.pool_network.specs.Seen.{DoorSeen, LinkSeen}
 use Rattle.serve_command.specs.Serving.{GivesBoth, HasNoDoors, Places, call_for_doors}
 
 -- what was given comes back behind the others, and as many are out as before
@@ -29,15 +30,15 @@ counts_refused A host.Failed before now counts = counts
 counts_refused A host.Memory before now counts = counts
 
 -- a link was given
-pub record GivesLink {D L : Type 0} (places : Places) (old new : NetworkView L D) (link : L) : Type 0 where
+pub record GivesLink (places : Places) (old new : NetworkSeen) (link : LinkSeen) : Type 0 where
   pub given : GivesNext old.to_dial new.to_dial (link ∷ [])
   pub lent : new.links ≡ lent_one old.links
   pub stays : new ≡ record old { calls = new.calls; to_dial = new.to_dial; links = new.links }
   pub called : new.calls ≡ reaching_and old.calls (reaching.Dial places.feed)
 
-module _ {D L : Type 0} (places : Places) (old dialled : NetworkView L D) (link : L) (dials : GivesLink places old dialled link) where
+module _ (places : Places) (old dialled : NetworkSeen) (link : LinkSeen) (dials : GivesLink places old dialled link) where
   -- and then no doors
-  pub has_no_doors : (A : Type 0) (asked new : NetworkView L D) (error : HostError)
+  pub has_no_doors : (A : Type 0) (asked new : NetworkSeen) (error : HostError)
       → asked ≡ record dialled { faults = asked.faults; calls = asked.calls }
       → CountsFailure (is_failed_gift {A = A} (Err error)) dialled.faults asked.faults
       → asked.calls ≡ calls_after {A = A} (call_for_doors places) (Err error) dialled.calls
@@ -45,18 +46,18 @@ module _ {D L : Type 0} (places : Places) (old dialled : NetworkView L D) (link 
       → HasNoDoors places old new error
   has_no_doors A asked new error refused counts called back =
       let to_open : new.to_open ≡ old.to_open =
-      ap (λ (v : NetworkView L D). v.to_open) back ∙ ap (λ (v : NetworkView L D). v.to_open) refused
-      ∙ ap (λ (v : NetworkView L D). v.to_open) dials.stays in
+      ap (λ (v : NetworkSeen). v.to_open) back ∙ ap (λ (v : NetworkSeen). v.to_open) refused
+      ∙ ap (λ (v : NetworkSeen). v.to_open) dials.stays in
       let doors : new.doors ≡ old.doors =
-      ap (λ (v : NetworkView L D). v.doors) back ∙ ap (λ (v : NetworkView L D). v.doors) refused
-      ∙ ap (λ (v : NetworkView L D). v.doors) dials.stays in
+      ap (λ (v : NetworkSeen). v.doors) back ∙ ap (λ (v : NetworkSeen). v.doors) refused
+      ∙ ap (λ (v : NetworkSeen). v.doors) dials.stays in
       let links : new.links ≡ with_back (lent_one old.links) link =
-      ap (λ (v : NetworkView L D). v.links) back
-      ∙ ap (λ (l : Lending L). with_back l link) (ap (λ (v : NetworkView L D). v.links) refused ∙ dials.lent) in
+      ap (λ (v : NetworkSeen). v.links) back
+      ∙ ap (λ (l : Lending LinkSeen). with_back l link) (ap (λ (v : NetworkSeen). v.links) refused ∙ dials.lent) in
       let to_dial : new.to_dial ≡ dialled.to_dial =
-      ap (λ (v : NetworkView L D). v.to_dial) back ∙ ap (λ (v : NetworkView L D). v.to_dial) refused in
-      let faults : new.faults ≡ asked.faults = ap (λ (v : NetworkView L D). v.faults) back in
-      let before : dialled.faults ≡ old.faults = ap (λ (v : NetworkView L D). v.faults) dials.stays in
+      ap (λ (v : NetworkSeen). v.to_dial) back ∙ ap (λ (v : NetworkSeen). v.to_dial) refused in
+      let faults : new.faults ≡ asked.faults = ap (λ (v : NetworkSeen). v.faults) back in
+      let before : dialled.faults ≡ old.faults = ap (λ (v : NetworkSeen). v.faults) dials.stays in
       record {
         link = link;
         dialled = subst (λ left. GivesNext old.to_dial left (link ∷ [])) (sym to_dial) dials.given;
@@ -70,7 +71,7 @@ module _ {D L : Type 0} (places : Places) (old dialled : NetworkView L D) (link 
           doors = doors i;
         };
         calls =
-            ap (λ (v : NetworkView L D). v.calls) back ∙ called ∙ calls_refused A (call_for_doors places) error dialled.calls
+            ap (λ (v : NetworkSeen). v.calls) back ∙ called ∙ calls_refused A (call_for_doors places) error dialled.calls
             ∙ ap (λ calls. calls_after {A = Unit {0}} (call_for_doors places) (Err error) calls) dials.called;
         counts =
             subst (λ n. CountsFailure (is_failed_gift {A = Unit {0}} (Err error)) n new.faults) before
@@ -79,7 +80,7 @@ module _ {D L : Type 0} (places : Places) (old dialled : NetworkView L D) (link 
       }
 
   -- and then doors, and both came back
-  pub gives_both : (opened shut new : NetworkView L D) (link_back : L) (doors doors_back : List D)
+  pub gives_both : (opened shut new : NetworkSeen) (link_back : LinkSeen) (doors doors_back : List DoorSeen)
       → GivesNext dialled.to_open opened.to_open doors → length doors ≡ places.workers
       → opened.doors ≡ lent_one dialled.doors
       → opened ≡ record dialled { calls = opened.calls; to_open = opened.to_open; doors = opened.doors }
@@ -89,30 +90,30 @@ module _ {D L : Type 0} (places : Places) (old dialled : NetworkView L D) (link 
       → GivesBoth places old new link link_back doors doors_back
   gives_both opened shut new link_back doors doors_back given as_many lent stays called shuts back =
       let to_dial : new.to_dial ≡ dialled.to_dial =
-      ap (λ (v : NetworkView L D). v.to_dial) back ∙ ap (λ (v : NetworkView L D). v.to_dial) shuts
-      ∙ ap (λ (v : NetworkView L D). v.to_dial) stays in
+      ap (λ (v : NetworkSeen). v.to_dial) back ∙ ap (λ (v : NetworkSeen). v.to_dial) shuts
+      ∙ ap (λ (v : NetworkSeen). v.to_dial) stays in
       let to_open : new.to_open ≡ opened.to_open =
-      ap (λ (v : NetworkView L D). v.to_open) back ∙ ap (λ (v : NetworkView L D). v.to_open) shuts in
+      ap (λ (v : NetworkSeen). v.to_open) back ∙ ap (λ (v : NetworkSeen). v.to_open) shuts in
       let links : new.links ≡ with_back (lent_one old.links) link_back =
-      ap (λ (v : NetworkView L D). v.links) back
-      ∙ ap (λ (l : Lending L). with_back l link_back)
-      (ap (λ (v : NetworkView L D). v.links) shuts ∙ ap (λ (v : NetworkView L D). v.links) stays ∙ dials.lent) in
+      ap (λ (v : NetworkSeen). v.links) back
+      ∙ ap (λ (l : Lending LinkSeen). with_back l link_back)
+      (ap (λ (v : NetworkSeen). v.links) shuts ∙ ap (λ (v : NetworkSeen). v.links) stays ∙ dials.lent) in
       let lists : new.doors ≡ with_back (lent_one old.doors) doors_back =
-      ap (λ (v : NetworkView L D). v.doors) back ∙ ap (λ (v : NetworkView L D). v.doors) shuts
-      ∙ ap (λ (l : Lending (List D)). with_back l doors_back)
-      (lent ∙ ap (λ (l : Lending (List D)). lent_one l) (ap (λ (v : NetworkView L D). v.doors) dials.stays)) in
+      ap (λ (v : NetworkSeen). v.doors) back ∙ ap (λ (v : NetworkSeen). v.doors) shuts
+      ∙ ap (λ (l : Lending (List DoorSeen)). with_back l doors_back)
+      (lent ∙ ap (λ (l : Lending (List DoorSeen)). lent_one l) (ap (λ (v : NetworkSeen). v.doors) dials.stays)) in
       record {
         dialled = subst (λ left. GivesNext old.to_dial left (link ∷ [])) (sym to_dial) dials.given;
         opened =
-            subst (λ told. GivesNext told new.to_open doors) (ap (λ (v : NetworkView L D). v.to_open) dials.stays)
+            subst (λ told. GivesNext told new.to_open doors) (ap (λ (v : NetworkSeen). v.to_open) dials.stays)
             (subst (λ left. GivesNext dialled.to_open left doors) (sym to_open) given);
         as_many = as_many;
         links = came_back old.links new.links link_back links;
         lists = came_back old.doors new.doors doors_back lists;
         faults =
-            ap (λ (v : NetworkView L D). v.faults) back ∙ ap (λ (v : NetworkView L D). v.faults) shuts
-            ∙ ap (λ (v : NetworkView L D). v.faults) stays ∙ ap (λ (v : NetworkView L D). v.faults) dials.stays;
+            ap (λ (v : NetworkSeen). v.faults) back ∙ ap (λ (v : NetworkSeen). v.faults) shuts
+            ∙ ap (λ (v : NetworkSeen). v.faults) stays ∙ ap (λ (v : NetworkSeen). v.faults) dials.stays;
         calls =
-            ap (λ (v : NetworkView L D). v.calls) back ∙ ap (λ (v : NetworkView L D). v.calls) shuts ∙ called
+            ap (λ (v : NetworkSeen). v.calls) back ∙ ap (λ (v : NetworkSeen). v.calls) shuts ∙ called
             ∙ ap (λ calls. reaching_and calls (call_for_doors places)) dials.called;
       }

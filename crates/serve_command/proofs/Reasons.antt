@@ -6,36 +6,30 @@ use Rattle.pool_base.specs.Counts.{Rose}
 use Rattle.pool_io.specs.declared.host.HostError.{HostError}
 use Rattle.pool_io.specs.declared.host.HostError.TheVariants as host
 use Rattle.pool_io.specs.declared.turn.Turn.{Turn}
+use Rattle.pool_io.specs.Hosts.{CameBack, HostSeen, IsKeeperGiven, IsRefusedKeeper, StreamsSeen}
 use Rattle.pool_io.specs.Lending.{Lending, with_back}
 use Rattle.pool_io.specs.Openings.{Openings}
 use Rattle.pool_io.specs.Outside.{CountsFailure, is_failed_gift}
-use Rattle.pool_io.specs.Seen.{Seen}
+use Rattle.pool_io.specs.Seen.{KeeperSeen}
 use Rattle.pool_io.specs.Steps.{bytes_in, steps_of}
 use Rattle.pool_history.specs.declared.refusals.BookError.{BookError}
 use Rattle.pool_history.specs.declared.refusals.BookError.TheVariants as fault
 use Rattle.pool_history.specs.Calls.{blames_keeper}
 use Rattle.pool_settings.specs.declared.settings.Settings.{Settings}
 use Rattle.pool_settings.specs.Reading.{AreSettings}
-use Rattle.pool_turns.specs.Rows.{CameBack}
-use Rattle.pool_turns.specs.Statuses.{status_of_refusal}
-use Rattle.pool_turns.specs.declared.status.Status.{Status}
-use Rattle.pool_turns.specs.declared.status.Status.TheVariants as status
-use Rattle.settings_file.specs.Opened.{AnswersBytes, AnswersFile, OpensSettings, ReadsSettings, status_of_no_settings}
-use Rattle.settings_file.specs.Views.{HostView}
-use Rattle.settings_file.specs.declared.opening.NoSettings.{NoSettings}
-use Rattle.settings_file.specs.declared.opening.NoSettings.TheVariants as no_settings
+use Rattle.stream_commands.specs.Statuses.{status_of_refusal}
+use Rattle.stream_commands.specs.declared.status.Status.{Status}
+use Rattle.stream_commands.specs.declared.status.Status.TheVariants as status
+use Rattle.pool_settings.specs.Opened.{AnswersBytes, AnswersFile, OpensSettings, ReadsSettings, status_of_no_settings}
+use Rattle.pool_settings.specs.declared.opening.NoSettings.{NoSettings}
+use Rattle.pool_settings.specs.declared.opening.NoSettings.TheVariants as no_settings
 use Rattle.share_ledger.specs.Books.{BookSeen}
-use Rattle.solo_command.specs.Row.{IsKeeperGiven, IsRefusedKeeper}
-use Rattle.solo_session.specs.Solo.{Accounts}
-use Rattle.text_output.specs.Putting.{PutsText}
-use Rattle.whole_input.specs.Reading.{IsOutside, is_read_fault}
-use Rattle.whole_input.specs.declared.reading.Unread.{Unread}
-use Rattle.whole_input.specs.declared.reading.Unread.TheVariants as unread
-use Rattle.door_worker.specs.Shifts.{DoorTelling}
-use Rattle.serve_command.specs.declared.serving.Reached.{Reached}
-use Rattle.serve_command.specs.declared.serving.Reached.TheVariants as reached
-use Rattle.serve_command.specs.Row.{BringsSettings, FinishesServing, GivesKeeperBack, HasFailure, HasNoOutput, HasNoStart, HasReason, PrintedOnHost, PrintsReport, ServeRow, ServesAfterSettings, ServesByNames, ServesOnBook, ServesWithKeeper, WorldView, keeper_of, places_by, service_by}
-use Rattle.serve_command.specs.Serving.{IsUnserved, ServesOnNetwork}
+use Rattle.stream_commands.specs.Texts.{PutsText}
+use Rattle.stream_commands.specs.Reading.{IsOutside, is_read_fault}
+use Rattle.stream_commands.specs.declared.reading.Unread.{Unread}
+use Rattle.stream_commands.specs.declared.reading.Unread.TheVariants as unread
+use Rattle.serve_command.specs.Row.{BringsSettings, FinishesServing, GivesKeeperBack, HasFailure, HasNoOutput, HasNoStart, HasReason, PrintedOnHost, PrintsReport, ServeRow, ServesAfterSettings, ServesByNames, ServesOnBook, ServesWithKeeper, WorldSeen, places_by, service_by}
+use Rattle.serve_command.specs.Serving.{IsUnserved, ReachedSeen, Served, ServesOnNetwork, Unserved}
 use Rattle.serve_command.specs.Statuses.{status_by_faults, status_of_served, status_of_start}
 use Rattle.serve_command.specs.Words.{report_text}
 use Rattle.serve_command.proofs.Given.{came_back}
@@ -68,84 +62,84 @@ module _ (P : Status → Type 0) (ledger_faults door_faults door_memory : ℕ) (
   by_printed status.Limit prints = by_counts status.Limit prints
 
 -- from the moment when there were settings
-module _ {S T K D L : Type 0} (told : Accounts S T K) (telling : DoorTelling D L) (old new : WorldView S T K L D) where
-  host_refused : (error : HostError) → CountsFailure (is_failed_gift {A = Unit {0}} (Err error)) old.host.seen.faults new.host.seen.faults
-      → HasFailure told telling old new (status_of_refusal error)
+module _ (old new : WorldSeen) where
+  host_refused : (error : HostError) → CountsFailure (is_failed_gift {A = Unit {0}} (Err error)) old.host.streams.faults new.host.streams.faults
+      → HasFailure old new (status_of_refusal error)
   host_refused host.Failed counts = inl (omega (arith, counts))
   host_refused host.Memory counts = tt
 
   network_refused : (error : HostError) → CountsFailure (is_failed_gift {A = Unit {0}} (Err error)) old.network.faults new.network.faults
-      → HasFailure told telling old new (status_of_refusal error)
+      → HasFailure old new (status_of_refusal error)
   network_refused host.Failed counts = inr (inl (omega (arith, counts)))
   network_refused host.Memory counts = tt
 
   unserved : (settings : Settings) (error : HostError) → IsUnserved (places_by settings) old.network new.network error
-      → HasFailure told telling old new (status_of_refusal error)
+      → HasFailure old new (status_of_refusal error)
   unserved settings error (inl none) = network_refused error none.counts
   unserved settings error (inr (inl none)) = network_refused error none.counts
-  unserved settings error (inr (inr none)) = subst (λ e. HasFailure told telling old new (status_of_refusal e)) (sym none.error_is) tt
+  unserved settings error (inr (inr none)) = subst (λ e. HasFailure old new (status_of_refusal e)) (sym none.error_is) tt
 
   -- with a keeper that the host gave
-  module _ (ledger : List ℕ) (given : HostView S T K) (keeper : K) (out : IsKeeperGiven told ledger old.host given keeper) where
-    kept : (middle : HostView S T K) (back : K) → middle.openings.keepers ≡ given.openings.keepers → GivesKeeperBack middle new.host back
-        → 0 < told.keeper_faults back → HasFailure told telling old new status.KeeperFault
+  module _ (ledger : List ℕ) (given : HostSeen) (keeper : KeeperSeen) (out : IsKeeperGiven ledger old.host given keeper) where
+    kept : (middle : HostSeen) (back : KeeperSeen) → middle.openings.keepers ≡ given.openings.keepers → GivesKeeperBack middle new.host back
+        → 0 < back.faults → HasFailure old new status.KeeperFault
     kept middle back same gives some = (
       back,
       came_back old.host.openings.keepers new.host.openings.keepers back
-          (ap (λ (o : Openings K). o.keepers) gives.openings
-          ∙ ap (λ (l : Lending K). with_back l back) (same ∙ ap (λ (o : Openings K). o.keepers) out.openings)),
+          (ap (λ (o : Openings). o.keepers) gives.openings
+          ∙ ap (λ (l : Lending KeeperSeen). with_back l back) (same ∙ ap (λ (o : Openings). o.keepers) out.openings)),
       some,
     )
 
-    unstarted : (cause : BookError) (back : K) → CountsFailure (blames_keeper cause) (told.keeper_faults keeper) (told.keeper_faults back)
-        → GivesKeeperBack given new.host back → HasFailure told telling old new (status_of_start cause)
+    unstarted : (cause : BookError) (back : KeeperSeen) → CountsFailure (blames_keeper cause) keeper.faults back.faults
+        → GivesKeeperBack given new.host back → HasFailure old new (status_of_start cause)
     unstarted fault.KeeperFault back counts gives = kept given back refl gives (omega (arith, counts, out.unfailed))
     unstarted fault.Memory back counts gives = tt
 
-    unprinted : (middle : HostView S T K) (error : HostError) → HasNoOutput given middle error → new.host.seen ≡ middle.seen
-        → HasFailure told telling old new (status_of_refusal error)
+    unprinted : (middle : HostSeen) (error : HostError) → HasNoOutput given middle error → new.host.streams ≡ middle.streams
+        → HasFailure old new (status_of_refusal error)
     unprinted middle error none same =
         host_refused error
-        (subst (λ n. CountsFailure (is_failed_gift {A = Unit {0}} (Err error)) n new.host.seen.faults) (ap (λ (s : Seen S T). s.faults) out.seen)
-        (subst (λ n. CountsFailure (is_failed_gift {A = Unit {0}} (Err error)) given.seen.faults n) (ap (λ (s : Seen S T). s.faults) (sym same)) none.counts))
+        (subst (λ n. CountsFailure (is_failed_gift {A = Unit {0}} (Err error)) n new.host.streams.faults) (ap (λ (s : StreamsSeen). s.faults) out.streams)
+        (subst (λ n. CountsFailure (is_failed_gift {A = Unit {0}} (Err error)) given.streams.faults n) (ap (λ (s : StreamsSeen). s.faults) (sym same)) none.counts))
 
-    printed_by : (text : List ℕ) (middle : HostView S T K) (printed : Status) (prints : PrintedOnHost told text given middle printed) → new.host.seen ≡ middle.seen
-        → PutsText told.held told.write_faults prints.sink prints.put text status.Done printed → HasFailure told telling old new printed
-    printed_by text middle printed prints same (inl done) = subst (HasFailure told telling old new) (sym done.0) tt
+    printed_by : (text : List ℕ) (middle : HostSeen) (printed : Status) (prints : PrintedOnHost text given middle printed) → new.host.streams ≡ middle.streams
+        → PutsText (record { faults = 0; held = given.streams.output }) prints.put text status.Done printed → HasFailure old new printed
+    printed_by text middle printed prints same (inl done) = subst (HasFailure old new) (sym done.0) tt
     printed_by text middle printed prints same (inr front) = elim front.cause [
-      | inl failed ↦ subst (HasFailure told telling old new) (sym failed.0) (
+      | inl failed ↦ subst (HasFailure old new) (sym failed.0) (
         prints.put,
-        subst (λ sinks. CameBack old.host.seen.sinks sinks prints.put) (ap (λ (s : Seen S T). s.sinks) (sym same))
-            (subst (λ sinks. CameBack sinks middle.seen.sinks prints.put) (ap (λ (s : Seen S T). s.sinks) out.seen) prints.sinks),
-        omega (arith, failed.1, prints.unwritten),
+        subst (λ sinks. CameBack old.host.streams.sinks sinks prints.put) (ap (λ (s : StreamsSeen). s.sinks) (sym same))
+            (subst (λ sinks. CameBack sinks middle.streams.sinks prints.put) (ap (λ (s : StreamsSeen). s.sinks) out.streams) prints.sinks),
+        omega (arith, failed.1),
       )
-      | inr memory ↦ subst (HasFailure told telling old new) (sym memory.0) tt
+      | inr memory ↦ subst (HasFailure old new) (sym memory.0) tt
     ]
 
-    printed_or : (text : List ℕ) (middle : HostView S T K) (printed : Status) → PrintsReport told text given middle printed → new.host.seen ≡ middle.seen
-        → HasFailure told telling old new printed
+    printed_or : (text : List ℕ) (middle : HostSeen) (printed : Status) → PrintsReport text given middle printed → new.host.streams ≡ middle.streams
+        → HasFailure old new printed
     printed_or text middle printed (inl prints) same = printed_by text middle printed prints same prints.puts
     printed_or text middle printed (inr none) same =
-        subst (HasFailure told telling old new) (sym none.1) (unprinted middle none.0 none.2 same)
+        subst (HasFailure old new) (sym none.1) (unprinted middle none.0 none.2 same)
 
-    no_output : (middle : HostView S T K) (error : HostError) → HasNoOutput given middle error → middle.openings.keepers ≡ given.openings.keepers
-    no_output middle host.Failed none = ap (λ (o : Openings K). o.keepers) none.openings
-    no_output middle host.Memory none = ap (λ (o : Openings K). o.keepers) none.openings
+    no_output : (middle : HostSeen) (error : HostError) → HasNoOutput given middle error → middle.openings.keepers ≡ given.openings.keepers
+    no_output middle host.Failed none = ap (λ (o : Openings). o.keepers) none.openings
+    no_output middle host.Memory none = ap (λ (o : Openings). o.keepers) none.openings
 
-    still_out : (text : List ℕ) (middle : HostView S T K) (printed : Status) → PrintsReport told text given middle printed
+    still_out : (text : List ℕ) (middle : HostSeen) (printed : Status) → PrintsReport text given middle printed
         → middle.openings.keepers ≡ given.openings.keepers
-    still_out text middle printed (inl prints) = ap (λ (o : Openings K). o.keepers) prints.openings
+    still_out text middle printed (inl prints) = ap (λ (o : Openings). o.keepers) prints.openings
     still_out text middle printed (inr none) = no_output middle none.0 none.2
 
-    served_by : (settings : Settings) (answer : Status) (begun : BookSeen K) (r : Reached K)
-        → ServesOnNetwork (service_by telling settings) (keeper_of told) (places_by settings) old.network new.network begun r
-        → FinishesServing told given new.host r answer → HasFailure told telling old new answer
-    served_by settings answer begun (reached.Ran ended reason ledger_faults door_faults door_memory) serves finishes =
+    served_by : (settings : Settings) (answer : Status) (begun : BookSeen) (r : ReachedSeen)
+        → ServesOnNetwork (service_by settings) (places_by settings) old.network new.network begun r
+        → FinishesServing given new.host r answer → HasFailure old new answer
+    served_by settings answer begun (Served ended reason ledger_faults door_faults door_memory) serves finishes =
         let printed = finishes.0 in
         let reported = finishes.2 in
-        subst (HasFailure told telling old new) (sym finishes.1)
-        (by_printed (HasFailure told telling old new) ledger_faults door_faults door_memory tt
-        (λ some. (let rose : Rose (told.keeper_faults begun.keeper) (told.keeper_faults ended.keeper) = serves.keeper_failed some in
+        subst (HasFailure old new) (sym finishes.1)
+        (by_printed (HasFailure old new) ledger_faults door_faults door_memory tt
+        (λ some. (let rose : Rose begun.keeper.faults ended.keeper.faults = serves.keeper_failed some in
         kept reported.middle ended.keeper (still_out (report_text reason ended.events) reported.middle printed reported.prints) reported.back (omega (arith, rose))))
         (λ some. inr (inr (record {
           doors = serves.doors;
@@ -153,21 +147,21 @@ module _ {S T K D L : Type 0} (told : Accounts S T K) (telling : DoorTelling D L
           opened = serves.gives.opened;
           lists = serves.gives.lists;
           failed = serves.doors_failed some;
-        }))) printed (printed_or (report_text reason ended.events) reported.middle printed reported.prints reported.back.seen))
-    served_by settings answer begun (reached.Unserved ended error) serves finishes =
-        subst (HasFailure told telling old new) (sym finishes.0) (unserved settings error serves.1)
+        }))) printed (printed_or (report_text reason ended.events) reported.middle printed reported.prints reported.back.streams))
+    served_by settings answer begun (Unserved ended error) serves finishes =
+        subst (HasFailure old new) (sym finishes.0) (unserved settings error serves.1)
 
     on_book : (settings : Settings) (answer : Status)
-        → ServesOnBook told telling settings keeper (record { host = given; network = old.network }) new answer → HasFailure told telling old new answer
+        → ServesOnBook settings keeper (record { host = given; network = old.network }) new answer → HasFailure old new answer
     on_book settings answer (inl served) = served_by settings answer served.begun served.reached served.serves served.finishes
     on_book settings answer (inr none) =
-        subst (HasFailure told telling old new) (sym none.answered) (unstarted none.cause none.keeper_back none.counts none.back)
+        subst (HasFailure old new) (sym none.answered) (unstarted none.cause none.keeper_back none.counts none.back)
 
-  with_keeper : (settings : Settings) (ledger : List ℕ) (answer : Status) → ServesWithKeeper told telling settings ledger old new answer
-      → HasFailure told telling old new answer
+  with_keeper : (settings : Settings) (ledger : List ℕ) (answer : Status) → ServesWithKeeper settings ledger old new answer
+      → HasFailure old new answer
   with_keeper settings ledger answer (inl serves) = on_book ledger serves.1 serves.0 serves.2 settings answer serves.3
   with_keeper settings ledger answer (inr none) =
-      subst (HasFailure told telling old new) (sym none.1) (host_refused none.0 none.2.counts)
+      subst (HasFailure old new) (sym none.1) (host_refused none.0 none.2.counts)
 
 -- a file that brings settings has no other answer than these, but for a fault or want of memory
 not_outside : (none : NoSettings) → (none ≡ no_settings.ReadFault → ⊥) → (none ≡ no_settings.Memory → ⊥) → (read : Result (List ℕ) Unread) → IsOutside read
@@ -185,8 +179,8 @@ read_failed (Err unread.IdleOut) count answers counts = cc
 read_failed (Err unread.ReadFault) count answers counts = omega (arith, counts)
 read_failed (Err unread.Memory) count answers counts = cc
 
-module _ {S T K D L : Type 0} (told : Accounts S T K) (telling : DoorTelling D L) (name : List ℕ) (old : WorldView S T K L D) where
-  no_settings_file : (read : HostView S T K) (none : NoSettings) → ReadsSettings told.left told.read_faults name old.host read (Err none)
+module _ (name : List ℕ) (old : WorldSeen) where
+  no_settings_file : (read : HostSeen) (none : NoSettings) → ReadsSettings name old.host read (Err none)
       → (none ≡ no_settings.ReadFault → ⊥) → (none ≡ no_settings.Memory → ⊥)
       → ((bytes : List ℕ) (settings : Settings) → AreSettings bytes settings → AnswersBytes bytes (Err none) → ⊥)
       → BringsSettings (old.host.openings.brings name) → ⊥
@@ -199,28 +193,28 @@ module _ {S T K D L : Type 0} (told : Accounts S T K) (telling : DoorTelling D L
     ]
 
   -- no settings were found
-  without : (read : HostView S T K) (none : NoSettings) → OpensSettings told.left told.read_faults name old.host read (Err none)
-      → HasReason told telling name old (record { host = read; network = old.network }) (status_of_no_settings none)
+  without : (read : HostSeen) (none : NoSettings) → OpensSettings name old.host read (Err none)
+      → HasReason name old (record { host = read; network = old.network }) (status_of_no_settings none)
   without read (no_settings.Host host.Failed) opens = inl (omega (arith, opens.counts))
   without read (no_settings.Host host.Memory) opens = tt
   without read no_settings.Bad opens =
       no_settings_file read no_settings.Bad opens (λ is. cc) (λ is. cc) (λ bytes settings are answers. answers settings are)
   without read no_settings.IdleOut opens = no_settings_file read no_settings.IdleOut opens (λ is. cc) (λ is. cc) (λ bytes settings are answers. answers)
   without read no_settings.ReadFault opens =
-      (opens.source, opens.back, read_failed opens.read (told.read_faults opens.source) opens.answers opens.counts)
+      (opens.source, opens.back, read_failed opens.read opens.source.faults opens.answers opens.counts)
   without read no_settings.Memory opens = tt
 
   -- with settings, what failed behind their reading is what failed
-  behind : (read : HostView S T K) (settings : Settings) → ReadsSettings told.left told.read_faults name old.host read (Ok settings) → (new : WorldView S T K L D)
-      (answer : Status) → HasFailure told telling (record { host = read; network = old.network }) new answer → HasReason told telling name old new answer
+  behind : (read : HostSeen) (settings : Settings) → ReadsSettings name old.host read (Ok settings) → (new : WorldSeen)
+      (answer : Status) → HasFailure (record { host = read; network = old.network }) new answer → HasReason name old new answer
   behind read settings reads new status.Done failed = tt
   behind read settings reads new status.Memory failed = tt
   behind read settings reads new status.WriteFault failed =
-      (failed.0, subst (λ sinks. CameBack sinks new.host.seen.sinks failed.0) (ap (λ (s : Seen S T). s.sinks) reads.seen) failed.1, failed.2)
+      (failed.0, subst (λ sinks. CameBack sinks new.host.streams.sinks failed.0) (ap (λ (s : StreamsSeen). s.sinks) reads.streams) failed.1, failed.2)
   behind read settings reads new status.KeeperFault failed =
-      (failed.0, subst (λ keepers. CameBack keepers new.host.openings.keepers failed.0) (ap (λ (o : Openings K). o.keepers) reads.openings) failed.1, failed.2)
+      (failed.0, subst (λ keepers. CameBack keepers new.host.openings.keepers failed.0) (ap (λ (o : Openings). o.keepers) reads.openings) failed.1, failed.2)
   behind read settings reads new status.HostFault failed = elim failed [
-    | inl rose ↦ inl (subst (λ n. Rose n new.host.seen.faults) (ap (λ (s : Seen S T). s.faults) reads.seen) rose)
+    | inl rose ↦ inl (subst (λ n. Rose n new.host.streams.faults) (ap (λ (s : StreamsSeen). s.faults) reads.streams) rose)
     | inr other ↦ inr other
   ]
   behind read settings reads new status.Usage failed = absurd failed
@@ -229,19 +223,19 @@ module _ {S T K D L : Type 0} (told : Accounts S T K) (telling : DoorTelling D L
   behind read settings reads new status.BadSettings failed = absurd failed
   behind read settings reads new status.Limit failed = absurd failed
 
-  has_reason : (ledger : List ℕ) (new : WorldView S T K L D) (answer : Status) (read : HostView S T K) (settings : Result Settings NoSettings)
-      → OpensSettings told.left told.read_faults name old.host read settings
-      → ServesAfterSettings told telling ledger settings (record { host = read; network = old.network }) new answer
-      → HasReason told telling name old new answer
+  has_reason : (ledger : List ℕ) (new : WorldSeen) (answer : Status) (read : HostSeen) (settings : Result Settings NoSettings)
+      → OpensSettings name old.host read settings
+      → ServesAfterSettings ledger settings (record { host = read; network = old.network }) new answer
+      → HasReason name old new answer
   has_reason ledger new answer read (Ok settings) opens after =
-      behind read settings opens new answer (with_keeper told telling (record { host = read; network = old.network }) new settings ledger answer after)
+      behind read settings opens new answer (with_keeper (record { host = read; network = old.network }) new settings ledger answer after)
   has_reason ledger new answer read (Err none) opens after =
-      subst (λ (w : WorldView S T K L D). HasReason told telling name old w answer) (sym after.0)
-      (subst (λ (s : Status). HasReason told telling name old (record { host = read; network = old.network }) s) (sym after.1) (without read none opens))
+      subst (λ (w : WorldSeen). HasReason name old w answer) (sym after.0)
+      (subst (λ (s : Status). HasReason name old (record { host = read; network = old.network }) s) (sym after.1) (without read none opens))
 
-pub row_of : {S T K D L : Type 0} {told : Accounts S T K} {telling : DoorTelling D L} {settings_name ledger_name : List ℕ} {old new : WorldView S T K L D} {answer : Status}
-    → ServesByNames told telling settings_name ledger_name old new answer → ServeRow told telling settings_name ledger_name old new answer
-row_of {told = told} {telling = telling} {settings_name = settings_name} {ledger_name = ledger_name} {old = old} {new = new} {answer = answer} serves = record {
+pub row_of : {settings_name ledger_name : List ℕ} {old new : WorldSeen} {answer : Status}
+    → ServesByNames settings_name ledger_name old new answer → ServeRow settings_name ledger_name old new answer
+row_of {settings_name = settings_name} {ledger_name = ledger_name} {old = old} {new = new} {answer = answer} serves = record {
   serves = serves;
-  complete = has_reason told telling settings_name old ledger_name new answer serves.1 serves.0 serves.2 serves.3;
+  complete = has_reason settings_name old ledger_name new answer serves.1 serves.0 serves.2 serves.3;
 }

@@ -3,15 +3,16 @@ use Rattle.std.specs.Prelude.{◌≡◌, ◌⊎◌, ℕ, ◌<◌, List, [], ◌�
 use Rattle.pool_base.specs.Counts.{Rose}
 use Rattle.pool_io.specs.declared.host.HostError.{HostError}
 use Rattle.pool_io.specs.declared.host.HostError.TheVariants as host
+use Rattle.pool_io.specs.Hosts.{CameBack}
 use Rattle.pool_io.specs.Outside.{CountsFailure, is_failed_gift}
-use Rattle.pool_turns.specs.Rows.{CameBack}
 use Rattle.pool_network.specs.declared.network.Reaching.{Reaching}
 use Rattle.pool_network.specs.declared.network.Reaching.TheVariants as reaching
-use Rattle.pool_network.specs.Networks.{GivesNext, NetworkView, calls_after}
+use Rattle.pool_network.specs.Networks.{GivesNext, NetworkSeen, calls_after}
+use Rattle.pool_network.specs.Seen.{DoorSeen, LinkSeen}
 use Rattle.share_ledger.specs.Books.{BookSeen}
 use Rattle.session_steps.specs.declared.ends.SessionEnd.{SessionEnd}
 use Rattle.pool_server.specs.Parts.{Service}
-use Rattle.pool_server.specs.Serving.{HasRun, KeeperTelling}
+use Rattle.pool_server.specs.Serving.{HasRun}
 use Rattle.serve_command.specs.declared.serving.Reached.{Reached}
 use Rattle.serve_command.specs.declared.serving.Reached.TheVariants as reached
 
@@ -33,8 +34,8 @@ calls_for_both places calls =
     calls_after {A = Unit {0}} (call_for_doors places) (Ok tt) (calls_for_feed places calls)
 
 -- a link to the feed and as many doors as workers were given, and all came back
-pub record GivesBoth {D L : Type 0} (places : Places) (old new : NetworkView L D) (link link_back : L)
-    (doors doors_back : List D) : Type 0 where
+pub record GivesBoth (places : Places) (old new : NetworkSeen) (link link_back : LinkSeen)
+    (doors doors_back : List DoorSeen) : Type 0 where
   pub dialled : GivesNext old.to_dial new.to_dial (link ∷ [])
   pub opened : GivesNext old.to_open new.to_open doors
   pub as_many : length doors ≡ places.workers
@@ -44,41 +45,37 @@ pub record GivesBoth {D L : Type 0} (places : Places) (old new : NetworkView L D
   pub calls : new.calls ≡ calls_for_both places old.calls
 
 -- the count of one of these doors rose
-abbrev pub SomeDoorFailed : {D : Type 0} → (D → ℕ) → List D → List D → Type 0
-SomeDoorFailed faults [] news = ⊥
-SomeDoorFailed faults (old ∷ olds) [] = ⊥
-SomeDoorFailed faults (old ∷ olds) (new ∷ news) =
-    Rose (faults old) (faults new) ⊎ SomeDoorFailed faults olds news
+abbrev pub SomeDoorFailed : List DoorSeen → List DoorSeen → Type 0
+SomeDoorFailed [] news = ⊥
+SomeDoorFailed (old ∷ olds) [] = ⊥
+SomeDoorFailed (old ∷ olds) (new ∷ news) = Rose old.faults new.faults ⊎ SomeDoorFailed olds news
 
 -- The feed's link was served by the first worker, and each door by a later one, all on one book.
-pub record ServedOnNetwork {K D L : Type 0} (service : Service D L) (keeper : KeeperTelling K)
-    (places : Places) (old new : NetworkView L D) (begun ended : BookSeen K) (reason : SessionEnd)
-    (ledger_faults door_faults door_memory : ℕ) : Type 0 where
-  pub link : L
-  pub link_back : L
-  pub doors : List D
-  pub doors_back : List D
+pub record ServedOnNetwork (service : Service) (places : Places) (old new : NetworkSeen)
+    (begun ended : BookSeen) (reason : SessionEnd) (ledger_faults door_faults door_memory : ℕ) :
+    Type 0 where
+  pub link : LinkSeen
+  pub link_back : LinkSeen
+  pub doors : List DoorSeen
+  pub doors_back : List DoorSeen
   pub gives : GivesBoth places old new link link_back doors doors_back
-  pub ran : HasRun service keeper (record { book = begun; doors = doors; feed = link })
+  pub ran : HasRun service (record { book = begun; doors = doors; feed = link })
       (record { book = ended; doors = doors_back; feed = link_back }) reason ledger_faults
       door_faults door_memory
   -- a fault of the keeper is counted only where its count rose, and one of doors only where one's did
-  pub keeper_failed : 0 < ledger_faults
-      → Rose (keeper.faults begun.keeper) (keeper.faults ended.keeper)
-  pub doors_failed : 0 < door_faults → SomeDoorFailed service.door.faults doors doors_back
+  pub keeper_failed : 0 < ledger_faults → Rose begun.keeper.faults ended.keeper.faults
+  pub doors_failed : 0 < door_faults → SomeDoorFailed doors doors_back
 
 -- the network gave no link: nothing else changed
-pub record HasNoLink {D L : Type 0} (places : Places) (old new : NetworkView L D)
-    (error : HostError) : Type 0 where
+pub record HasNoLink (places : Places) (old new : NetworkSeen) (error : HostError) : Type 0 where
   pub stays : new ≡ record old { faults = new.faults; calls = new.calls }
   pub calls : new.calls
       ≡ calls_after {A = Unit {0}} (reaching.Dial places.feed) (Err error) old.calls
   pub counts : CountsFailure (is_failed_gift {A = Unit {0}} (Err error)) old.faults new.faults
 
 -- it gave a link and no doors: the link came back as it was given
-pub record HasNoDoors {D L : Type 0} (places : Places) (old new : NetworkView L D)
-    (error : HostError) : Type 0 where
-  pub link : L
+pub record HasNoDoors (places : Places) (old new : NetworkSeen) (error : HostError) : Type 0 where
+  pub link : LinkSeen
   pub dialled : GivesNext old.to_dial new.to_dial (link ∷ [])
   pub links : CameBack old.links new.links link
   pub stays : new ≡ record old {
@@ -93,26 +90,34 @@ pub record HasNoDoors {D L : Type 0} (places : Places) (old new : NetworkView L 
   pub counts : CountsFailure (is_failed_gift {A = Unit {0}} (Err error)) old.faults new.faults
 
 -- there was no memory to serve them: link and doors came back as they were given
-pub record HasNoMemory {D L : Type 0} (places : Places) (old new : NetworkView L D)
-    (error : HostError) : Type 0 where
-  pub link : L
-  pub doors : List D
+pub record HasNoMemory (places : Places) (old new : NetworkSeen) (error : HostError) : Type 0 where
+  pub link : LinkSeen
+  pub doors : List DoorSeen
   pub gives : GivesBoth places old new link link doors doors
   pub error_is : error ≡ host.Memory
 
 -- no session began
-abbrev pub IsUnserved :
-    {D L : Type 0} → Places → NetworkView L D → NetworkView L D → HostError → Type 0
+abbrev pub IsUnserved : Places → NetworkSeen → NetworkSeen → HostError → Type 0
 IsUnserved places old new error =
     HasNoLink places old new error ⊎ HasNoDoors places old new error
     ⊎ HasNoMemory places old new error
 
+-- what became of a book: it was served on, or no session began
+pub data ReachedSeen : Type 0 where
+  Served : (ended : BookSeen) (reason : SessionEnd) (ledger_faults door_faults door_memory : ℕ)
+      → ReachedSeen
+  Unserved : (ended : BookSeen) (error : HostError) → ReachedSeen
+
+abbrev pub reached_seen : {K : Type 0} → Reached K → ReachedSeen
+reached_seen (reached.Ran ended reason ledger_faults door_faults door_memory) =
+    Served ended reason ledger_faults door_faults door_memory
+reached_seen (reached.Unserved ended error) = Unserved ended error
+
 -- what was done with a book
-abbrev pub ServesOnNetwork : {K D L : Type 0} → Service D L → KeeperTelling K → Places
-    → NetworkView L D → NetworkView L D → BookSeen K → Reached K → Type 0
-ServesOnNetwork service keeper places old new begun
-    (reached.Ran ended reason ledger_faults door_faults door_memory) =
-    ServedOnNetwork service keeper places old new begun ended reason ledger_faults door_faults
-    door_memory
-ServesOnNetwork service keeper places old new begun (reached.Unserved ended error) =
+abbrev pub ServesOnNetwork :
+    Service → Places → NetworkSeen → NetworkSeen → BookSeen → ReachedSeen → Type 0
+ServesOnNetwork service places old new begun
+    (Served ended reason ledger_faults door_faults door_memory) =
+    ServedOnNetwork service places old new begun ended reason ledger_faults door_faults door_memory
+ServesOnNetwork service places old new begun (Unserved ended error) =
     (ended ≡ begun) × IsUnserved places old new error

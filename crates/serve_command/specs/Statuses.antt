@@ -2,8 +2,8 @@
 use Rattle.std.specs.Prelude.{ℕ, ◌==◌, if◌then◌else◌}
 use Rattle.pool_history.specs.declared.refusals.BookError.{BookError}
 use Rattle.pool_history.specs.declared.refusals.BookError.TheVariants as fault
-use Rattle.pool_turns.specs.declared.status.Status.{Status}
-use Rattle.pool_turns.specs.declared.status.Status.TheVariants as status
+use Rattle.stream_commands.specs.declared.status.Status.{Status}
+use Rattle.stream_commands.specs.declared.status.Status.TheVariants as status
 
 -- where the first record wasn't kept
 abbrev pub status_of_start : BookError → Status

@@ -2,26 +2,23 @@
 //! sessions are over; all that was given is handed back.
 
 ghost use Rattle.std.specs.Prelude.{◌≡◌, ◌<◌, ◌-◌};
-ghost use Rattle.door_worker.specs.Shifts.{telling_of};
 ghost use Rattle.pool_settings.specs.Reading.{AreInRange};
-ghost use Rattle.settings_file.specs.Views.{IsHandedBack, view_of};
+ghost use Rattle.pool_io.specs.Hosts.{IsHandedBack};
 ghost use Rattle.share_ledger.specs.Books.{IsUnused};
-ghost use Rattle.solo_command.specs.Row.{accounts_of};
+ghost use Rattle.serve_command.specs.Serving.{reached_seen};
 ghost use Rattle.serve_command.specs.Row.{ServesOnBook, FinishesServing, ServesWithKeeper, ServeRow};
 
 use crate::report::print_report;
 use crate::serving::{Reached, serve_on_network};
 use crate::status::{served_status, start_status};
-use pool_doors::Door;
 use pool_io::Host;
-use pool_network::Network;
-use pool_settings::Settings;
-use pool_turns::{Status, refusal_status};
-use settings_file::open_settings;
+use pool_network::{Door, Network};
+use pool_settings::{Settings, open_settings};
 use share_ledger::Book;
 use std::alloc::Global;
 use std::sync::Wait;
 use std::thread::Threads;
+use stream_commands::{Status, refusal_status};
 
 /// Serves a feed and miners by the settings file of a name, and keeps their history in a new file of
 /// the other name. Each session has a thread, where threads can be made.
@@ -37,17 +34,12 @@ where
     H::K: Send,
     N::D: Send,
     <N::D as Door>::L: Send,
-    ensures row { ServeRow
-        (accounts_of H.S.left H.T.held H.K.records H.S.faults H.T.faults H.K.faults)
-        (telling_of N.D.coming N.D.out N.D.back N.D.faults N.D.asked N.D.L.left N.D.L.held N.D.L.read_faults
-        N.D.L.write_faults) settings_name.now ledger_name.now
-        (record { host = view_of H.seen H.openings host.old; network = N.seen network.old })
-        (record { host = view_of H.seen H.openings host.new; network = N.seen network.new })
-        result }
+    ensures row { ServeRow settings_name.now ledger_name.now
+        (record { host = H.seen host.old; network = N.seen network.old })
+        (record { host = H.seen host.new; network = N.seen network.new }) result }
 
     // Everything that the host and the network gave has come back.
-    ensures back { IsHandedBack (view_of H.seen H.openings host.old)
-        (view_of H.seen H.openings host.new) }
+    ensures back { IsHandedBack (H.seen host.old) (H.seen host.new) }
     ensures links { (N.seen network.new).links.lent ≡ (N.seen network.old).links.lent }
     ensures doors { (N.seen network.new).doors.lent ≡ (N.seen network.old).doors.lent }
 {
@@ -71,15 +63,10 @@ where
     N::D: Send,
     <N::D as Door>::L: Send,
     requires ranges { AreInRange settings }
-    ensures row { ServesWithKeeper
-        (accounts_of H.S.left H.T.held H.K.records H.S.faults H.T.faults H.K.faults)
-        (telling_of N.D.coming N.D.out N.D.back N.D.faults N.D.asked N.D.L.left N.D.L.held N.D.L.read_faults
-        N.D.L.write_faults) settings ledger_name.now
-        (record { host = view_of H.seen H.openings host.old; network = N.seen network.old })
-        (record { host = view_of H.seen H.openings host.new; network = N.seen network.new })
-        result }
-    ensures back { IsHandedBack (view_of H.seen H.openings host.old)
-        (view_of H.seen H.openings host.new) }
+    ensures row { ServesWithKeeper settings ledger_name.now
+        (record { host = H.seen host.old; network = N.seen network.old })
+        (record { host = H.seen host.new; network = N.seen network.new }) result }
+    ensures back { IsHandedBack (H.seen host.old) (H.seen host.new) }
     ensures links { (N.seen network.new).links.lent ≡ (N.seen network.old).links.lent }
     ensures doors { (N.seen network.new).doors.lent ≡ (N.seen network.old).doors.lent }
 {
@@ -103,19 +90,15 @@ where
     N::D: Send,
     <N::D as Door>::L: Send,
     requires ranges { AreInRange settings }
-    requires out { 0 < (H.openings host.old).keepers.lent }
-    requires unused { IsUnused (H.K.records keeper) }
-    ensures row { ServesOnBook
-        (accounts_of H.S.left H.T.held H.K.records H.S.faults H.T.faults H.K.faults)
-        (telling_of N.D.coming N.D.out N.D.back N.D.faults N.D.asked N.D.L.left N.D.L.held N.D.L.read_faults
-        N.D.L.write_faults) settings keeper
-        (record { host = view_of H.seen H.openings host.old; network = N.seen network.old })
-        (record { host = view_of H.seen H.openings host.new; network = N.seen network.new })
-        result }
-    ensures sources { (H.seen host.new).sources.lent ≡ (H.seen host.old).sources.lent }
-    ensures sinks { (H.seen host.new).sinks.lent ≡ (H.seen host.old).sinks.lent }
-    ensures keepers { (H.openings host.new).keepers.lent
-        ≡ (H.openings host.old).keepers.lent - 1 }
+    requires out { 0 < (H.seen host.old).openings.keepers.lent }
+    requires unused { IsUnused (H.K.seen keeper).records }
+    ensures row { ServesOnBook settings (H.K.seen keeper)
+        (record { host = H.seen host.old; network = N.seen network.old })
+        (record { host = H.seen host.new; network = N.seen network.new }) result }
+    ensures sources { (H.seen host.new).streams.sources.lent ≡ (H.seen host.old).streams.sources.lent }
+    ensures sinks { (H.seen host.new).streams.sinks.lent ≡ (H.seen host.old).streams.sinks.lent }
+    ensures keepers { (H.seen host.new).openings.keepers.lent
+        ≡ (H.seen host.old).openings.keepers.lent - 1 }
     ensures links { (N.seen network.new).links.lent ≡ (N.seen network.old).links.lent }
     ensures doors { (N.seen network.new).doors.lent ≡ (N.seen network.old).doors.lent }
 {
@@ -146,14 +129,12 @@ where
 
 /// Prints what there is to report, and hands the keeper back.
 fn finish<H: Host>(alloc: Global, host: &mut H, reached: Reached<H::K>) -> Status
-    requires out { 0 < (H.openings host.old).keepers.lent }
-    ensures row { FinishesServing
-        (accounts_of H.S.left H.T.held H.K.records H.S.faults H.T.faults H.K.faults)
-        (view_of H.seen H.openings host.old) (view_of H.seen H.openings host.new) reached result }
-    ensures sources { (H.seen host.new).sources.lent ≡ (H.seen host.old).sources.lent }
-    ensures sinks { (H.seen host.new).sinks.lent ≡ (H.seen host.old).sinks.lent }
-    ensures keepers { (H.openings host.new).keepers.lent
-        ≡ (H.openings host.old).keepers.lent - 1 }
+    requires out { 0 < (H.seen host.old).openings.keepers.lent }
+    ensures row { FinishesServing (H.seen host.old) (H.seen host.new) (reached_seen reached) result }
+    ensures sources { (H.seen host.new).streams.sources.lent ≡ (H.seen host.old).streams.sources.lent }
+    ensures sinks { (H.seen host.new).streams.sinks.lent ≡ (H.seen host.old).streams.sinks.lent }
+    ensures keepers { (H.seen host.new).openings.keepers.lent
+        ≡ (H.seen host.old).openings.keepers.lent - 1 }
 {
     match reached {
         Reached::Ran {

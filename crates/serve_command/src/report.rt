@@ -2,19 +2,16 @@
 
 ghost use Rattle.std.specs.Prelude.{◌≡◌, ◌==◌, ◌++◌, IfOk};
 ghost use Rattle.pool_io.specs.Outside.{CountsFailure};
-ghost use Rattle.settings_file.specs.Views.{view_of};
-ghost use Rattle.pool_turns.specs.declared.status.Status.TheVariants as status;
-ghost use Rattle.text_output.specs.Putting.{PutsText};
-ghost use Rattle.solo_command.specs.Row.{accounts_of};
+ghost use Rattle.stream_commands.specs.declared.status.Status.TheVariants as status;
+ghost use Rattle.stream_commands.specs.Texts.{PutsText};
 ghost use Rattle.serve_command.specs.Row.{PrintsReport};
 ghost use Rattle.serve_command.specs.Words.{report_text, word_of_end};
 
 use pool_core::SessionEnd;
 use pool_io::{Host, Keeper, Sink};
-use pool_turns::{Status, refusal_status};
 use share_ledger::Book;
 use std::alloc::{AllocError, Global};
-use text_output::put_text;
+use stream_commands::{Status, put_text, refusal_status};
 
 /// The word for how a session ended.
 fn end_word(end: SessionEnd) -> &'static str
@@ -59,7 +56,7 @@ fn put_report<K: Keeper, T: Sink>(
     feed_end: SessionEnd,
     sink: &mut T,
 ) -> Status
-    ensures { PutsText T.held T.faults sink.old sink.new (report_text feed_end book.now.events)
+    ensures { PutsText (T.seen sink.old) (T.seen sink.new) (report_text feed_end book.now.events)
         status.Done result }
 {
     match report_of(alloc, book, feed_end) {
@@ -75,10 +72,8 @@ pub(crate) fn print_report<H: Host>(
     book: &Book<H::K>,
     feed_end: SessionEnd,
 ) -> Status
-    ensures { PrintsReport
-        (accounts_of H.S.left H.T.held H.K.records H.S.faults H.T.faults H.K.faults)
-        (report_text feed_end book.now.events) (view_of H.seen H.openings host.old)
-        (view_of H.seen H.openings host.new) result }
+    ensures { PrintsReport (report_text feed_end book.now.events) (H.seen host.old)
+        (H.seen host.new) result }
 {
     let mut sink = match host.output() {
         Ok(sink) => sink,

@@ -1,14 +1,12 @@
 //! Sessions on a network, from the dialling of the feed to the return of the doors.
 
 ghost use Rattle.std.specs.Prelude.{◌≡◌, ◌<◌, ◌≤◌};
-ghost use Rattle.door_worker.specs.Shifts.{telling_of};
 ghost use Rattle.pool_server.specs.Parts.{service_of};
-ghost use Rattle.serve_command.specs.Serving.{ServesOnNetwork};
+ghost use Rattle.serve_command.specs.Serving.{ServesOnNetwork, reached_seen};
 
 use pool_core::SessionEnd;
-use pool_doors::Door;
 use pool_io::{HostError, Keeper, Limits};
-use pool_network::Network;
+use pool_network::{Door, Network};
 use pool_server::{Served, serve};
 use share_ledger::Book;
 use std::alloc::Global;
@@ -47,11 +45,9 @@ where
     <N::D as Door>::L: Send,
     requires few { workers ≤ 64 }
     requires waits { (0 < limits.idle_turns) × (0 < limits.door_turns) }
-    ensures served { ServesOnNetwork (service_of (telling_of N.D.coming N.D.out N.D.back N.D.faults N.D.asked
-        N.D.L.left N.D.L.held N.D.L.read_faults N.D.L.write_faults) rolling limits.idle_turns
-        limits.door_turns) (record { records = K.records; faults = K.faults })
+    ensures served { ServesOnNetwork (service_of rolling limits)
         (record { feed = feed.now; address = address.now; workers = workers })
-        (N.seen network.old) (N.seen network.new) book result }
+        (N.seen network.old) (N.seen network.new) book (reached_seen result) }
     ensures links { (N.seen network.new).links.lent ≡ (N.seen network.old).links.lent }
     ensures doors { (N.seen network.new).doors.lent ≡ (N.seen network.old).doors.lent }
 {

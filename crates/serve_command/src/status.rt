@@ -4,7 +4,7 @@ ghost use Rattle.std.specs.Prelude.{◌≡◌};
 ghost use Rattle.serve_command.specs.Statuses.{status_of_served, status_of_start};
 
 use pool_history::BookError;
-use pool_turns::Status;
+use stream_commands::Status;
 
 /// The status where the first record wasn't kept.
 pub(crate) fn start_status(cause: BookError) -> Status

@@ -3,7 +3,7 @@ use Rattle.std.proofs.Common.{◌≡◌, ℕ, ◌-◌, Bool, true, false, List, 
 use Rattle.std.proofs.Math.Dec.{eqb-suc-zero}
 use Rattle.std.specs.List.{AllByRecursion}
 use Rattle.std.specs.Prelude.{if◌then◌else◌, is_none}
-use Rattle.calls.specs.Calls.{Outcome, Replied, Faulted}
+use Rattle.pool_base.specs.Calls.{Outcome, Replied, Faulted}
 use Rattle.pool_io.specs.declared.sink.SinkFailed.{SinkFailed}
 use Rattle.pool_io.specs.declared.sink.SinkFailed.TheVariants as sink
 use Rattle.sv2_messages.specs.Messages.{Message}
@@ -277,5 +277,5 @@ first_enters [] s enters = tt
 first_enters (call ∷ calls) s enters = enters.0
 
 pub enters_first : EntersComeFirst
-enters_first worker idle_turns role rolling xs last follows =
-    first_enters (calls_in xs) last (enters_on worker (new_state role rolling idle_turns) last [] xs (refl, refl) follows)
+enters_first worker manner xs last follows =
+    first_enters (calls_in xs) last (enters_on worker (new_state manner) last [] xs (refl, refl) follows)

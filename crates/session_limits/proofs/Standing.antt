@@ -5,18 +5,18 @@ use Rattle.std.proofs.lemmas.Grind.{flat_map-append}
 use Rattle.std.proofs.lemmas.List.Folds.{list_any-append}
 use Rattle.std.specs.List.{list_any}
 use Rattle.std.specs.Prelude.{if◌then◌else◌}
-use Rattle.calls.specs.Calls.{Outcome, Replied, Faulted}
+use Rattle.pool_base.specs.Calls.{Outcome, Replied, Faulted}
 use Rattle.pool_io.specs.declared.sink.SinkFailed.{SinkFailed}
 use Rattle.pool_io.specs.declared.sink.SinkFailed.TheVariants as sink
 use Rattle.pool_io.specs.Steps.{Bounds, IsBytesOut, IsFree, IsFreeBefore, IsIdleOut, bytes_in, idles_after}
 use Rattle.pool_io.proofs.Stepping.{bytes_in-idle, bytes_in-more, free_bytes, free_idle, idles_after-idle, idles_after-more, within_limits}
-use Rattle.pool_history.specs.declared.events.Role.{Role}
 use Rattle.pool_history.specs.declared.refusals.BookError.{BookError}
 use Rattle.pool_history.specs.declared.refusals.BookError.TheVariants as fault
 use Rattle.pool_history.specs.declared.replies.Reply.{Reply}
 use Rattle.pool_history.specs.declared.replies.Reply.TheVariants as reply
 use Rattle.pool_history.specs.Calls.{PoolCall, blames_keeper, has_keeper_failed}
 use Rattle.pool_history.specs.Headers.{Briefing}
+use Rattle.session_steps.specs.declared.manner.Manner.{Manner}
 use Rattle.session_steps.specs.declared.about.About.{About}
 use Rattle.session_steps.specs.declared.about.About.TheVariants as topic
 use Rattle.session_steps.specs.declared.ends.SessionEnd.{SessionEnd}
@@ -354,26 +354,26 @@ free_before_none : (bounds : Bounds) → IsFreeBefore bounds []
 free_before_none bounds [] x rest split at = cc
 free_before_none bounds (y ∷ front) x rest split at = cc
 
-begins_stand : (role : Role) (rolling : Bool) (idle_turns : ℕ) → 0 < idle_turns → Stands (session_bounds idle_turns) [] (new_state role rolling idle_turns)
-begins_stand role rolling idle_turns positive = record {
+begins_stand : (manner : Manner) → 0 < manner.idle_turns → Stands (session_bounds manner.idle_turns) [] (new_state manner)
+begins_stand manner positive = record {
   turns = refl;
   idles = omega arith;
   bytes = refl;
-  before = free_before_none (session_bounds idle_turns);
+  before = free_before_none (session_bounds manner.idle_turns);
   stage = positive;
 }
 
 -- what a session's last state says of all steps
-session_stands : (worker idle_turns : ℕ) (role : Role) (rolling : Bool) (xs : List SessionStep) (last : State) → 0 < idle_turns
-    → Follows worker (new_state role rolling idle_turns) xs last → Stands (session_bounds idle_turns) xs last
-session_stands worker idle_turns role rolling xs last positive follows =
-    stands_on (session_bounds idle_turns) worker (new_state role rolling idle_turns) last [] xs positive (begins_stand role rolling idle_turns positive) follows
+session_stands : (worker : ℕ) (manner : Manner) (xs : List SessionStep) (last : State) → 0 < manner.idle_turns
+    → Follows worker (new_state manner) xs last → Stands (session_bounds manner.idle_turns) xs last
+session_stands worker manner xs last positive follows =
+    stands_on (session_bounds manner.idle_turns) worker (new_state manner) last [] xs positive (begins_stand manner positive) follows
 
-pub ends_show : (worker idle_turns : ℕ) (role : Role) (rolling : Bool) (xs : List SessionStep) (last : State) (reason : SessionEnd) → 0 < idle_turns
-    → Follows worker (new_state role rolling idle_turns) xs last → last.stage ≡ Over reason → EndShows (session_bounds idle_turns) xs reason
-ends_show worker idle_turns role rolling xs last reason positive follows over =
-    subst (StageShows (session_bounds idle_turns) xs last.idles) over (session_stands worker idle_turns role rolling xs last positive follows).stage
+pub ends_show : (worker : ℕ) (manner : Manner) (xs : List SessionStep) (last : State) (reason : SessionEnd) → 0 < manner.idle_turns
+    → Follows worker (new_state manner) xs last → last.stage ≡ Over reason → EndShows (session_bounds manner.idle_turns) xs reason
+ends_show worker manner xs last reason positive follows over =
+    subst (StageShows (session_bounds manner.idle_turns) xs last.idles) over (session_stands worker manner xs last positive follows).stage
 
-pub limits_last : (worker idle_turns : ℕ) (role : Role) (rolling : Bool) (xs : List SessionStep) (last : State) → 0 < idle_turns
-    → Follows worker (new_state role rolling idle_turns) xs last → IsFreeBefore (session_bounds idle_turns) (turns_in xs)
-limits_last worker idle_turns role rolling xs last positive follows = (session_stands worker idle_turns role rolling xs last positive follows).before
+pub limits_last : (worker : ℕ) (manner : Manner) (xs : List SessionStep) (last : State) → 0 < manner.idle_turns
+    → Follows worker (new_state manner) xs last → IsFreeBefore (session_bounds manner.idle_turns) (turns_in xs)
+limits_last worker manner xs last positive follows = (session_stands worker manner xs last positive follows).before

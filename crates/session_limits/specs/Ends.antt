@@ -1,7 +1,7 @@
 -- What a session's ends come from, beside its input (this project's own).
 use Rattle.std.specs.Prelude.{◌≡◌, ℕ, Bool, true, false, Option, None, Some, List, [], ◌∷◌}
 use Rattle.std.specs.List.{AllByRecursion, list_any}
-use Rattle.calls.specs.Calls.{Outcome, Replied, Faulted}
+use Rattle.pool_base.specs.Calls.{Outcome, Replied, Faulted}
 use Rattle.pool_base.specs.Counts.{Rose}
 use Rattle.pool_io.specs.declared.turn.Turn.{Turn}
 use Rattle.pool_io.specs.Steps.{Bounds, IsAtLimit, IsFree, steps_of}
@@ -9,21 +9,21 @@ use Rattle.pool_io.specs.declared.sink.SinkFailed.{SinkFailed}
 use Rattle.pool_io.specs.declared.sink.SinkFailed.TheVariants as sink
 use Rattle.pool_history.specs.declared.asking.Request.{Request}
 use Rattle.pool_history.specs.declared.asking.Request.TheVariants as request
-use Rattle.pool_history.specs.declared.events.Role.{Role}
 use Rattle.pool_history.specs.declared.refusals.BookError.{BookError}
 use Rattle.pool_history.specs.declared.replies.Reply.{Reply}
 use Rattle.pool_history.specs.declared.replies.Reply.TheVariants as reply
 use Rattle.pool_history.specs.Calls.{PoolCall, has_keeper_failed}
+use Rattle.session_steps.specs.declared.manner.Manner.{Manner}
 use Rattle.session_steps.specs.declared.ends.SessionEnd.{SessionEnd}
 use Rattle.session_steps.specs.declared.ends.SessionEnd.TheVariants as end
 use Rattle.session_steps.specs.States.{State, Over, most_bytes, new_state}
 use Rattle.session_steps.specs.Steps.{SessionStep, Missed, Follows, calls_in, put_in, turns_in}
 
 -- steps that begin a session and come to this end
-pub record ComesTo (worker idle_turns : ℕ) (role : Role) (rolling : Bool)
+pub record ComesTo (worker : ℕ) (manner : Manner)
     (steps : List SessionStep) (reason : SessionEnd) : Type 0 where
   pub last : State
-  pub follows : Follows worker (new_state role rolling idle_turns) steps last
+  pub follows : Follows worker (new_state manner) steps last
   pub over : last.stage ≡ Over reason
 
 -- the most Idle turns in a row and the most bytes of a session

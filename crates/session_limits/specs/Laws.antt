@@ -4,69 +4,69 @@ use Rattle.pool_io.specs.declared.turn.Turn.{Turn}
 use Rattle.pool_io.specs.Steps.{BringsSteps, IsBytesOut, IsFreeBefore, IsIdleOut}
 use Rattle.pool_history.specs.declared.asking.Request.{Request}
 use Rattle.pool_history.specs.declared.events.Event.{Event}
-use Rattle.pool_history.specs.declared.events.Role.{Role}
 use Rattle.pool_history.specs.declared.replies.Reply.TheVariants as reply
 use Rattle.pool_history.specs.Answering.{Answer}
 use Rattle.pool_history.specs.Refusing.{most_enters}
 use Rattle.pool_history.specs.Sessions.{enters, past_of}
+use Rattle.session_steps.specs.declared.manner.Manner.{Manner}
 use Rattle.session_steps.specs.declared.ends.SessionEnd.{SessionEnd}
 use Rattle.session_steps.specs.declared.ends.SessionEnd.TheVariants as end
 use Rattle.session_steps.specs.States.{State, new_state}
 use Rattle.session_steps.specs.Steps.{Follows, SessionStep, calls_in, turns_in}
-use Rattle.pool_sessions.specs.Good.{IsGoodInput}
-use Rattle.pool_sessions.specs.Running.{TakesAll, has_ended}
+use Rattle.session_loop.specs.Good.{IsGoodInput}
+use Rattle.session_loop.specs.Running.{TakesAll, has_ended}
 use Rattle.session_limits.specs.Ends.{ComesTo, EntersFirst, IsUnhindered, IsWellEnded, has_missed, has_turned_away, has_unkept, has_unwritten, is_enter, session_bounds}
 
 -- the turns end with as many Idle ones in a row as are waited for
 abbrev pub IdleOutShowsIdles : Type 0
 IdleOutShowsIdles =
-    (worker idle_turns : ℕ) (role : Role) (rolling : Bool) (steps : List SessionStep)
-    → 0 < idle_turns → ComesTo worker idle_turns role rolling steps end.IdleOut
-    → IsIdleOut (session_bounds idle_turns) (turns_in steps)
+    (worker : ℕ) (manner : Manner) (steps : List SessionStep)
+    → 0 < manner.idle_turns → ComesTo worker manner steps end.IdleOut
+    → IsIdleOut (session_bounds manner.idle_turns) (turns_in steps)
 
 -- as many bytes came as are taken
 abbrev pub BytesOutShowsBytes : Type 0
 BytesOutShowsBytes =
-    (worker idle_turns : ℕ) (role : Role) (rolling : Bool) (steps : List SessionStep)
-    → 0 < idle_turns → ComesTo worker idle_turns role rolling steps end.BytesOut
-    → IsBytesOut (session_bounds idle_turns) (turns_in steps)
+    (worker : ℕ) (manner : Manner) (steps : List SessionStep)
+    → 0 < manner.idle_turns → ComesTo worker manner steps end.BytesOut
+    → IsBytesOut (session_bounds manner.idle_turns) (turns_in steps)
 
 -- no front of the turns but all of them reaches a limit, in a session that is over or not
 abbrev pub LimitsComeLast : Type 0
 LimitsComeLast =
-    (worker idle_turns : ℕ) (role : Role) (rolling : Bool) (steps : List SessionStep)
-    (last : State) → 0 < idle_turns → Follows worker (new_state role rolling idle_turns) steps last
-    → IsFreeBefore (session_bounds idle_turns) (turns_in steps)
+    (worker : ℕ) (manner : Manner) (steps : List SessionStep)
+    (last : State) → 0 < manner.idle_turns → Follows worker (new_state manner) steps last
+    → IsFreeBefore (session_bounds manner.idle_turns) (turns_in steps)
 
 abbrev pub PoolFullShowsReply : Type 0
 PoolFullShowsReply =
-    (worker idle_turns : ℕ) (role : Role) (rolling : Bool) (steps : List SessionStep)
-    → 0 < idle_turns → ComesTo worker idle_turns role rolling steps end.PoolFull
+    (worker : ℕ) (manner : Manner) (steps : List SessionStep)
+    → 0 < manner.idle_turns → ComesTo worker manner steps end.PoolFull
     → has_turned_away (calls_in steps) ≡ true
 
 abbrev pub LedgerFaultShowsCall : Type 0
 LedgerFaultShowsCall =
-    (worker idle_turns : ℕ) (role : Role) (rolling : Bool) (steps : List SessionStep)
-    → 0 < idle_turns → ComesTo worker idle_turns role rolling steps end.LedgerFault
+    (worker : ℕ) (manner : Manner) (steps : List SessionStep)
+    → 0 < manner.idle_turns → ComesTo worker manner steps end.LedgerFault
     → has_unkept (calls_in steps) ≡ true
 
 abbrev pub ReadFaultShowsTake : Type 0
 ReadFaultShowsTake =
-    (worker idle_turns : ℕ) (role : Role) (rolling : Bool) (steps : List SessionStep)
-    → 0 < idle_turns → ComesTo worker idle_turns role rolling steps end.ReadFault
+    (worker : ℕ) (manner : Manner) (steps : List SessionStep)
+    → 0 < manner.idle_turns → ComesTo worker manner steps end.ReadFault
     → has_missed steps ≡ true
 
 abbrev pub WriteFaultShowsPut : Type 0
 WriteFaultShowsPut =
-    (worker idle_turns : ℕ) (role : Role) (rolling : Bool) (steps : List SessionStep)
-    → 0 < idle_turns → ComesTo worker idle_turns role rolling steps end.WriteFault
+    (worker : ℕ) (manner : Manner) (steps : List SessionStep)
+    → 0 < manner.idle_turns → ComesTo worker manner steps end.WriteFault
     → has_unwritten steps ≡ true
 
 -- a session that is over or not
 abbrev pub EntersComeFirst : Type 0
 EntersComeFirst =
-    (worker idle_turns : ℕ) (role : Role) (rolling : Bool) (steps : List SessionStep)
-    (last : State) → Follows worker (new_state role rolling idle_turns) steps last
+    (worker : ℕ) (manner : Manner) (steps : List SessionStep)
+    (last : State) → Follows worker (new_state manner) steps last
     → EntersFirst (calls_in steps)
 
 -- an answer that the pool is full, wherever it comes
@@ -79,9 +79,9 @@ OnlyEntersFindItFull =
 -- the turns are those that a source told, all of them where the input ended
 abbrev pub GoodInputEndsWell : Type 0
 GoodInputEndsWell =
-    (worker idle_turns : ℕ) (role : Role) (rolling : Bool) (steps : List SessionStep)
+    (worker : ℕ) (manner : Manner) (steps : List SessionStep)
     (reason : SessionEnd) (told : List Turn) (left : Option (List Turn))
-    → 0 < idle_turns → ComesTo worker idle_turns role rolling steps reason
+    → 0 < manner.idle_turns → ComesTo worker manner steps reason
     → BringsSteps (Some told) left (turns_in steps)
     → TakesAll (has_ended steps) (Some told) (turns_in steps)
-    → IsGoodInput role rolling told → IsUnhindered idle_turns steps → IsWellEnded reason
+    → IsGoodInput manner told → IsUnhindered manner.idle_turns steps → IsWellEnded reason

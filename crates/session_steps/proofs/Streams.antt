@@ -2,7 +2,7 @@
 use Rattle.std.proofs.Common.{◌≡◌, ℕ, List, [], ◌∷◌, ◌++◌, Some, sym, ap, ◌∙◌, refl, append_assoc, append-nil}
 use Rattle.std.specs.Prelude.{map}
 use Rattle.std.specs.List.{flat_map}
-use Rattle.calls.specs.Calls.{Outcome, Replied, Faulted}
+use Rattle.pool_base.specs.Calls.{Outcome, Replied, Faulted}
 use Rattle.pool_io.specs.Steps.{bytes_in}
 use Rattle.pool_io.proofs.Stepping.{bytes_in-append, bytes_in-map}
 use Rattle.pool_history.specs.declared.refusals.BookError.{BookError}
@@ -61,8 +61,8 @@ taken_from worker s t (Starved ∷ xs) follows = taken_from worker (after_step s
 taken_from worker s t (Spent ∷ xs) follows = taken_from worker (after_step s Spent) t xs follows.1
 
 pub taken_is_met : TakenIsMet
-taken_is_met worker idle_turns role rolling steps last follows =
-    taken_from worker (new_state role rolling idle_turns) last steps follows
+taken_is_met worker manner steps last follows =
+    taken_from worker (new_state manner) last steps follows
 
 -- all that was met was frames within the limit
 pub met_are_frames : MetAreFrames

@@ -1,6 +1,6 @@
 -- Where steps lead: a session from its greeting to each of its ends.
 use Rattle.std.proofs.Common.{◌≡◌, ℕ, Bool, true, false, Some, List, [], ◌∷◌, refl}
-use Rattle.calls.specs.Calls.{Replied, Faulted}
+use Rattle.pool_base.specs.Calls.{Replied, Faulted}
 use Rattle.pool_io.specs.declared.sink.SinkFailed.TheVariants as sink
 use Rattle.pool_history.specs.declared.asking.Request.{Request}
 use Rattle.pool_history.specs.declared.asking.Request.TheVariants as request
@@ -72,10 +72,10 @@ met made = record {
 }
 
 -- the greeting
-pub greeted : (after_step (new_state role.Solo true 3) (Greeted nothing_put)).stage ≡ Reading
+pub greeted : (after_step (new_state (record { role = role.Solo; rolling = true; idle_turns = 3 })) (Greeted nothing_put)).stage ≡ Reading
 greeted = refl
 
-pub greeting_failed : (after_step (new_state role.Feed true 3) (Greeted unput)).stage ≡ Over end.WriteFault
+pub greeting_failed : (after_step (new_state (record { role = role.Feed; rolling = true; idle_turns = 3 })) (Greeted unput)).stage ≡ Over end.WriteFault
 greeting_failed = refl
 
 -- bytes come behind those that aren't met, and the Idle turns count anew

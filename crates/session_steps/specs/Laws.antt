@@ -4,7 +4,7 @@ use Rattle.std.specs.List.{AllByRecursion}
 use Rattle.pool_io.specs.Steps.{bytes_in}
 use Rattle.sv2_frames.specs.Framing.{IsFrame}
 use Rattle.sv2_frames.specs.Stream.{AreWithin, stream_of}
-use Rattle.pool_history.specs.declared.events.Role.{Role}
+use Rattle.session_steps.specs.declared.manner.Manner.{Manner}
 use Rattle.session_steps.specs.States.{State, most_payload, new_state}
 use Rattle.session_steps.specs.Steps.{CanMeet, CanOverrun, Follows, IsWaiting, Met, SessionStep, frames_in, turns_in}
 
@@ -12,8 +12,8 @@ use Rattle.session_steps.specs.Steps.{CanMeet, CanOverrun, Follows, IsWaiting, M
 -- came
 abbrev pub TakenIsMet : Type 0
 TakenIsMet =
-    (worker idle_turns : ℕ) (role : Role) (rolling : Bool) (steps : List SessionStep) (last : State)
-    → Follows worker (new_state role rolling idle_turns) steps last
+    (worker : ℕ) (manner : Manner) (steps : List SessionStep) (last : State)
+    → Follows worker (new_state manner) steps last
     → bytes_in (turns_in steps) ≡ stream_of (frames_in steps) last.unmet
 
 -- All that was met was whole frames within the limit.

@@ -4,12 +4,12 @@ use Rattle.pool_base.specs.Lists.{Begins}
 use Rattle.pool_io.specs.declared.sink.SinkFailed.{SinkFailed}
 use Rattle.pool_io.specs.declared.sink.SinkFailed.TheVariants as sink
 use Rattle.pool_history.specs.declared.asking.Request.{Request}
-use Rattle.pool_history.specs.declared.events.Role.{Role}
 use Rattle.pool_history.specs.declared.refusals.BookError.{BookError}
 use Rattle.pool_history.specs.declared.refusals.BookError.TheVariants as fault
 use Rattle.pool_history.specs.declared.replies.Reply.{Reply}
 use Rattle.pool_history.specs.declared.replies.Reply.TheVariants as reply
 use Rattle.pool_history.specs.Headers.{Briefing}
+use Rattle.session_steps.specs.declared.manner.Manner.{Manner}
 use Rattle.session_steps.specs.declared.about.About.{About}
 use Rattle.session_steps.specs.declared.about.About.TheVariants as topic
 use Rattle.session_steps.specs.declared.ends.SessionEnd.{SessionEnd}
@@ -50,14 +50,14 @@ abbrev pub most_payload : ℕ
 most_payload = 262144
 
 -- a session before its first step
-abbrev pub new_state : Role → Bool → ℕ → State
-new_state role rolling idle_turns = record {
-  talk = new_talk role rolling;
+abbrev pub new_state : Manner → State
+new_state manner = record {
+  talk = new_talk manner.role manner.rolling;
   stage = Greeting;
   entered = false;
   cursor = 0;
-  idle_turns = idle_turns;
-  idles = idle_turns;
+  idle_turns = manner.idle_turns;
+  idles = manner.idle_turns;
   bytes = most_bytes;
   unmet = [];
 }
@@ -93,6 +93,10 @@ abbrev pub IsPutOf : List ℕ → Put → Type 0
 IsPutOf whole put = IsPutBy put.fault whole put.bytes
 
 -- a put that failed ends the session
+abbrev pub failed_end : SinkFailed → SessionEnd
+failed_end sink.Failed = end.WriteFault
+failed_end sink.Memory = end.Memory
+
 abbrev pub put_stage : Option SinkFailed → Bool → Stage → Stage
 put_stage None entered stage = stage
 put_stage (Some sink.Failed) entered stage = end_stage entered end.WriteFault

@@ -2,7 +2,7 @@
 -- turns that a session took, its calls and the bytes that it put are those of its steps, in order.
 use Rattle.std.specs.Prelude.{◌≡◌, ℕ, ◌-◌, ◌^◌, ◌<◌, ◌≤◌, Bool, Option, None, Some, List, [], ◌∷◌, ◌++◌, length, map}
 use Rattle.std.specs.List.{flat_map}
-use Rattle.calls.specs.Calls.{Outcome, Replied, Faulted}
+use Rattle.pool_base.specs.Calls.{Outcome, Replied, Faulted}
 use Rattle.pool_io.specs.Outside.{next_count}
 use Rattle.pool_io.specs.Steps.{ReadStep}
 use Rattle.pool_io.specs.declared.sink.SinkFailed.{SinkFailed}

@@ -1,5 +1,11 @@
 //! How a session ended.
 
+ghost use Rattle.std.specs.Prelude.{◌≡◌};
+ghost use Rattle.session_steps.specs.States.{failed_end, fault_end};
+
+use pool_history::BookError;
+use pool_io::SinkFailed;
+
 /// Why a session is over: the first reason in the order of its turns.
 #[derive(Clone, Copy, Debug, PartialEq, Eq)]
 pub enum SessionEnd {
@@ -27,4 +33,28 @@ pub enum SessionEnd {
     LedgerFault,
     /// There was no memory.
     Memory,
+}
+
+/// A request that isn't answered ends the session.
+impl From<BookError> for SessionEnd {
+    ghost from_gives = { λ cause end. end ≡ fault_end cause };
+
+    fn from(cause: BookError) -> SessionEnd {
+        match cause {
+            BookError::KeeperFault => SessionEnd::LedgerFault,
+            BookError::Memory => SessionEnd::Memory,
+        }
+    }
+}
+
+/// So does a put that failed.
+impl From<SinkFailed> for SessionEnd {
+    ghost from_gives = { λ cause end. end ≡ failed_end cause };
+
+    fn from(cause: SinkFailed) -> SessionEnd {
+        match cause {
+            SinkFailed::Failed => SessionEnd::WriteFault,
+            SinkFailed::Memory => SessionEnd::Memory,
+        }
+    }
 }

@@ -5,9 +5,11 @@
 mod about;
 mod ends;
 mod laws;
+mod manner;
 mod meeting;
 
 pub use about::About;
 pub use ends::SessionEnd;
 pub use laws::{bytes_decide, met_are_frames, taken_bytes_are_met};
+pub use manner::Manner;
 pub use meeting::{SetupCode, Step};

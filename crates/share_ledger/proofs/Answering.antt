@@ -20,7 +20,7 @@ use Rattle.ledger_laws.specs.Requests.{IsWellFormedRequest}
 use Rattle.ledger_laws.specs.WellFormed.{IsU32}
 use Rattle.ledger_records.specs.Pieces.{piece_behind}
 use Rattle.pool_io.specs.Outside.{AddsRecord}
-use Rattle.event_history.specs.Kept.{KeptHistory}
+use Rattle.event_store.specs.Kept.{KeptHistory}
 use Rattle.share_ledger.specs.declared.planning.Step.{Step}
 use Rattle.share_ledger.specs.declared.planning.Step.TheVariants as planned_step
 use Rattle.share_ledger.specs.Planning.{IsReady, IsStep, MakesStep, past_in}

@@ -23,7 +23,7 @@ use Rattle.ledger_laws.specs.Keeping.{KeepsOn}
 use Rattle.channels.specs.Plans.{planned_move}
 use Rattle.channels.specs.Tables.{ChannelTable, IsTold}
 use Rattle.channels.specs.declared.plan.ChannelPlan.{ChannelPlan}
-use Rattle.event_history.specs.Kept.{KeptHistory}
+use Rattle.event_store.specs.Kept.{KeptHistory}
 use Rattle.grant_table.specs.Tables.{GrantTable, OtherEventsLeaveGrants, ShowsGrants}
 use Rattle.payouts.specs.Plans.{Applies, BlockPlan, Planning}
 use Rattle.payouts.specs.Tallies.{Remembers, Weighing}

@@ -4,8 +4,8 @@ use mir.Syntax.{Dict}
 use denote.Param.Send.{IsSend, IsSync, sendable}
 use Rattle.std.proofs.Crossing.{crosses}
 use Rattle.pool_history.specs.contracts.events.Event as Event
-use Rattle.event_history.specs.contracts.index.Index as Index
-use Rattle.event_history.specs.contracts.history.History as History
+use Rattle.event_store.specs.contracts.index.Index as Index
+use Rattle.event_store.specs.contracts.history.History as History
 use Rattle.session_table.specs.contracts.table.Sessions as Sessions
 use Rattle.grant_table.specs.contracts.table.Grants as Grants
 use Rattle.share_judging.specs.contracts.headers.Headers as Headers

@@ -27,7 +27,7 @@ use Rattle.payout_laws.proofs.Ranges.{pays_from}
 use Rattle.channels.specs.Histories.{TablesShowHistories}
 use Rattle.pool_history.specs.Channels.{OpenChannel, channel_in}
 use Rattle.share_judging.proofs.Ranges.{window_and_limit}
-use Rattle.event_history.specs.Blocks.{is_block_event}
+use Rattle.event_store.specs.Blocks.{is_block_event}
 use Rattle.payouts.specs.Plans.{BlockPlan, IsPlanOf, Planning}
 use Rattle.payouts.specs.Plans as tallies
 use Rattle.payouts.specs.Tallies.{Weighing}

@@ -14,7 +14,7 @@ use Rattle.pool_history.specs.Sessions.{past_of, rules_of, script_in, script_of}
 use Rattle.history_laws.proofs.Legalities.{past-one}
 use Rattle.ledger_laws.specs.Keeping.{KeepsOn}
 use Rattle.channels.specs.Tables.{ChannelTable, IsTold}
-use Rattle.event_history.specs.Kept.{KeptHistory}
+use Rattle.event_store.specs.Kept.{KeptHistory}
 use Rattle.grant_table.specs.Tables.{GrantTable, OtherEventsLeaveGrants, ShowsGrants}
 use Rattle.payouts.specs.Tallies.{Remembers, Weighing}
 use Rattle.payouts.specs.Totals.{HasSums}

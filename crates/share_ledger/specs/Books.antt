@@ -1,24 +1,20 @@
 -- What a book answers, and what its keeper is told (this project's own).
 use Rattle.std.specs.Prelude.{◌≡◌, ℕ, Bool, true, false, Option, None, Some, IfSome, Result, Ok, Err, List, [], ◌∷◌, ◌++◌}
 use Rattle.std.specs.Option.{option_map}
+use Rattle.pool_io.specs.Seen.{KeeperSeen}
 use Rattle.pool_history.specs.declared.asking.Request.{Request}
 use Rattle.pool_history.specs.declared.events.Event.{Event}
 use Rattle.pool_history.specs.declared.refusals.BookError.{BookError}
 use Rattle.pool_history.specs.declared.refusals.BookError.TheVariants.{KeeperFault, Memory}
-use Rattle.pool_history.specs.declared.refusals.Failed.{Failed}
 use Rattle.pool_history.specs.declared.replies.Reply.{Reply}
-use Rattle.pool_history.specs.declared.settings.Rules.{Rules}
 use Rattle.pool_history.specs.Answering.{Answer}
-use Rattle.pool_history.specs.Crediting.{first_failed}
-use Rattle.pool_history.specs.Judging.{Share}
 use Rattle.pool_history.specs.Ledger.{kept_records}
-use Rattle.pool_history.specs.Sessions.{past_of, present, rules_of}
 use Rattle.pool_history.specs.Calls.{blames_keeper}
 
 -- the events, and the keeper of their records
-pub record BookSeen (K : Type 0) : Type 0 where
+pub record BookSeen : Type 0 where
   pub events : List Event
-  pub keeper : K
+  pub keeper : KeeperSeen
 
 -- the reply is that of the answer to the request, and the history grows by its events alone
 abbrev pub IsReplied : List Event → List Event → ℕ → Request → Reply → Type 0
@@ -40,10 +36,3 @@ IsUnused told = IfSome told (λ records. records ≡ [])
 abbrev pub is_keeper_fault : {X : Type 0} → Result X BookError → Bool
 is_keeper_fault (Ok x) = false
 is_keeper_fault (Err error) = blames_keeper error
-
--- it is the first condition that fails for a share of a worker's present session
-abbrev pub IsFirstFailed : List Event → ℕ → Share → Option Failed → Type 0
-IsFirstFailed history worker share code =
-    (rules : Rules) (session : ℕ) → rules_of (past_of history) ≡ Some rules
-    → present (past_of history) worker ≡ Some session
-    → code ≡ first_failed rules (past_of history) session share

@@ -20,7 +20,7 @@ use Rattle.pool_history.specs.Sessions.{past_of, rules_of, script_of}
 use Rattle.ledger_laws.specs.Keeping.{KeepsOn}
 use Rattle.channels.specs.Plans.{CanApply, planned_move}
 use Rattle.channels.specs.declared.plan.ChannelPlan.{ChannelPlan}
-use Rattle.event_history.specs.Blocks.{is_block_event}
+use Rattle.event_store.specs.Blocks.{is_block_event}
 use Rattle.grant_table.specs.Tables.{MaySpend, granted_count}
 use Rattle.payouts.specs.Plans.{BlockPlan, Planning}
 use Rattle.payouts.specs.Plans as tallies

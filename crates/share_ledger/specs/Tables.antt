@@ -9,7 +9,7 @@ use Rattle.pool_history.specs.Jobs.{job_moves}
 use Rattle.pool_history.specs.Sessions.{past_of, rules_of}
 use Rattle.ledger_laws.specs.Keeping.{IsKept}
 use Rattle.channels.specs.Tables.{ChannelTable, IsTold}
-use Rattle.event_history.specs.Kept.{KeptHistory}
+use Rattle.event_store.specs.Kept.{KeptHistory}
 use Rattle.grant_table.specs.Tables.{GrantTable, ShowsGrants}
 use Rattle.payouts.specs.Tallies.{Remembers, Weighing}
 use Rattle.payouts.specs.Totals.{HasSums}

@@ -2,8 +2,8 @@
 
 use crate::keeping::{carry_out, keep_start};
 use crate::tables::Tables;
-use event_history::History;
-use pool_history::{BookError, Failed, Reply, Request, Rules, Submission};
+use event_store::History;
+use pool_history::{BookError, Reply, Request, Rules};
 use pool_io::Keeper;
 use pool_summary::write_summary;
 use std::alloc::{AllocError, Global};
@@ -24,41 +24,40 @@ impl<K: Keeper> Model for Book<K> {
     ghost use Rattle.ledger_laws.specs.Growing.{hash_after};
     ghost use Rattle.share_ledger.specs.Books.{BookSeen, KeepsLedger};
 
-    ghost Value = { BookSeen K };
+    ghost Value = { BookSeen };
 
     ghost view = { λ book. record {
       events = book.tables.history.events;
-      keeper = book.keeper;
+      keeper = K.seen book.keeper;
     } };
 
     ghost invariant = { λ book. (book.hash ≡ hash_after book.tables.history.events)
-        × KeepsLedger (K.records book.keeper) book.tables.history.events };
+        × KeepsLedger (K.seen book.keeper).records book.tables.history.events };
 }
 
 impl<K: Keeper> Book<K> {
-    ghost use Rattle.std.specs.Prelude.{◌≡◌, ◌++◌, ◌<◌, ◌^◌, Some, [], ◌∷◌, length, IfErr, IfOk, IsSome, IsTrue, OnErr, OnOk};
+    ghost use Rattle.std.specs.Prelude.{◌≡◌, ◌++◌, ◌<◌, ◌^◌, Some, [], ◌∷◌, length, IfErr, IfOk, IsTrue, OnErr, OnOk};
     ghost use Rattle.pool_history.specs.declared.events.Event.TheVariants as event;
     ghost use Rattle.pool_history.specs.Accounts.{are_in_range};
-    ghost use Rattle.pool_history.specs.Judging.{share_of};
-    ghost use Rattle.pool_history.specs.Sessions.{past_of, present};
+    ghost use Rattle.pool_history.specs.Sessions.{past_of};
     ghost use Rattle.pool_history.specs.Summary.{summary_of, summary_text};
     ghost use Rattle.pool_history.specs.Calls.{blames_keeper};
     ghost use Rattle.ledger_laws.specs.Keeping.{IsKept};
     ghost use Rattle.pool_io.specs.Outside.{CountsFailure};
-    ghost use Rattle.share_ledger.specs.Books.{IsFirstFailed, IsReplied, IsUnused, KeepsInstead, KeepsLedger, is_keeper_fault};
+    ghost use Rattle.share_ledger.specs.Books.{IsReplied, IsUnused, KeepsInstead, KeepsLedger, is_keeper_fault};
 
     /// The book of a pool that starts, with a keeper that keeps nothing yet: the magic and the Start
     /// record are kept as one piece.
     pub fn new(alloc: Global, rules: Rules, keeper: K) -> Result<Book<K>, (K, BookError)>
         requires rules { IsTrue (are_in_range rules) }
-        requires unused { IsUnused (K.records keeper) }
+        requires unused { IsUnused (K.seen keeper).records }
         ensures ok { IfOk result (λ book. book.events ≡ event.Start rules ∷ []) }
         ensures kept { IfOk result (λ book.
-            KeepsInstead (K.records keeper) (K.records book.keeper) book.events) }
-        ensures counts { IfOk result (λ book. K.faults book.keeper ≡ K.faults keeper) }
-        ensures refused { IfErr result (λ failed. K.records failed.0 ≡ K.records keeper) }
+            KeepsInstead (K.seen keeper).records book.keeper.records book.events) }
+        ensures counts { IfOk result (λ book. book.keeper.faults ≡ (K.seen keeper).faults) }
+        ensures refused { IfErr result (λ failed. (K.seen failed.0).records ≡ (K.seen keeper).records) }
         ensures fault { IfErr result (λ failed. CountsFailure (blames_keeper failed.1)
-            (K.faults keeper) (K.faults failed.0)) }
+            (K.seen keeper).faults (K.seen failed.0).faults) }
     {
         let tables = match Tables::start(alloc, rules) {
             Ok(tables) => tables,
@@ -83,10 +82,10 @@ impl<K: Keeper> Book<K> {
         ensures answer { IfOk result
             (IsReplied self.old.events self.new.events worker request) }
         ensures refused { OnErr result (self.new.events ≡ self.old.events) }
-        ensures kept { KeepsInstead (K.records self.old.keeper) (K.records self.new.keeper)
+        ensures kept { KeepsInstead self.old.keeper.records self.new.keeper.records
             self.new.events }
-        ensures counts { CountsFailure (is_keeper_fault result) (K.faults self.old.keeper)
-            (K.faults self.new.keeper) }
+        ensures counts { CountsFailure (is_keeper_fault result) self.old.keeper.faults
+            self.new.keeper.faults }
     {
         let step = self.tables.prepare(self.alloc, worker, request);
         carry_out(
@@ -96,18 +95,6 @@ impl<K: Keeper> Book<K> {
             &mut self.tables,
             step,
         )
-    }
-
-    /// The first of the nine conditions that fails for a submission of a worker's present session.
-    /// It takes no memory.
-    pub fn judge(&self, worker: u32, sub: &Submission) -> Option<Failed>
-        requires { IsSome (present (past_of self.now.events) worker) }
-        ensures { IsFirstFailed self.now.events worker (share_of sub.now) result }
-    {
-        match self.tables.sessions.present(worker) {
-            Some(session) => self.tables.judge(session, sub),
-            None => None,
-        }
     }
 
     /// Appends the summary of the history, as text.
@@ -137,14 +124,14 @@ impl<K: Keeper> Book<K> {
     /// tells its records.
     pub fn history_is_kept(&self)
         ensures history { IsKept self.now.events }
-        ensures ledger { KeepsLedger (K.records self.now.keeper) self.now.events }
+        ensures ledger { KeepsLedger self.now.keeper.records self.now.events }
     {
         self.tables.are_kept()
     }
 
     /// The keeper, and the history.
     pub fn into_parts(self) -> (K, History)
-        ensures keeper { result.0 ≡ self.keeper }
+        ensures keeper { K.seen result.0 ≡ self.keeper }
         ensures history { result.1.events ≡ self.events }
     {
         let Book {

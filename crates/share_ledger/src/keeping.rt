@@ -30,15 +30,15 @@ pub(crate) fn carry_out<K: Keeper>(
 ) -> Result<Reply, BookError>
     requires ready { IfOk step (IsReady tables.old) }
     requires hashed { hash.old ≡ hash_after tables.old.history.events }
-    requires kept { KeepsLedger (K.records keeper.old) tables.old.history.events }
+    requires kept { KeepsLedger (K.seen keeper.old).records tables.old.history.events }
     ensures made { IfOk result
         (MakesStep step tables.old.history.events tables.new.history.events) }
     ensures same { OnErr result (tables.new.history.events ≡ tables.old.history.events) }
     ensures hash { hash.new ≡ hash_after tables.new.history.events }
-    ensures kept { KeepsInstead (K.records keeper.old) (K.records keeper.new)
+    ensures kept { KeepsInstead (K.seen keeper.old).records (K.seen keeper.new).records
         tables.new.history.events }
-    ensures counts { CountsFailure (is_keeper_fault result) (K.faults keeper.old)
-        (K.faults keeper.new) }
+    ensures counts { CountsFailure (is_keeper_fault result) (K.seen keeper.old).faults
+        (K.seen keeper.new).faults }
 {
     pieces_grow();
     ledgers_grow();
@@ -65,13 +65,13 @@ fn commit<K: Keeper>(
     ensures events { OnOk result (tables.new.history.events
         ≡ tables.old.history.events ++ planned.event ∷ []) }
     ensures hash { OnOk result (hash.new ≡ hash_after tables.new.history.events) }
-    ensures kept { OnOk result (AddsRecord (K.records keeper.old) (K.records keeper.new)
+    ensures kept { OnOk result (AddsRecord (K.seen keeper.old).records (K.seen keeper.new).records
         (piece_behind hash.old planned.event)) }
-    ensures counts { CountsFailure (is_keeper_fault result) (K.faults keeper.old)
-        (K.faults keeper.new) }
+    ensures counts { CountsFailure (is_keeper_fault result) (K.seen keeper.old).faults
+        (K.seen keeper.new).faults }
     ensures same { OnErr result (tables.new ≡ tables.old) }
     ensures same_hash { OnErr result (hash.new ≡ hash.old) }
-    ensures same_records { OnErr result (K.records keeper.new ≡ K.records keeper.old) }
+    ensures same_records { OnErr result ((K.seen keeper.new).records ≡ (K.seen keeper.old).records) }
 {
     let Planned {
         event,
@@ -97,11 +97,11 @@ fn keep<K: Keeper>(
     requires { HasRecord event.now }
     ensures over { (history : List Event) → hash.now ≡ hash_after history
         → IfOk result (λ next. next ≡ hash_after (history ++ event.now ∷ [])) }
-    ensures kept { OnOk result (AddsRecord (K.records keeper.old) (K.records keeper.new)
+    ensures kept { OnOk result (AddsRecord (K.seen keeper.old).records (K.seen keeper.new).records
         (piece_behind hash.now event.now)) }
-    ensures same { OnErr result (K.records keeper.new ≡ K.records keeper.old) }
-    ensures counts { CountsFailure (is_keeper_fault result) (K.faults keeper.old)
-        (K.faults keeper.new) }
+    ensures same { OnErr result ((K.seen keeper.new).records ≡ (K.seen keeper.old).records) }
+    ensures counts { CountsFailure (is_keeper_fault result) (K.seen keeper.old).faults
+        (K.seen keeper.new).faults }
 {
     let Ok(mut piece) = Vec::with_capacity(alloc, PIECE_ROOM) else {
         return Err(BookError::Memory);
@@ -123,11 +123,11 @@ pub(crate) fn keep_start<K: Keeper>(
 ) -> Result<[u8; 32], BookError>
     requires { HasRecord event.now }
     ensures hash { IfOk result (λ next. next ≡ hash_after (event.now ∷ [])) }
-    ensures kept { OnOk result (AddsRecord (K.records keeper.old) (K.records keeper.new)
+    ensures kept { OnOk result (AddsRecord (K.seen keeper.old).records (K.seen keeper.new).records
         (ledger_text (event.now ∷ []))) }
-    ensures same { OnErr result (K.records keeper.new ≡ K.records keeper.old) }
-    ensures counts { CountsFailure (is_keeper_fault result) (K.faults keeper.old)
-        (K.faults keeper.new) }
+    ensures same { OnErr result ((K.seen keeper.new).records ≡ (K.seen keeper.old).records) }
+    ensures counts { CountsFailure (is_keeper_fault result) (K.seen keeper.old).faults
+        (K.seen keeper.new).faults }
 {
     let Ok(mut piece) = Vec::with_capacity(alloc, PIECE_ROOM) else {
         return Err(BookError::Memory);
@@ -144,11 +144,11 @@ pub(crate) fn keep_start<K: Keeper>(
 /// Appends a piece; a keeper's want of memory is the book's.
 fn append<K: Keeper>(keeper: &mut K, piece: &[u8]) -> Result<(), BookError>
     requires { length piece.now ≤ 300100 }
-    ensures kept { OnOk result (AddsRecord (K.records keeper.old) (K.records keeper.new)
+    ensures kept { OnOk result (AddsRecord (K.seen keeper.old).records (K.seen keeper.new).records
         piece.now) }
-    ensures same { OnErr result (K.records keeper.new ≡ K.records keeper.old) }
-    ensures counts { CountsFailure (is_keeper_fault result) (K.faults keeper.old)
-        (K.faults keeper.new) }
+    ensures same { OnErr result ((K.seen keeper.new).records ≡ (K.seen keeper.old).records) }
+    ensures counts { CountsFailure (is_keeper_fault result) (K.seen keeper.old).faults
+        (K.seen keeper.new).faults }
 {
     match keeper.append(piece) {
         Ok(()) => Ok(()),

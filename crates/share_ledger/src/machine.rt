@@ -19,7 +19,7 @@ impl<K: Keeper> Machine for Book<K> {
 
     ghost events = { λ book. book.events };
 
-    ghost faults = { λ book. K.faults book.keeper };
+    ghost faults = { λ book. book.keeper.faults };
 
     ghost wants_memory = { pool_calls.wants_memory };
 

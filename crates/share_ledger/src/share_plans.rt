@@ -5,8 +5,8 @@ use crate::tables::Tables;
 use channels::{Channels, tables_show_histories};
 use payouts::{Tally, TallyPlan};
 use pool_history::{Checked, Event, Failed, Reply, Submission};
-use share_check::{brief_of, checked_headers_are_rebuilt, header_by_parts, header_of};
-use share_judging::{Passed, admit, late_refusal};
+use share_check::{brief_of, checked_headers_are_rebuilt, header_by_parts};
+use share_judging::{Passed, admit};
 use std::alloc::{AllocError, Global};
 use sv2_types::Blob;
 
@@ -19,24 +19,6 @@ impl Tables {
     ghost use Rattle.share_judging.specs.Passing.{IsPayable};
     ghost use Rattle.share_ledger.specs.Shares.{IsPassed, failed_within};
     ghost use Rattle.share_ledger.specs.Booking.{BooksPassed};
-
-    /// The first of the nine conditions that fails for a session's share. It takes no memory.
-    pub(crate) fn judge(&self, session: u32, sub: &Submission) -> Option<Failed>
-        ensures { result
-            ≡ failed_within (rules_of (past_in self.now)) (past_in self.now) session
-            (share_of sub.now) }
-    {
-        checked_headers_are_rebuilt();
-        tables_show_histories();
-        let rules = self.history.rules();
-        let found = match admit(rules, &self.channels, &self.jobs, session, sub) {
-            Ok(found) => found,
-            Err(code) => return Some(code),
-        };
-        let (header, hash) = header_of(&found.parts(), sub);
-        let credits = self.tally.pushes();
-        late_refusal(rules, found.class, &header, &hash, &self.headers, credits)
-    }
 
     /// What is needed to hash a share.
     pub(crate) fn brief(

@@ -1,7 +1,7 @@
 //! The history and the tables that are told of it.
 
 use channels::Channels;
-use event_history::History;
+use event_store::History;
 use grant_table::{Grants, other_events_leave_grants};
 use ledger_laws::{fields_fit, starts_are_kept};
 use payouts::{Rule, Tally};

@@ -1,7 +1,7 @@
 -- The status of a session that a command served (this project's own).
 use Rattle.pool_history.specs.declared.refusals.BookError.TheVariants as fault
-use Rattle.pool_turns.specs.declared.status.Status.{Status}
-use Rattle.pool_turns.specs.declared.status.Status.TheVariants as status
+use Rattle.stream_commands.specs.declared.status.Status.{Status}
+use Rattle.stream_commands.specs.declared.status.Status.TheVariants as status
 use Rattle.session_steps.specs.declared.ends.SessionEnd.{SessionEnd}
 use Rattle.session_steps.specs.declared.ends.SessionEnd.TheVariants as end
 use Rattle.solo_session.specs.declared.serving.SoloEnd.{SoloEnd}

@@ -4,18 +4,17 @@
 ghost use Rattle.std.specs.Prelude.{◌≡◌, ◌<◌, ◌==◌, ◌-◌};
 ghost use Rattle.pool_io.specs.Outside.{CountsFailure};
 ghost use Rattle.pool_settings.specs.Reading.{AreInRange};
-ghost use Rattle.pool_turns.specs.Statuses.{status_code};
-ghost use Rattle.settings_file.specs.Views.{IsHandedBack, view_of};
+ghost use Rattle.stream_commands.specs.Statuses.{status_code};
+ghost use Rattle.pool_io.specs.Hosts.{IsHandedBack};
 ghost use Rattle.share_ledger.specs.Books.{IsUnused};
-ghost use Rattle.solo_command.specs.Row.{KeeperRow, SessionRow, SoloRow, accounts_of};
+ghost use Rattle.solo_command.specs.Row.{KeeperRow, SessionRow, SoloRow};
 
 use crate::status::solo_status;
 use pool_io::Host;
-use pool_settings::Settings;
-use pool_turns::{Status, refusal_status};
-use settings_file::open_settings;
+use pool_settings::{Settings, open_settings};
 use solo_session::{Solo, serve_solo};
 use std::alloc::Global;
+use stream_commands::{Status, refusal_status};
 
 /// Serves one session of both roles over standard input and output, by the settings file of a name,
 /// and keeps its history in a new file of the other name.
@@ -25,18 +24,15 @@ pub fn serve_by_settings<H: Host>(
     settings_name: &str,
     ledger_name: &str,
 ) -> Status
-    ensures row { SoloRow
-        (accounts_of H.S.left H.T.held H.K.records H.S.faults H.T.faults H.K.faults)
-        settings_name.now ledger_name.now (view_of H.seen H.openings host.old)
-        (view_of H.seen H.openings host.new) result }
+    ensures row { SoloRow settings_name.now ledger_name.now (H.seen host.old) (H.seen host.new)
+        result }
 
     // Everything that the host gave has come back.
-    ensures back { IsHandedBack (view_of H.seen H.openings host.old)
-        (view_of H.seen H.openings host.new) }
+    ensures back { IsHandedBack (H.seen host.old) (H.seen host.new) }
 
     // The answer is a host's fault exactly where it was counted.
-    ensures counts { CountsFailure (status_code result == 7) (H.seen host.old).faults
-        (H.seen host.new).faults }
+    ensures counts { CountsFailure (status_code result == 7) (H.seen host.old).streams.faults
+        (H.seen host.new).streams.faults }
 {
     match open_settings(alloc, host, settings_name) {
         Ok(settings) => keep_session(alloc, host, settings, ledger_name),
@@ -52,14 +48,10 @@ fn keep_session<H: Host>(
     ledger_name: &str,
 ) -> Status
     requires ranges { AreInRange settings }
-    ensures row { KeeperRow
-        (accounts_of H.S.left H.T.held H.K.records H.S.faults H.T.faults H.K.faults)
-        settings ledger_name.now (view_of H.seen H.openings host.old)
-        (view_of H.seen H.openings host.new) result }
-    ensures back { IsHandedBack (view_of H.seen H.openings host.old)
-        (view_of H.seen H.openings host.new) }
-    ensures counts { CountsFailure (status_code result == 7) (H.seen host.old).faults
-        (H.seen host.new).faults }
+    ensures row { KeeperRow settings ledger_name.now (H.seen host.old) (H.seen host.new) result }
+    ensures back { IsHandedBack (H.seen host.old) (H.seen host.new) }
+    ensures counts { CountsFailure (status_code result == 7) (H.seen host.old).streams.faults
+        (H.seen host.new).streams.faults }
 {
     match host.open_keeper(ledger_name) {
         Ok(keeper) => serve_session(alloc, host, settings, keeper),
@@ -70,18 +62,15 @@ fn keep_session<H: Host>(
 /// The same by a keeper that the host gave.
 fn serve_session<H: Host>(alloc: Global, host: &mut H, settings: Settings, keeper: H::K) -> Status
     requires ranges { AreInRange settings }
-    requires out { 0 < (H.openings host.old).keepers.lent }
-    requires unused { IsUnused (H.K.records keeper) }
-    ensures row { SessionRow
-        (accounts_of H.S.left H.T.held H.K.records H.S.faults H.T.faults H.K.faults)
-        settings keeper (view_of H.seen H.openings host.old)
-        (view_of H.seen H.openings host.new) result }
-    ensures sources { (H.seen host.new).sources.lent ≡ (H.seen host.old).sources.lent }
-    ensures sinks { (H.seen host.new).sinks.lent ≡ (H.seen host.old).sinks.lent }
-    ensures keepers { (H.openings host.new).keepers.lent
-        ≡ (H.openings host.old).keepers.lent - 1 }
-    ensures counts { CountsFailure (status_code result == 7) (H.seen host.old).faults
-        (H.seen host.new).faults }
+    requires out { 0 < (H.seen host.old).openings.keepers.lent }
+    requires unused { IsUnused (H.K.seen keeper).records }
+    ensures row { SessionRow settings (H.K.seen keeper) (H.seen host.old) (H.seen host.new) result }
+    ensures sources { (H.seen host.new).streams.sources.lent ≡ (H.seen host.old).streams.sources.lent }
+    ensures sinks { (H.seen host.new).streams.sinks.lent ≡ (H.seen host.old).streams.sinks.lent }
+    ensures keepers { (H.seen host.new).openings.keepers.lent
+        ≡ (H.seen host.old).openings.keepers.lent - 1 }
+    ensures counts { CountsFailure (status_code result == 7) (H.seen host.old).streams.faults
+        (H.seen host.new).streams.faults }
 {
     let source = match host.input() {
         Ok(source) => source,

@@ -5,8 +5,8 @@ ghost use Rattle.solo_command.specs.Statuses.{status_of_session, status_of_solo}
 
 use pool_core::SessionEnd;
 use pool_history::BookError;
-use pool_turns::Status;
 use solo_session::SoloEnd;
+use stream_commands::Status;
 
 /// The status of a command by how its session ended, if one began.
 pub(crate) fn solo_status(end: SoloEnd) -> Status

@@ -3,9 +3,9 @@ use Rattle.std.proofs.Common.{ℕ, List, [], ◌∷◌, Option, Some, None, refl
 use Rattle.pool_history.specs.declared.events.Event.{Event}
 use Rattle.pool_history.specs.Calls.{PoolCall, has_keeper_failed}
 use Rattle.pool_io.specs.Outside.{CountsFailure}
-use Rattle.pool_sessions.specs.Answerers.{Acts}
+use Rattle.session_loop.specs.Answerers.{Acts}
 use Rattle.share_ledger.specs.Books.{BookSeen, KeepsInstead, KeepsLedger}
-use Rattle.sole_book.specs.Calling.{CallsBook}
+use Rattle.solo_session.specs.Calling.{CallsBook}
 use Rattle.solo_session.specs.Solo.{CountsCalls}
 
 -- calls are those of what is seen of who answers
@@ -15,12 +15,12 @@ acts_seen new see does old [] acts = ap see acts
 acts_seen new see does old (call ∷ calls) acts = (see acts.0, acts.1, acts_seen new see does acts.0 calls acts.2)
 
 -- the counts round the calls are the keeper's
-pub counts_calls : {K : Type 0} (records : K → Option (List (List ℕ))) (faults : K → ℕ) (old new : BookSeen K) (calls : List PoolCall)
-    → Acts (CallsBook records faults) old calls new → CountsCalls (faults old.keeper) calls (faults new.keeper)
-counts_calls {K} records faults old new [] acts = ap (λ (book : BookSeen K). faults book.keeper) acts
-counts_calls {K} records faults old new (call ∷ calls) acts =
+pub counts_calls : (old new : BookSeen) (calls : List PoolCall)
+    → Acts CallsBook old calls new → CountsCalls old.keeper.faults calls new.keeper.faults
+counts_calls old new [] acts = ap (λ (book : BookSeen). book.keeper.faults) acts
+counts_calls old new (call ∷ calls) acts =
     let first = acts.1 in
-    (first.count_before, subst (λ n. CountsFailure (has_keeper_failed call.outcome) (faults old.keeper) n) (sym first.count_after) first.counts, subst (λ n. CountsCalls n calls (faults new.keeper)) (sym first.count_after) (counts_calls records faults acts.0 new calls acts.2))
+    (first.count_before, subst (λ n. CountsFailure (has_keeper_failed call.outcome) old.keeper.faults n) (sym first.count_after) first.counts, subst (λ n. CountsCalls n calls new.keeper.faults) (sym first.count_after) (counts_calls acts.0 new calls acts.2))
 
 -- a keeper that began with a history's ledger and then went on with its calls has the ledger of all
 pub ledger_on : (before begun after : Option (List (List ℕ))) (start history : List Event) → KeepsInstead before begun start

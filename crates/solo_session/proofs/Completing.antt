@@ -2,7 +2,7 @@
 use Rattle.std.proofs.Common.{◌≡◌, ℕ, ◌<◌, ◌||◌, true, false, List, [], ◌∷◌, ◌++◌, Some, refl, ap, ◌∙◌, arith}
 use Rattle.std.specs.List.{AllByRecursion}
 use Rattle.pool_base.specs.Counts.{Rose}
-use Rattle.calls.specs.Calls.{IsOutcome, Outcome, Replied, Faulted}
+use Rattle.pool_base.specs.Calls.{IsOutcome, Outcome, Replied, Faulted}
 use Rattle.pool_io.specs.declared.turn.Turn.{Turn}
 use Rattle.pool_io.specs.Outside.{CountsFailure}
 use Rattle.pool_history.specs.declared.events.Event.{Event}
@@ -17,14 +17,14 @@ use Rattle.pool_history.specs.Answering.{Answer}
 use Rattle.pool_history.specs.Calls.{PoolCall, blames_keeper, wants_memory}
 use Rattle.session_steps.specs.declared.ends.SessionEnd.{SessionEnd}
 use Rattle.session_steps.specs.Steps.{calls_in}
-use Rattle.pool_sessions.specs.Good.{IsGoodEnd, IsGoodInput}
+use Rattle.session_loop.specs.Good.{IsGoodEnd, IsGoodInput}
 use Rattle.session_limits.specs.Ends.{EntersFirst, has_turned_away, is_enter, is_turned_away}
 use Rattle.session_limits.proofs.Entering.{enters_first}
 use Rattle.session_limits.proofs.Filling.{few_entered, only_enters}
 use Rattle.session_limits.proofs.Rising.{CountsThrough, rose_by}
 use Rattle.session_limits.proofs.Whole.{neither, unhindered_well}
-use Rattle.sole_book.specs.Calling.{StandInTurn}
-use Rattle.solo_session.specs.Solo.{Accounts, CountsCalls, IsServedWell, IsSoloSession, Outsides, ServesGoodInput, ServesSession, failures_of, sole_worker}
+use Rattle.solo_session.specs.Calling.{StandInTurn}
+use Rattle.solo_session.specs.Solo.{CountsCalls, IsServedWell, IsSoloSession, Outsides, ServesGoodInput, ServesSession, failures_of, sole_worker, solo_manner}
 use Rattle.solo_session.specs.declared.serving.SoloEnd.TheVariants as solo
 
 -- the counts round the calls go through them
@@ -59,20 +59,20 @@ unbegun_well fault.KeeperFault before now counts none = none (rose_by true befor
 unbegun_well fault.Memory before now counts none = tt
 
 -- a session that began
-over_well : {S T K : Type 0} {told : Accounts S T K} {rules : Rules} {idle_turns : ℕ} {old new : Outsides S T K} {reason : SessionEnd} → 0 < idle_turns
-    → IsSoloSession told rules idle_turns old new reason
-    → ((turns : List Turn) → told.left old.source ≡ Some turns → IsGoodInput role.Solo rules.version_rolling turns → IsGoodEnd reason)
-    → ServesGoodInput told rules idle_turns old new (solo.Over reason)
-over_well {told = told} {rules = rules} {idle_turns = idle_turns} {old = old} {new = new} {reason = reason} waits session good turns is input free =
-    unhindered_well sole_worker idle_turns role.Solo rules.version_rolling session.steps reason turns (told.left new.source) (failures_of told old) (failures_of told new)
+over_well : {rules : Rules} {idle_turns : ℕ} {old new : Outsides} {reason : SessionEnd} → 0 < idle_turns
+    → IsSoloSession rules idle_turns old new reason
+    → ((turns : List Turn) → old.source.left ≡ Some turns → IsGoodInput (solo_manner rules idle_turns) turns → IsGoodEnd reason)
+    → ServesGoodInput rules idle_turns old new (solo.Over reason)
+over_well {rules = rules} {idle_turns = idle_turns} {old = old} {new = new} {reason = reason} waits session good turns is input free =
+    unhindered_well sole_worker (solo_manner rules idle_turns) session.steps reason turns new.source.left (failures_of old) (failures_of new)
     waits (record { last = session.last; follows = session.follows; over = session.over }) (rw is at session.took) session.reads session.writes
-    (through_calls (told.keeper_faults old.keeper) (told.keeper_faults new.keeper) (calls_in session.steps) session.counts)
+    (through_calls old.keeper.faults new.keeper.faults (calls_in session.steps) session.counts)
     (all_in rules (calls_in session.steps) session.turns
-    (enters_first sole_worker idle_turns role.Solo rules.version_rolling session.steps session.last session.follows))
+    (enters_first sole_worker (solo_manner rules idle_turns) session.steps session.last session.follows))
     (good turns is input) free
 
-pub serves_session : {S T K : Type 0} {told : Accounts S T K} {rules : Rules} {idle_turns : ℕ} {old new : Outsides S T K} {reason : SessionEnd} → 0 < idle_turns
-    → IsSoloSession told rules idle_turns old new reason
-    → ((turns : List Turn) → told.left old.source ≡ Some turns → IsGoodInput role.Solo rules.version_rolling turns → IsGoodEnd reason)
-    → ServesSession told rules idle_turns old new (solo.Over reason)
+pub serves_session : {rules : Rules} {idle_turns : ℕ} {old new : Outsides} {reason : SessionEnd} → 0 < idle_turns
+    → IsSoloSession rules idle_turns old new reason
+    → ((turns : List Turn) → old.source.left ≡ Some turns → IsGoodInput (solo_manner rules idle_turns) turns → IsGoodEnd reason)
+    → ServesSession rules idle_turns old new (solo.Over reason)
 serves_session waits session good = record { did = session; complete = over_well waits session good }

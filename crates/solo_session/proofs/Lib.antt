@@ -1,2 +1,3 @@
+pub mod Calls
 pub mod Chained
 pub mod Completing

@@ -1,20 +1,20 @@
 //! The session, from its keeper to its end.
 
-ghost use Rattle.std.specs.Prelude.{◌≡◌, ◌<◌, ℕ, IsTrue, List, Some};
+ghost use Rattle.std.specs.Prelude.{◌≡◌, ◌<◌, IsTrue, List, Some};
 ghost use Rattle.pool_io.specs.declared.turn.Turn.{Turn};
-ghost use Rattle.pool_history.specs.declared.events.Role.TheVariants as role;
 ghost use Rattle.pool_history.specs.Accounts.{are_in_range};
-ghost use Rattle.pool_sessions.specs.Good.{IsGoodInput};
+ghost use Rattle.session_loop.specs.Good.{IsGoodInput};
 ghost use Rattle.share_ledger.specs.Books.{IsUnused};
-ghost use Rattle.solo_session.specs.Solo.{BlamesNoInput, ServesSession};
+ghost use Rattle.solo_session.specs.Solo.{BlamesNoInput, ServesSession, solo_manner};
 
+use crate::{SoleBook, sole_calls_go_on};
 use pool_core::SessionEnd;
 use pool_history::{BookError, Role, Rules};
 use pool_io::{Keeper, Limits, Sink, Source};
-use pool_links::Streams;
-use pool_sessions::converse;
+use pool_network::Streams;
+use session_loop::converse;
+use session_steps::Manner;
 use share_ledger::Book;
-use sole_book::{SoleBook, sole_calls_go_on};
 use std::alloc::Global;
 
 /// How it ended.
@@ -45,30 +45,27 @@ pub fn serve_solo<S: Source, T: Sink, K: Keeper>(
     limits: Limits,
 ) -> Solo<S, T, K>
     requires rules { IsTrue (are_in_range rules) }
-    requires unused { IsUnused (K.records keeper) }
+    requires unused { IsUnused (K.seen keeper).records }
     requires waits { 0 < limits.idle_turns }
-    ensures served { ServesSession (record {
-      left = S.left;
-      held = T.held;
-      records = K.records;
-      read_faults = S.faults;
-      write_faults = T.faults;
-      keeper_faults = K.faults;
-    }) rules limits.idle_turns (record {
-      source = source;
-      sink = sink;
-      keeper = keeper;
+    ensures served { ServesSession rules limits.idle_turns (record {
+      source = S.seen source;
+      sink = T.seen sink;
+      keeper = K.seen keeper;
     }) (record {
-      source = result.source;
-      sink = result.sink;
-      keeper = result.keeper;
+      source = S.seen result.source;
+      sink = T.seen result.sink;
+      keeper = K.seen result.keeper;
     }) result.end }
 
     // Input that is to blame for nothing isn't blamed.
-    ensures good { (told : List Turn) → S.left source ≡ Some told
-        → IsGoodInput role.Solo rules.version_rolling told → BlamesNoInput result.end }
+    ensures good { (told : List Turn) → (S.seen source).left ≡ Some told
+        → IsGoodInput (solo_manner rules limits.idle_turns) told → BlamesNoInput result.end }
 {
-    let rolling = rules.version_rolling;
+    let manner = Manner {
+        role: Role::Solo,
+        rolling: rules.version_rolling,
+        idle_turns: limits.idle_turns,
+    };
     let book = match Book::new(alloc, rules, keeper) {
         Ok(book) => book,
         Err((keeper, cause)) => {
@@ -82,8 +79,8 @@ pub fn serve_solo<S: Source, T: Sink, K: Keeper>(
     };
     let mut streams = Streams { source, sink };
     let mut sole = SoleBook { book, worker: 0 };
-    sole_calls_go_on::<K>();
-    let end = converse(alloc, &mut streams, &mut sole, Role::Solo, rolling, limits);
+    sole_calls_go_on();
+    let end = converse(alloc, &mut streams, &mut sole, manner);
     sole.book.history_is_kept();
     let SoleBook { book, worker: _ } = sole;
     let Streams { source, sink } = streams;

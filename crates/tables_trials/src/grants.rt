@@ -3,7 +3,7 @@
 use grant_table::Grants;
 use std::alloc::Global;
 use sv2_types::{Hashes, Str255};
-use trial_lines::{Subject, bytes, told, word};
+use trial_support::{Subject, bytes, told, word};
 
 /// Grants.
 #[derive(Drop)]

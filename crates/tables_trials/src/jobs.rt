@@ -5,7 +5,7 @@ use pool_history::{CustomData, JobState, TemplateData, TipData};
 use std::alloc::Global;
 use template_jobs::{Job, Jobs, custom_of, template_of, tip_of};
 use template_msgs::Template;
-use trial_lines::{Subject, bytes, hex_of, number, told, word};
+use trial_support::{Subject, bytes, hex_of, number, told, word};
 
 /// The script of the pool.
 const SCRIPT: [u8; 1] = [0x51];

@@ -5,7 +5,7 @@ ghost use Rattle.std.specs.Prelude.{◌≤◌, IfSome};
 use pool_history::Lead;
 use prefix_space::Space;
 use std::alloc::Global;
-use trial_lines::{Subject, bytes, hex_of, number, told, word};
+use trial_support::{Subject, bytes, hex_of, number, told, word};
 
 /// Held leads.
 #[derive(Drop)]

@@ -15,7 +15,7 @@ mod tallies;
 
 use anyhow::{Result, bail};
 use std::fs;
-use trial_lines::{Subject, try_cases};
+use trial_support::{Subject, try_cases};
 
 fn main(rt: HostRuntime) -> Result<()> {
     try_file::<printed::Printed>(&rt, "printed.txt")?;

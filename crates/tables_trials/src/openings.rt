@@ -4,7 +4,7 @@ use channels::{Channel, Channels};
 use pool_history::{Class, Kind, OpenAsk, Opened as Opening, Rules, Users};
 use std::alloc::Global;
 use sv2_types::{Blob, Str255, U256};
-use trial_lines::{Subject, bytes, hex_of, kind, number, text, told, word};
+use trial_support::{Subject, bytes, hex_of, kind, number, text, told, word};
 
 /// A table of open channels, and rules by which the user a is known and the least class is 58.
 #[derive(Drop)]

@@ -7,7 +7,7 @@ use pool_history::{Cause, CustomError, Failed, OpenError, UpdateError};
 use prefix_space::SpaceError;
 use std::alloc::Global;
 use std::str;
-use trial_lines::{Subject, number, told, word};
+use trial_support::{Subject, number, told, word};
 
 /// The conditions of a share.
 const CONDITIONS: [Failed; 9] = [

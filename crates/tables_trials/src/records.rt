@@ -9,7 +9,7 @@ use ledger_records::{
 };
 use pool_history::Event;
 use std::alloc::Global;
-use trial_lines::{Subject, bytes, hex_of, told, word};
+use trial_support::{Subject, bytes, hex_of, told, word};
 
 /// A ledger that is written piece by piece, and the hash at its end.
 #[derive(Drop)]

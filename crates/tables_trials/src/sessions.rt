@@ -3,7 +3,7 @@
 use pool_history::Role;
 use session_table::Sessions;
 use std::alloc::Global;
-use trial_lines::{Subject, number, role, told, word};
+use trial_support::{Subject, number, role, told, word};
 
 /// Sessions.
 #[derive(Drop)]

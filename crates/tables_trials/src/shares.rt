@@ -9,7 +9,7 @@ use share_check::{
 };
 use share_judging::Headers;
 use std::alloc::Global;
-use trial_lines::{Subject, bytes, hex_of, kind, number, told, word};
+use trial_support::{Subject, bytes, hex_of, kind, number, told, word};
 
 /// The headers that were credited.
 #[derive(Drop)]

@@ -8,7 +8,7 @@ use payouts::{Rule, Settlement, Tally, quotient};
 use pool_summary::write_summary;
 use std::alloc::Global;
 use std::str;
-use trial_lines::{Subject, number, text, told, word};
+use trial_support::{Subject, number, text, told, word};
 
 /// What the accounts of pseudo-random pushes are called.
 const NAMES: [&str; 4] = ["a", "b", "c", "d"];

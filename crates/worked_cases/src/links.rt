@@ -1,8 +1,7 @@
 //! Links that wait for each other, so that sessions meet in one process, and the doors to them.
 
-use pool_doors::{Came, Door, MemDoor};
 use pool_io::{SinkFailed, Took};
-use pool_links::Link;
+use pool_network::{Came, Door, Link, MemDoor};
 use std::collections::VecDeque;
 use std::sync::atomic::{AtomicU64, Ordering};
 
@@ -40,13 +39,10 @@ impl GatedLink<'_> {
 impl Link for GatedLink<'_> {
     ghost use Rattle.std.specs.Prelude.{None};
 
-    ghost read_faults = { λ _. 0 };
-
-    ghost write_faults = { λ _. 0 };
-
-    ghost left = { λ _. None };
-
-    ghost held = { λ _. None };
+    ghost seen = { λ _. record {
+      source = record { faults = 0; left = None };
+      sink = record { faults = 0; held = None };
+    } };
 
     fn take(&mut self, buffer: &mut [u8]) -> Took {
         let Some(mut gate) = self.coming.pop_front() else {
@@ -114,19 +110,16 @@ impl<'a> CaseDoor<'a> {
 
 impl<'a> Door for CaseDoor<'a> {
     ghost use Rattle.std.specs.Prelude.{None};
-    ghost use Rattle.pool_doors.specs.Memory.{door_faults, links_out};
 
     type L = GatedLink<'a>;
 
-    ghost faults = { λ door. door_faults door.door };
-
-    ghost asked = { λ door. door.asked };
-
-    ghost coming = { λ _. None };
-
-    ghost out = { λ door. links_out door.door };
-
-    ghost back = { λ _. None };
+    ghost seen = { λ door. record {
+      faults = door.door.failing.faults;
+      asked = door.asked;
+      coming = None;
+      out = door.door.links.lent;
+      back = None;
+    } };
 
     fn accept(&mut self) -> Came<GatedLink<'a>> {
         self.asked = self.asked.saturating_add(1);

@@ -1,8 +1,9 @@
 //! A host in memory.
 
-ghost use Rattle.std.specs.Prelude.{◌≡◌, ◌<◌, ◌++◌, [], ◌∷◌, Some, IfOk, vec_len, vec_capacity};
+ghost use Rattle.std.specs.Prelude.{◌≡◌, ◌<◌, ◌++◌, [], ◌∷◌, Some, IfOk, map, vec_len, vec_capacity};
 ghost use Rattle.std.specs.Option.{option_map};
 ghost use Rattle.pool_io.specs.declared.turn.Turn.{Turn as Coming};
+ghost use Rattle.pool_io.specs.Memory.{keeper_seen, sink_seen, source_seen};
 ghost use Rattle.pool_io.specs.MemoryHost.{turns_named};
 
 use super::failing::FailingCalls;
@@ -46,18 +47,18 @@ pub struct MemHost {
 
 impl MemHost {
     ghost use Rattle.std.specs.Prelude.{None};
-    ghost use Rattle.pool_io.specs.MemoryHost.{host_openings, host_seen};
+    ghost use Rattle.pool_io.specs.MemoryHost.{host_seen};
 
     /// A host without files.
     pub fn new(alloc: Global, input: Script<Turn>, output: Script<u8>, failing: Vec<u64>) -> MemHost
-        ensures seen { host_seen result ≡ record {
+        ensures streams { (host_seen result).streams ≡ record {
           faults = 0;
           input = Some input.contents.items;
           output = Some output.contents.items;
           sources = record { lent = 0; back = [] };
           sinks = record { lent = 0; back = [] };
         } }
-        ensures openings { host_openings result ≡ record {
+        ensures openings { (host_seen result).openings ≡ record {
           calls = Some [];
           brings = λ _. None;
           keepers = record { lent = 0; back = [] };
@@ -80,8 +81,8 @@ impl MemHost {
     /// The same host with these files, whose first keeper fails at the appends whose numbers are
     /// listed.
     pub fn with_files(self, files: Vec<MemFile>, failing_appends: Vec<u64>) -> MemHost
-        ensures seen { host_seen result ≡ host_seen self }
-        ensures openings { host_openings result ≡ record (host_openings self) {
+        ensures streams { (host_seen result).streams ≡ (host_seen self).streams }
+        ensures openings { (host_seen result).openings ≡ record (host_seen self).openings {
           brings = λ name. turns_named files.items name;
         } }
     {
@@ -93,28 +94,28 @@ impl MemHost {
 
     /// The opening calls so far, in their order.
     pub fn calls(&self) -> &[Opening]
-        ensures { Some result.now ≡ (host_openings self.now).calls }
+        ensures { Some result.now ≡ (host_seen self.now).openings.calls }
     {
         &self.calls
     }
 
     /// The sinks that came back, in their order.
     pub fn sinks(&self) -> &[MemSink]
-        ensures { result.now ≡ (host_seen self.now).sinks.back }
+        ensures { map sink_seen result.now ≡ (host_seen self.now).streams.sinks.back }
     {
         self.sinks.items()
     }
 
     /// The sources that came back, in their order.
     pub fn sources(&self) -> &[MemSource]
-        ensures { result.now ≡ (host_seen self.now).sources.back }
+        ensures { map source_seen result.now ≡ (host_seen self.now).streams.sources.back }
     {
         self.sources.items()
     }
 
     /// The keepers that came back, in their order.
     pub fn keepers(&self) -> &[MemKeeper]
-        ensures { result.now ≡ (host_openings self.now).keepers.back }
+        ensures { map keeper_seen result.now ≡ (host_seen self.now).openings.keepers.back }
     {
         self.keepers.items()
     }
@@ -158,8 +159,8 @@ fn copy_of(alloc: Global, turn: &Turn) -> Result<Turn, AllocError>
 
 /// A source that brings these turns, and fails at the calls whose numbers are listed.
 fn source_of(alloc: Global, script: &Script<Turn>) -> Result<MemSource, AllocError>
-    ensures turns { IfOk result (λ source. source.source ≡ script.now.contents.items) }
-    ensures fresh { IfOk result (λ source. source.failing.faults ≡ 0) }
+    ensures { IfOk result (λ source.
+        source_seen source ≡ record { faults = 0; left = Some script.now.contents.items }) }
 {
     let mut turns = Vec::new(alloc);
     for turn in &script.contents {
@@ -170,7 +171,7 @@ fn source_of(alloc: Global, script: &Script<Turn>) -> Result<MemSource, AllocErr
 }
 
 impl Host for MemHost {
-    ghost use Rattle.pool_io.specs.MemoryHost.{host_openings, host_seen};
+    ghost use Rattle.pool_io.specs.MemoryHost.{host_seen};
 
     type S = MemSource;
 
@@ -179,8 +180,6 @@ impl Host for MemHost {
     type K = MemKeeper;
 
     ghost seen = { host_seen };
-
-    ghost openings = { host_openings };
 
     fn input(&mut self) -> Result<MemSource, HostError> {
         if self.calls.reserve(1).is_err() {

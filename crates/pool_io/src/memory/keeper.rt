@@ -68,9 +68,7 @@ impl SureKeeper {
 impl Keeper for SureKeeper {
     ghost use Rattle.std.specs.Prelude.{Some};
 
-    ghost faults = { λ _. 0 };
-
-    ghost records = { λ k. Some k };
+    ghost seen = { λ k. record { faults = 0; records = Some k } };
 
     fn append(&mut self, bytes: &[u8]) -> Result<(), KeeperFailed> {
         let Ok(bytes) = Vec::from_slice(self.alloc, bytes) else {
@@ -92,13 +90,12 @@ pub struct MemKeeper {
 }
 
 impl MemKeeper {
-    ghost use Rattle.std.specs.Prelude.{[]};
-    ghost use Rattle.pool_io.specs.Memory.{keeper_records, keeper_faults};
+    ghost use Rattle.std.specs.Prelude.{[], Some};
+    ghost use Rattle.pool_io.specs.Memory.{keeper_seen};
 
     /// A keeper that keeps no record yet.
     pub fn new(alloc: Global, failing: Vec<u64>) -> MemKeeper
-        ensures empty { keeper_records result ≡ [] }
-        ensures fresh { keeper_faults result ≡ 0 }
+        ensures { keeper_seen result ≡ record { faults = 0; records = Some [] } }
     {
         MemKeeper {
             keeper: SureKeeper::new(alloc),
@@ -108,19 +105,16 @@ impl MemKeeper {
 
     /// The records, from the first on.
     pub fn records(&self) -> &[KeptRecord]
-        ensures { result.now ≡ keeper_records self.now }
+        ensures { Some result.now ≡ (keeper_seen self.now).records }
     {
         self.keeper.records()
     }
 }
 
 impl Keeper for MemKeeper {
-    ghost use Rattle.std.specs.Prelude.{Some};
-    ghost use Rattle.pool_io.specs.Memory.{keeper_records, keeper_faults};
+    ghost use Rattle.pool_io.specs.Memory.{keeper_seen};
 
-    ghost faults = { keeper_faults };
-
-    ghost records = { λ k. Some (keeper_records k) };
+    ghost seen = { keeper_seen };
 
     fn append(&mut self, bytes: &[u8]) -> Result<(), KeeperFailed> {
         if self.failing.next_fails() {

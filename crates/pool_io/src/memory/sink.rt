@@ -44,9 +44,7 @@ impl SureSink {
 impl Sink for SureSink {
     ghost use Rattle.std.specs.Prelude.{Some};
 
-    ghost faults = { λ _. 0 };
-
-    ghost held = { λ s. Some s };
+    ghost seen = { λ s. record { faults = 0; held = Some s } };
 
     fn put(&mut self, piece: &[u8]) -> Result<usize, SinkFailed> {
         match self.bytes.extend_from_slice(piece) {
@@ -65,12 +63,12 @@ pub struct MemSink {
 }
 
 impl MemSink {
-    ghost use Rattle.pool_io.specs.Memory.{sink_bytes, sink_faults};
+    ghost use Rattle.std.specs.Prelude.{Some};
+    ghost use Rattle.pool_io.specs.Memory.{sink_seen};
 
     /// A sink that holds these bytes already.
     pub fn new(bytes: Vec<u8>, failing: Vec<u64>) -> MemSink
-        ensures bytes { sink_bytes result ≡ bytes.items }
-        ensures fresh { sink_faults result ≡ 0 }
+        ensures { sink_seen result ≡ record { faults = 0; held = Some bytes.items } }
     {
         MemSink {
             sink: SureSink::of(bytes),
@@ -79,19 +77,16 @@ impl MemSink {
     }
 
     pub fn bytes(&self) -> &[u8]
-        ensures { result.now ≡ sink_bytes self.now }
+        ensures { Some result.now ≡ (sink_seen self.now).held }
     {
         self.sink.bytes()
     }
 }
 
 impl Sink for MemSink {
-    ghost use Rattle.std.specs.Prelude.{Some};
-    ghost use Rattle.pool_io.specs.Memory.{sink_bytes, sink_faults};
+    ghost use Rattle.pool_io.specs.Memory.{sink_seen};
 
-    ghost faults = { sink_faults };
-
-    ghost held = { λ s. Some (sink_bytes s) };
+    ghost seen = { sink_seen };
 
     fn put(&mut self, piece: &[u8]) -> Result<usize, SinkFailed> {
         if self.failing.next_fails() {

@@ -42,9 +42,7 @@ impl SureSource {
 impl Source for SureSource {
     ghost use Rattle.std.specs.Prelude.{Some};
 
-    ghost faults = { λ _. 0 };
-
-    ghost left = { λ s. Some s };
+    ghost seen = { λ s. record { faults = 0; left = Some s } };
 
     fn take(&mut self, buffer: &mut [u8]) -> Took {
         let Some(turn) = self.turns.get(self.next) else {
@@ -79,11 +77,11 @@ pub struct MemSource {
 }
 
 impl MemSource {
-    ghost use Rattle.pool_io.specs.Memory.{source_turns, source_faults};
+    ghost use Rattle.std.specs.Prelude.{Some};
+    ghost use Rattle.pool_io.specs.Memory.{source_seen};
 
     pub fn new(turns: Vec<Turn>, failing: Vec<u64>) -> MemSource
-        ensures turns { source_turns result ≡ turns.items }
-        ensures fresh { source_faults result ≡ 0 }
+        ensures { source_seen result ≡ record { faults = 0; left = Some turns.items } }
     {
         MemSource {
             source: SureSource::of(turns),
@@ -93,12 +91,9 @@ impl MemSource {
 }
 
 impl Source for MemSource {
-    ghost use Rattle.std.specs.Prelude.{Some};
-    ghost use Rattle.pool_io.specs.Memory.{source_turns, source_faults};
+    ghost use Rattle.pool_io.specs.Memory.{source_seen};
 
-    ghost faults = { source_faults };
-
-    ghost left = { λ s. Some (source_turns s) };
+    ghost seen = { source_seen };
 
     fn take(&mut self, buffer: &mut [u8]) -> Took {
         if self.failing.next_fails() {

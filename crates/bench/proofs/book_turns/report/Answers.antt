@@ -1,5 +1,5 @@
 use denote.Param.Send.{sendable}
-use Rattle.pool_trials.proofs.Crossing.{sure_book_send}
+use Rattle.trial_support.proofs.Crossing.{sure_book_send}
 use Rattle.bench.proofs.Replies.{error_send, reply_send}
 use Rattle.bench.proofs.book_turns.report.Goals as goal
 

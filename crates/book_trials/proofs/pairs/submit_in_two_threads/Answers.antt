@@ -1,5 +1,5 @@
 use denote.Param.Send.{sendable}
-use Rattle.pool_trials.proofs.Crossing.{sure_desk_sync, sure_pass_send}
+use Rattle.trial_support.proofs.Crossing.{sure_desk_sync, sure_pass_send}
 use Rattle.book_trials.proofs.pairs.submit_in_two_threads.Goals as goal
 
 pub join-requires-send-F : goal.join-requires-send-F

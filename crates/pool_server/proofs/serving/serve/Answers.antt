@@ -15,4 +15,4 @@ finish-requires-clause-complete g c = every_worker c.args.doors c.in-Ok-new.ensu
 
 pub returns-in-Ok-new : goal.returns-in-Ok-new
 returns-in-Ok-new g c =
-    has_served c.args.doors c.in-Ok-new.ensures (omega (arith, c.args.doors.ok.0, c.len-2.ensures, c.requires.few)) c.run-tended.ensures _ c.finish.result c.finish.ensures
+    has_served c.args.doors c.in-Ok-new.ensures (omega (arith, c.args.doors.ok.0, c.len-2.ensures, c.requires.few)) c.run-tended.ensures c.finish.result c.finish.ensures

@@ -1,10 +1,11 @@
 use Rattle.std.proofs.Common.{inl, inr, refl}
+use Rattle.serve_command.specs.Serving.{reached_seen}
 use Rattle.serve_command.proofs.command.serve_book.Goals as goal
 
 pub returns-in-Ok-clause-row : goal.returns-in-Ok-clause-row
 returns-in-Ok-clause-row g c = inl (record {
   begun = c.in-Ok.book;
-  reached = c.serve_on_network-reached.result;
+  reached = reached_seen c.serve_on_network-reached.result;
   begins = c.in-Ok.ensures.ok;
   kept = c.in-Ok.ensures.kept;
   unfailed = c.in-Ok.ensures.counts;
@@ -15,10 +16,10 @@ returns-in-Ok-clause-row g c = inl (record {
 pub returns-clause-row : goal.returns-clause-row
 returns-clause-row g c = inr (record {
   cause = c.in-Err.cause;
-  keeper_back = c.in-Err.keeper;
+  keeper_back = g.H.K.Keeper.seen c.in-Err.keeper;
   records = c.in-Err.ensures.refused;
   counts = c.in-Err.ensures.fault;
-  back = record { seen = c.done_keeper.ensures.seen; openings = c.done_keeper.ensures.back };
+  back = record { streams = c.done_keeper.ensures.streams; openings = c.done_keeper.ensures.back };
   network = refl;
   answered = c.start_status.ensures;
 })

@@ -3,4 +3,4 @@ use Rattle.session_limits.proofs.Standing.{ends_show}
 use Rattle.session_limits.proofs.laws.bytes_out_shows_bytes.Goals as goal
 
 pub returns : goal.returns
-returns c = λ worker idle_turns role rolling steps waits comes. ends_show worker idle_turns role rolling steps comes.last end.BytesOut waits comes.follows comes.over
+returns c = λ worker manner steps waits comes. ends_show worker manner steps comes.last end.BytesOut waits comes.follows comes.over

@@ -1,4 +1,4 @@
-use Rattle.std.proofs.Common.{◌+◌, ◌-◌, ap, arith, inl, refl, ◌∙◌}
+use Rattle.std.proofs.Common.{◌+◌, ◌-◌, arith, inl, refl}
 use Rattle.solo_command.proofs.command.serve_session.Goals as goal
 
 pub returns-clause-row : goal.returns-clause-row
@@ -8,18 +8,27 @@ returns-clause-row g c =
     let put = c.in-Ok-output.ensures.given in
     let source_back = c.done_source-2.ensures.back in
     let sink_back = c.done_sink.ensures.back in
-    let keeper_back = c.done_keeper-2.ensures.seen in
+    let keeper_back = c.done_keeper-2.ensures.streams in
+    let sink_told = rw given at c.in-Ok-output.ensures.told in
     inl (
       solo.end,
       c.solo_status.ensures,
       record {
-        given = record { source = c.in-Ok.source; sink = c.in-Ok-output.sink; keeper = c.args.keeper };
-        back = record { source = solo.source; sink = solo.sink; keeper = solo.keeper };
-        keeper_given = refl;
-        source_given = c.in-Ok.ensures.told;
-        sink_given = c.in-Ok-output.ensures.told ∙ ap (λ seen. seen.output) given;
-        unread = c.in-Ok.ensures.fresh;
-        unwritten = c.in-Ok-output.ensures.fresh;
+        given = record {
+          source = g.H.S.Source.seen c.in-Ok.source;
+          sink = g.H.T.Sink.seen c.in-Ok-output.sink;
+          keeper = g.H.K.Keeper.seen c.args.keeper;
+        };
+        back = record {
+          source = g.H.S.Source.seen solo.source;
+          sink = g.H.T.Sink.seen solo.sink;
+          keeper = g.H.K.Keeper.seen solo.keeper;
+        };
+        given_are = λ i. record {
+          source = c.in-Ok.ensures.told i;
+          sink = sink_told i;
+          keeper = g.H.K.Keeper.seen c.args.keeper;
+        };
         served = c.serve_solo-source.ensures.served;
         good = c.serve_solo-source.ensures.good;
         sources = rw (keeper_back, sink_back, source_back, put, given) (record { lent = omega arith; back = refl });

@@ -1,6 +1,6 @@
 use Rattle.std.proofs.Common.{ap, subst, refl, ◌∙◌, ◌++◌}
 use Rattle.session_steps.specs.Steps.{calls_in}
-use Rattle.sole_book.specs.Calling.{CallsBook, StandInTurn, added_in}
+use Rattle.solo_session.specs.Calling.{CallsBook, StandInTurn, added_in}
 use Rattle.solo_session.specs.Solo.{CountsCalls}
 use Rattle.solo_session.proofs.Chained.{acts_seen, counts_calls, ledger_on}
 use Rattle.solo_session.proofs.Completing.{serves_session, unbegun_well}
@@ -16,7 +16,7 @@ returns-in-Err-clause-served g c =
         records = unbegun.refused;
         counts = unbegun.fault;
       };
-      complete = λ turns is input free. unbegun_well c.in-Err.cause (g.K.Keeper.faults c.args.keeper) (g.K.Keeper.faults c.in-Err.keeper) unbegun.fault free.keeper;
+      complete = λ turns is input free. unbegun_well c.in-Err.cause (g.K.Keeper.seen c.args.keeper).faults (g.K.Keeper.seen c.in-Err.keeper).faults unbegun.fault free.keeper;
     }
 
 pub returns-in-Err-clause-good : goal.returns-in-Err-clause-good
@@ -24,13 +24,11 @@ returns-in-Err-clause-good g c = λ told is input. tt
 
 pub returns-clause-served : goal.returns-clause-served
 returns-clause-served g c =
-    let records = g.K.Keeper.records in
-    let faults = g.K.Keeper.faults in
     let begun = c.in-Ok.book in
     let session = c.converse-end.ensures.session in
     let sole = c.converse-end.new.acting in
     let calls = calls_in session.runs.steps in
-    let acts = acts_seen sole (λ s. s.book) (CallsBook records faults) (record { book = begun; worker = 0 }) calls session.runs.acts in
+    let acts = acts_seen sole (λ s. s.book) CallsBook (record { book = begun; worker = 0 }) calls session.runs.acts in
     let goes = c.sole_calls_go_on.ensures begun sole.book calls acts in
     serves_session c.requires.waits (record {
       steps = session.runs.steps;
@@ -45,11 +43,11 @@ returns-clause-served g c =
       turns = subst (λ h. StandInTurn h calls) c.in-Ok.ensures.ok goes.turns;
       kept = c.history_is_kept.ensures.history;
       ledger = rw c.into_parts-keeper.ensures.keeper
-          (ledger_on (records c.args.keeper) (records begun.keeper) (records sole.book.keeper) begun.events sole.book.events c.in-Ok.ensures.kept goes.kept);
+          (ledger_on (g.K.Keeper.seen c.args.keeper).records begun.keeper.records sole.book.keeper.records begun.events sole.book.events c.in-Ok.ensures.kept goes.kept);
       reads = c.converse-end.ensures.reads;
       writes = c.converse-end.ensures.writes;
       counts = rw c.into_parts-keeper.ensures.keeper
-          (subst (λ n. CountsCalls n calls (faults sole.book.keeper)) c.in-Ok.ensures.counts (counts_calls records faults begun sole.book calls acts));
+          (subst (λ n. CountsCalls n calls sole.book.keeper.faults) c.in-Ok.ensures.counts (counts_calls begun sole.book calls acts));
     }) c.converse-end.ensures.good
 
 pub returns-clause-good : goal.returns-clause-good

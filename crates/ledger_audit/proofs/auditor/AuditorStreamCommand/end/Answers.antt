@@ -1,6 +1,6 @@
 use Rattle.std.proofs.Common.{◌≡◌, arith, sym, vec_len, ◌∙◌}
 use Rattle.std.proofs.lemmas.Bool.{eqb-false}
-use Rattle.pool_turns.specs.declared.command.Stop.TheVariants as stop
+use Rattle.stream_commands.specs.declared.command.Stop.TheVariants as stop
 use Rattle.ledger_audit.proofs.Holding.{ends_before_magic, ends_inside}
 use Rattle.ledger_audit.proofs.auditor.AuditorStreamCommand.end.Goals as goal
 

@@ -1,5 +1,5 @@
 use Rattle.std.proofs.lemmas.Result.{err_from_is_err_and}
-use Rattle.pool_turns.proofs.Pieces.{piece_more, piece_refused}
+use Rattle.stream_commands.proofs.Pieces.{piece_more, piece_refused}
 use Rattle.ledger_audit.specs.Auditing.{HasAudited, HoldsBytes}
 use Rattle.ledger_audit.specs.Duty.{IsPrinted, IsRefusedAs}
 use Rattle.ledger_audit.proofs.Holding.{fed_holds, room_left}

@@ -1,5 +1,5 @@
 use Rattle.std.proofs.Common.{sym, ◌∙◌, ◌≡◌, ap, subst}
-use Rattle.event_history.specs.Kept.{KeptHistory}
+use Rattle.event_store.specs.Kept.{KeptHistory}
 use Rattle.share_ledger.proofs.Answering.{prepared_ready, prepared_step}
 use Rattle.share_ledger.proofs.tables.Tables.prepare.Goals as goal
 

@@ -1,5 +1,0 @@
-use Rattle.calls.proofs.Behind.{calls-all}
-use Rattle.calls.proofs.laws.calls_are_all.Goals as goal
-
-pub returns : goal.returns
-returns c s = calls-all {E = c.row.E.Denot} {Q = c.row.Q.Denot} {R = c.row.R.Denot} {F = c.row.F.Denot}

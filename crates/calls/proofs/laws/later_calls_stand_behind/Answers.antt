@@ -1,5 +1,0 @@
-use Rattle.calls.proofs.Behind.{later-behind}
-use Rattle.calls.proofs.laws.later_calls_stand_behind.Goals as goal
-
-pub returns : goal.returns
-returns c s = later-behind {E = c.row.E.Denot} {Q = c.row.Q.Denot} {R = c.row.R.Denot} {F = c.row.F.Denot}

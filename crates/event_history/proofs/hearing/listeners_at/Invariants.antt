@@ -1,9 +1,0 @@
-use Rattle.event_history.specs.Chains.{reach}
-use Rattle.event_history.proofs.Walked.{IsWalked}
-use Rattle.event_history.proofs.hearing.listeners_at.Given as goal
-
-abbrev pub invariant-loop-next : goal.invariant-loop-next
-invariant-loop-next l = IsWalked l.session l.place l.openings l.listeners.items l.next
-
-abbrev pub decreases-loop-next : goal.decreases-loop-next
-decreases-loop-next l = reach l.next

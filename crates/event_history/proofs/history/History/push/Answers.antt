@@ -1,6 +1,0 @@
-use Rattle.event_history.proofs.Pushed.{can-mark}
-use Rattle.event_history.proofs.history.History.push.Goals as goal
-
-pub add-detail-requires-clause-fits : goal.add-detail-requires-clause-fits
-add-detail-requires-clause-fits c =
-    rw c.self.invariant.marked (can-mark c.self.inside.events.items c.args.event (rw (← c.self.view_is) at c.requires.legal))

@@ -1,6 +1,0 @@
-use Rattle.std.proofs.Common.{◌≡◌, ◌++◌, map, take}
-use Rattle.event_history.specs.Told.{heard_as, prev_hash_note}
-use Rattle.event_history.proofs.notes.tell_tip.Given as goal
-
-abbrev pub invariant-loop-heard : goal.invariant-loop-heard
-invariant-loop-heard l = l.notes.items ≡ l.initial.notes.items ++ map (prev_hash_note l.tip l.number) (map heard_as (take l.heard-index l.to))

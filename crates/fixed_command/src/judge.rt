@@ -1,0 +1,141 @@
+//! Which share of the job is credited, and which is refused.
+ghost use Rattle.std.specs.Prelude.{◌≡◌, ◌≤◌, ℕ, List, [], ◌∷◌, ◌++◌, length, IfOk, OnOk, IsSome, None};
+ghost use Rattle.std.specs.List.{list_any};
+ghost use Rattle.fixed_command.specs.Rolling.{rolled_of, is_same};
+
+use crate::submission::{Rolled, rolled_of};
+use block_header::{Header, dsha, meets_class};
+use mining_msgs::SubmitSharesStandard;
+use std::alloc::{AllocError, Global};
+
+/// What a header has of the job: the hashes as they stand in the header.
+#[derive(Clone, Copy, Debug, PartialEq, Eq)]
+pub struct Job {
+    /// The hash of the block before.
+    pub prev_hash: [u8; 32],
+    /// The merkle root.
+    pub root: [u8; 32],
+    /// The compact target.
+    pub nbits: u32,
+}
+
+/// Why a share isn't credited, by the first condition that fails.
+#[derive(Clone, Copy, Debug, PartialEq, Eq)]
+pub enum Refusal {
+    /// The channel isn't 1.
+    InvalidChannelId,
+    /// The job isn't 1.
+    InvalidJobId,
+    /// The header's hash misses the class.
+    DifficultyTooLow,
+    /// An earlier submission has the same header.
+    DuplicateShare,
+}
+
+impl Refusal {
+    ghost use Rattle.fixed_command.specs.Answers.{error_code};
+
+    /// The error code of SubmitShares.Error.
+    pub fn code(self) -> &'static str
+        ensures code { result.now ≡ error_code self }
+        ensures short { length result.now ≤ 255 }
+    {
+        match self {
+            Refusal::InvalidChannelId => "invalid-channel-id",
+            Refusal::InvalidJobId => "invalid-job-id",
+            Refusal::DifficultyTooLow => "difficulty-too-low",
+            Refusal::DuplicateShare => "duplicate-share",
+        }
+    }
+}
+
+/// The job, its class, and what was credited so far. It doesn't grow with refused shares.
+#[derive(Drop)]
+pub struct Judge {
+    pub class: u8,
+    pub job: Job,
+    pub credited: Vec<Rolled>,
+    ghost in_range: { class ≤ 60 },
+}
+
+impl Judge {
+    ghost use Rattle.fixed_command.specs.Answers.{first_refusal, hash_of};
+    ghost use Rattle.fixed_command.specs.Judging.{RemembersCredits};
+
+    pub fn new(alloc: Global, class: u8, job: &Job) -> Judge
+        requires { class ≤ 60 }
+        ensures class { result.class ≡ class }
+        ensures job { result.job ≡ job.now }
+        ensures remembers { RemembersCredits result [] }
+    {
+        Judge {
+            class,
+            job: *job,
+            credited: Vec::new(alloc),
+        }
+    }
+
+    fn hash(&self, rolled: &Rolled) -> [u8; 32]
+        ensures { result ≡ hash_of self.now.job rolled.now }
+    {
+        let header = Header {
+            version: rolled.version,
+            prev_hash: self.job.prev_hash,
+            root: self.job.root,
+            ntime: rolled.ntime,
+            nbits: self.job.nbits,
+            nonce: rolled.nonce,
+        };
+        dsha(&header.bytes())
+    }
+
+    fn first_refusal(&self, share: &SubmitSharesStandard) -> Option<Refusal>
+        ensures { (earlier : List _) → RemembersCredits self.now earlier
+            → result ≡ first_refusal self.now.class self.now.job earlier share.now }
+    {
+        let rolled = rolled_of(share);
+        if share.channel_id != 1 {
+            Some(Refusal::InvalidChannelId)
+        } else if share.job_id != 1 {
+            Some(Refusal::InvalidJobId)
+        } else if !meets_class(&self.hash(&rolled), self.class) {
+            Some(Refusal::DifficultyTooLow)
+        } else if is_among(&self.credited, &rolled) {
+            Some(Refusal::DuplicateShare)
+        } else {
+            None
+        }
+    }
+
+    /// The first condition that fails; where none does, the share is credited.
+    pub fn judge(&mut self, share: &SubmitSharesStandard) -> Result<Option<Refusal>, AllocError>
+        ensures verdict { (earlier : List _) → RemembersCredits self.old earlier
+            → IfOk result (λ refusal. refusal ≡ first_refusal self.old.class self.old.job earlier
+            share.now) }
+        ensures remembers { (earlier : List _) → RemembersCredits self.old earlier
+            → OnOk result (RemembersCredits self.new (earlier ++ share.now ∷ [])) }
+        // A refused share isn't kept, and a credited one is kept once.
+        ensures refused { IfOk result (λ refusal. IsSome refusal
+            → self.new.credited.items ≡ self.old.credited.items) }
+        ensures credited { IfOk result (λ refusal. refusal ≡ None
+            → self.new.credited.items ≡ self.old.credited.items ++ rolled_of share.now ∷ []) }
+        ensures class { self.new.class ≡ self.old.class }
+        ensures job { self.new.job ≡ self.old.job }
+    {
+        let refusal = self.first_refusal(share);
+        if refusal.is_none() {
+            self.credited.push(rolled_of(share))?;
+        }
+        Ok(refusal)
+    }
+}
+
+fn is_among(credited: &[Rolled], rolled: &Rolled) -> bool
+    ensures { result ≡ list_any (is_same rolled.now) credited.now }
+{
+    credited.iter().any(|other| {
+        rolled.version == other.version
+            && rolled.ntime == other.ntime
+            && rolled.nonce == other.nonce
+    })
+}

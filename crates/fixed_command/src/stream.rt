@@ -1,0 +1,116 @@
+//! The frames of a stream, one after the other, and the answers to the shares that they bring.
+
+ghost use Rattle.std.specs.Prelude.{◌≡◌, ◌++◌, ℕ, List, OnOk, IsErrOf};
+
+use crate::answer::put_answer;
+use crate::judge::{Job, Judge};
+use crate::submission::{PAYLOAD_LEN, holds_other, read_share};
+use std::alloc::{AllocError, Global};
+use stream_commands::{Stop, StreamCommand};
+use sv2_frames::{Splitter, TooLong};
+
+/// A job, and the class that its shares have to meet: 0 to 60.
+#[derive(Clone, Copy, Debug, PartialEq, Eq)]
+pub struct FixedTask {
+    pub class: u8,
+    pub job: Job,
+}
+
+/// Judges the shares of one job. It holds less than a frame.
+#[derive(Drop)]
+pub struct FixedJob {
+    pub judge: Judge,
+    pub splitter: Splitter,
+}
+
+impl FixedJob {
+    ghost use Rattle.sv2_frames.specs.Holding.{IsCutWithin};
+    ghost use Rattle.fixed_command.specs.Duty.{AnswersShares};
+    ghost use Rattle.fixed_command.specs.Judging.{HasAnsweredShares, HoldsRest};
+    ghost use Rattle.fixed_command.specs.Submitting.{IsOtherHeader};
+
+    /// Judges the frame that is held, where it is whole, and appends its answer.
+    fn frame(&mut self, text: &mut Vec<u8>) -> Result<(), Stop>
+        ensures ok { OnOk result ((bytes given : List ℕ)
+            → HoldsRest bytes (given ++ text.old.items) self.old
+            → HasAnsweredShares bytes (given ++ text.new.items) self.new) }
+        ensures other { IsErrOf result Stop.Refused → (bytes given : List ℕ)
+            → HoldsRest bytes (given ++ text.old.items) self.old
+            → AnswersShares self.old.judge.class self.old.judge.job IsOtherHeader bytes
+            (given ++ text.new.items) }
+        ensures cut { OnOk result (IsCutWithin self.new.splitter) }
+        ensures class { self.new.judge.class ≡ self.old.judge.class }
+        ensures job { self.new.judge.job ≡ self.old.judge.job }
+    {
+        if holds_other(&self.splitter) {
+            return Err(Stop::Refused);
+        }
+        let share = match self.splitter.next() {
+            Ok(Some(frame)) => read_share(frame.payload).unwrap(),
+            Ok(None) => return Ok(()),
+            // A header over the limit is another one. It was refused above, but the splitter tells
+            // it too.
+            Err(TooLong(_)) => return Err(Stop::Refused),
+        };
+        let refusal = self.judge.judge(&share)?;
+        put_answer(text, self.judge.class, share, refusal)?;
+        self.splitter.drop_frame();
+        Ok(())
+    }
+}
+
+impl StreamCommand for FixedJob {
+    ghost use Rattle.std.specs.Prelude.{◌≤◌};
+    ghost use Rattle.sv2_frames.specs.Holding.{IsCutWithin};
+    ghost use Rattle.fixed_command.specs.Duty.{share_duty};
+    ghost use Rattle.fixed_command.specs.Judging.{HasAnsweredShares};
+    ghost use Rattle.fixed_command.specs.Sound.{share_duty_is_sound};
+
+    type Task = FixedTask;
+
+    ghost can_run = { λ task. task.class ≤ 60 };
+
+    ghost duty = { λ task. share_duty task.class task.job };
+
+    ghost asked = { λ c. record { class = c.judge.class; job = c.judge.job } };
+
+    ghost is_ready = { λ c. IsCutWithin c.splitter };
+
+    ghost has_read = { λ c bytes text. HasAnsweredShares bytes text c };
+
+    fn start(alloc: Global, task: &FixedTask) -> Result<FixedJob, AllocError> {
+        let splitter = Splitter::new(alloc, PAYLOAD_LEN)?;
+        Ok(FixedJob {
+            judge: Judge::new(alloc, task.class, &task.job),
+            splitter,
+        })
+    }
+
+    fn read(&mut self, piece: &[u8], text: &mut Vec<u8>) -> Result<(), Stop> {
+        let mut rest = piece;
+        while !rest.is_empty() {
+            let count = self.splitter.feed(rest);
+            rest = &rest[count..];
+            self.frame(text)?;
+        }
+        Ok(())
+    }
+
+    fn end(&mut self, _text: &mut Vec<u8>) -> Result<(), Stop> {
+        if self.splitter.held() == 0 {
+            Ok(())
+        } else {
+            Err(Stop::Refused)
+        }
+    }
+
+    ghost owes_so_far = { λ c bytes text read. record {
+      shares = read.holds.shares;
+      rest = c.splitter.held;
+      spelled = read.holds.spelled;
+      is_kind = read.partial;
+      answered = read.holds.answered;
+    } };
+
+    ghost is_sound = { λ task. share_duty_is_sound task.class task.job };
+}

@@ -1,0 +1,5 @@
+pub mod Auditing
+pub mod Copying
+pub mod Cutting
+pub mod Migrating
+pub mod Sound

@@ -1,4 +1,0 @@
-pub mod Copying
-pub mod Cutting
-pub mod Row
-pub mod Sound

@@ -1,0 +1,21 @@
+-- What TCP's links and doors tell: nothing but counts, and how many links are out.
+use Rattle.std.specs.Prelude.{None}
+use Rattle.pool_network.specs.Seen.{DoorSeen, LinkSeen}
+use Rattle.pool_cli.specs.declared.tcp.TcpDoor.{TcpDoor}
+use Rattle.pool_cli.specs.declared.tcp.TcpLink.{TcpLink}
+use Rattle.pool_cli.specs.Edges.{untold_sink, untold_source}
+
+abbrev pub link_seen : TcpLink → LinkSeen
+link_seen link = record {
+  source = untold_source link.source.faults;
+  sink = untold_sink link.sink.faults;
+}
+
+abbrev pub door_seen : {L C : Type 0} → TcpDoor L C → DoorSeen
+door_seen door = record {
+  faults = door.faults;
+  asked = door.asked;
+  coming = None;
+  out = door.out;
+  back = None;
+}

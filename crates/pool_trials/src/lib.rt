@@ -1,6 +1,0 @@
-//! The rules that trials and benchmarks begin with.
-#![tactic(auto)]
-
-mod rules;
-
-pub use rules::example_rules;

@@ -1,0 +1,223 @@
+-- The turns of a session, by what its code did.
+use Rattle.std.proofs.Common.{◌≡◌, ℕ, ◌+◌, ◌-◌, ◌*◌, ◌<◌, ◌≤◌, ◌++◌, Bool, true, false, List, [], Option, Some, None, Result, Ok, Err, length, take, drop, refl, sym, ap, subst, ◌∙◌, append_assoc, arith}
+use Rattle.std.proofs.Math.Nat.{mul-le-mul_right}
+use Rattle.std.specs.Prelude.{OnOk}
+use Rattle.std.proofs.lemmas.List.{take-append-drop, take_rest}
+use Rattle.session_steps.specs.declared.manner.Manner.{Manner}
+use Rattle.pool_io.specs.Seen.{SinkSeen}
+use Rattle.pool_io.specs.declared.sink.SinkFailed.{SinkFailed}
+use Rattle.pool_io.specs.declared.sink.SinkFailed.TheVariants as sink
+use Rattle.pool_io.specs.declared.source.Took.{Took}
+use Rattle.pool_io.specs.declared.source.Took.TheVariants as took
+use Rattle.pool_io.specs.declared.turn.Turn.{Turn}
+use Rattle.pool_io.specs.Outside.{CountsFailure, TakesTurn, is_failed_take}
+use Rattle.pool_io.specs.Steps.{BringsSteps, steps_of}
+use Rattle.pool_io.proofs.Stepping.{brought_bytes, brought_idle, brought_none, steps_of-ended}
+use Rattle.stream_commands.proofs.Puts.{Adds-none}
+use Rattle.pool_network.specs.Seen.{LinkSeen}
+use Rattle.sv2_frames.specs.Holding.{Holding, HoldsOver, IsCutWithin, frame_end}
+use Rattle.sv2_frames.proofs.Feeding.{present_after}
+use Rattle.pool_history.specs.Calls.{PoolCall}
+use Rattle.session_steps.specs.declared.ends.SessionEnd.{SessionEnd}
+use Rattle.session_steps.specs.declared.ends.SessionEnd.TheVariants as end
+use Rattle.session_steps.specs.declared.meeting.SetupCode.{SetupCode}
+use Rattle.session_steps.specs.declared.meeting.Step.{Step}
+use Rattle.session_steps.specs.Answers.{greeting, refusal_frame}
+use Rattle.session_steps.specs.States.{Greeting, Reading, Refusing, end_stage, failed_end, input_end, most_payload, new_state, news_stage, next_stage, put_stage}
+use Rattle.session_steps.specs.Steps as steps
+use Rattle.session_steps.specs.Steps.{CanTake, Framed, Greeted, Overran, Refused, Starved, bytes_of_frames, met_stage}
+use Rattle.session_steps.specs.Talks.{new_talk}
+use Rattle.session_loop.specs.declared.conversation.Conversation.{Conversation}
+use Rattle.session_loop.specs.declared.listening.Listener.{Listener}
+use Rattle.session_loop.specs.Links.{PutsOut}
+use Rattle.session_loop.specs.Meeting.{MeetsHeld}
+use Rattle.session_loop.specs.Running.{Runs, TakesAll}
+use Rattle.session_steps.proofs.Deciding.{held_waits}
+use Rattle.session_loop.specs.Standing.{HoldsNoMore, Intake, IsListening, idled, intake_of, intake_with, new_intake, stage_or, state_at}
+use Rattle.session_loop.proofs.Chains.{runs_on, runs_put, runs_quiet, runs_step}
+use Rattle.session_loop.specs.Sessions.{IdlesOn, ReadsOn}
+use Rattle.session_loop.proofs.Moves.{put_end, put_stage_or}
+
+-- a refused setup ends the session, however its answer was put
+abbrev pub refused_end : Option SinkFailed → SessionEnd
+refused_end None = end.BadSetup
+refused_end (Some cause) = failed_end cause
+
+refused_stage : (entered : Bool) (fault : Option SinkFailed) → end_stage entered (refused_end fault) ≡ put_stage fault entered (end_stage entered end.BadSetup)
+refused_stage entered None = refl
+refused_stage entered (Some sink.Failed) = refl
+refused_stage entered (Some sink.Memory) = refl
+
+module _ {A : Type 0} {worker : A → ℕ} {does : A → PoolCall → A → Type 0} {l l' : LinkSeen} {a : A} (intake : Intake) (c : Conversation) where
+  pub greeted_runs : (fault : Option SinkFailed) → PutsOut (bytes_of_frames (greeting c.session.role)) fault l l'
+      → Runs worker does (state_at Greeting intake c) (state_at (stage_or Reading c.entered (put_end fault)) intake c) l l' a a
+  greeted_runs fault puts =
+      runs_put (Greeted (record { bytes = puts.bytes; fault = fault })) (bytes_of_frames (greeting c.session.role)) fault puts (refl, puts.front)
+      (ap (λ stage. state_at stage intake c) (put_stage_or fault c.entered Reading))
+      refl refl refl refl (λ n. refl)
+
+  pub refused_runs : (code : SetupCode) (flags : ℕ) (fault : Option SinkFailed) → PutsOut (refusal_frame code flags) fault l l'
+      → Runs worker does (state_at (Refusing code flags) intake c) (state_at (end_stage c.entered (refused_end fault)) intake c) l l' a a
+  refused_runs code flags fault puts =
+      runs_put (Refused (record { bytes = puts.bytes; fault = fault })) (refusal_frame code flags) fault puts puts.front
+      (ap (λ stage. state_at stage intake c) (refused_stage c.entered fault)) refl refl refl refl (λ n. refl)
+
+module _ {A : Type 0} {worker : A → ℕ} {does : A → PoolCall → A → Type 0} {l : LinkSeen} {a : A} (intake : Intake) (c : Conversation) where
+  -- a header over the limit
+  pub overran_runs : (holding : Holding) (rest : List ℕ) (len : ℕ) → holding.limit ≡ most_payload → HoldsOver len holding
+      → Runs worker does (state_at Reading (record intake { unmet = holding.held ++ rest }) c)
+      (state_at (end_stage c.entered (end.TooLong len)) (record intake { unmet = holding.held ++ rest }) c) l l a a
+  overran_runs holding rest len limit over =
+      runs_quiet (Overran len)
+      (record {
+        reading = refl;
+        begins = record {
+          ext = over.ext;
+          kind = over.kind;
+          more = rest;
+          header = ap (λ bytes. bytes ++ rest) over.header;
+          ext_fits = over.ext_fits;
+          kind_fits = over.kind_fits;
+          length_fits = over.length_fits;
+          over = rw limit at over.over;
+        };
+      })
+      refl refl refl refl refl (λ n. refl)
+
+  -- memory was wanted
+  pub starved_runs : Runs worker does (state_at Reading intake c) (state_at (end_stage c.entered end.Memory) intake c) l l a a
+  starved_runs = runs_quiet Starved tt refl refl refl refl refl (λ n. refl)
+
+  -- so it was before the greeting
+  pub unserved_runs : Runs worker does (state_at Greeting intake c) (state_at (end_stage c.entered end.Memory) intake c) l l a a
+  unserved_runs = runs_quiet Starved tt refl refl refl refl refl (λ n. refl)
+
+  -- a frame
+  pub framed_runs : (holding : Holding) (rest : List ℕ) (made : Step) (new : Conversation) → holding.limit ≡ most_payload → MeetsHeld holding c made new
+      → Runs worker does (state_at Reading (record intake { unmet = holding.held ++ rest }) c) (state_at (met_stage new.entered made) (record intake { unmet = rest }) new) l l a a
+  framed_runs holding rest made new limit meets =
+      runs_quiet (Framed (record { frame = meets.frame; rest = rest; step = made; talk = new.session }))
+      (record {
+        reading = refl;
+        whole = ap (λ bytes. bytes ++ rest) meets.whole;
+        fits = meets.fits;
+        within = rw limit at meets.within;
+        meets = meets.meets;
+      })
+      (rw (meets.entered, meets.cursor) refl)
+      refl refl refl refl (λ n. refl)
+
+-- the end of the input
+end_brings : (old new : Option (List Turn)) (buffer : List ℕ) → TakesTurn old new took.End buffer → BringsSteps old new [] × TakesAll true old []
+end_brings None new buffer takes = (tt, tt)
+end_brings (Some turns) new buffer takes =
+    let none = steps_of-ended turns takes.2.0 in
+    ((takes.0, takes.1, ap steps_of (sym takes.2.1)), none)
+
+-- a take that failed
+failed_brings : (old new : Option (List Turn)) (buffer : List ℕ) → TakesTurn old new took.Failed buffer → BringsSteps old new []
+failed_brings None new buffer takes = tt
+failed_brings (Some turns) new buffer takes = (takes.0, takes.1, ap steps_of (sym takes.2))
+
+-- one answer of a link, and what stays of the rest
+pub record TakesOf (answered : Took) (buffer : List ℕ) (old new : LinkSeen) : Type 0 where
+  pub turns : TakesTurn old.source.left new.source.left answered buffer
+  pub counts : CountsFailure (is_failed_take answered) old.source.faults new.source.faults
+  pub sink : new.sink ≡ old.sink
+
+module _ (listener : Listener) (listening : IsListening listener) where
+  cut_at_most : IsCutWithin (record { held = listener.splitter.held; limit = most_payload })
+  cut_at_most = subst (λ n. IsCutWithin (record { held = listener.splitter.held; limit = n })) listening.limit listening.cut
+
+  held_at_most : length listener.splitter.held ≤ frame_end most_payload listener.splitter.held
+  held_at_most = subst (λ n. length listener.splitter.held ≤ frame_end n listener.splitter.held) listening.limit listening.no_more
+
+  can_take : (c : Conversation) → CanTake (state_at Reading (intake_of listener) c)
+  can_take c = record {
+    waiting = record { reading = refl; cut = cut_at_most.cut; not_over = held_waits listener.splitter.held cut_at_most held_at_most };
+    some = listening.some;
+  }
+
+  module _ {A : Type 0} {worker : A → ℕ} {does : A → PoolCall → A → Type 0} {l l' : LinkSeen} {a : A} (c : Conversation) (buffer : List ℕ) where
+    pub took_runs : (n : ℕ) → 0 < length (take n buffer) → length (take n buffer) ≤ 4096 → length (take n buffer) ≤ listener.bytes → TakesOf (took.Bytes n) buffer l l'
+        → Runs worker does (state_at Reading (intake_of listener) c) (state_at Reading (intake_with (take n buffer) listener) c) l l' a a
+    took_runs n some piece within takes =
+        runs_step (steps.Took (take n buffer)) (record { can = can_take c; some = some; piece = piece; within = within }) refl
+        (brought_bytes l.source.left l.source.left l'.source.left [] n buffer (brought_none l.source.left) takes.turns) tt
+        (rw (ap (λ (s : SinkSeen). s.held) takes.sink) (Adds-none l.sink.held)) takes.counts (ap (λ (s : SinkSeen). s.faults) takes.sink) refl refl
+
+    pub idled_runs : TakesOf took.Idle buffer l l'
+        → Runs worker does (state_at Reading (intake_of listener) c)
+        (state_at (news_stage c.entered (idled (intake_of listener)).idles) (idled (intake_of listener)) c) l l' a a
+    idled_runs takes =
+        runs_step steps.Idled (can_take c) refl
+        (brought_idle l.source.left l.source.left l'.source.left [] buffer (brought_none l.source.left) takes.turns) tt
+        (rw (ap (λ (s : SinkSeen). s.held) takes.sink) (Adds-none l.sink.held)) takes.counts (ap (λ (s : SinkSeen). s.faults) takes.sink) refl refl
+
+    pub ended_runs : TakesOf took.End buffer l l'
+        → Runs worker does (state_at Reading (intake_of listener) c) (state_at (end_stage c.entered (input_end listener.splitter.held)) (intake_of listener) c) l l' a a
+    ended_runs takes =
+        let brings = end_brings l.source.left l'.source.left buffer takes.turns in
+        runs_step steps.Ended (can_take c) refl brings.0 brings.1 (rw (ap (λ (s : SinkSeen). s.held) takes.sink) (Adds-none l.sink.held)) takes.counts (ap (λ (s : SinkSeen). s.faults) takes.sink) refl refl
+
+    pub missed_runs : TakesOf took.Failed buffer l l'
+        → Runs worker does (state_at Reading (intake_of listener) c) (state_at (end_stage c.entered end.ReadFault) (intake_of listener) c) l l' a a
+    missed_runs takes =
+        runs_step steps.Missed (can_take c) refl (failed_brings l.source.left l'.source.left buffer takes.turns) tt
+        (rw (ap (λ (s : SinkSeen). s.held) takes.sink) (Adds-none l.sink.held)) takes.counts (ap (λ (s : SinkSeen). s.faults) takes.sink) refl refl
+
+-- as many bytes came as are taken
+pub spent_runs : {A : Type 0} {worker : A → ℕ} {does : A → PoolCall → A → Type 0} {l : LinkSeen} {a : A} (intake : Intake) (c : Conversation)
+    → IsCutWithin (record { held = intake.unmet; limit = most_payload }) → length intake.unmet ≤ frame_end most_payload intake.unmet → intake.bytes ≡ 0
+    → Runs worker does (state_at Reading intake c) (state_at (end_stage c.entered end.BytesOut) intake c) l l a a
+spent_runs intake c cut no_more none =
+    runs_quiet steps.Spent (record { reading = refl; cut = cut.cut; not_over = held_waits intake.unmet cut no_more }, none) refl refl refl refl refl (λ n. refl)
+
+-- a step that leads on to more
+pub reads_first : {A : Type 0} {worker : A → ℕ} {does : A → PoolCall → A → Type 0} {l l' l'' : LinkSeen} {a a' a'' : A} {before middle kept : Intake} {old new : Conversation} {result : Result Unit SessionEnd}
+    → Runs worker does (state_at Reading before old) (state_at Reading middle old) l l' a a' → ReadsOn worker does middle kept old new l' l'' a' a'' result
+    → ReadsOn worker does before kept old new l l'' a a'' result
+reads_first first then = record { intake = then.intake; kept_is = then.kept_is; runs = runs_on first then.runs }
+
+-- what stands in any case
+on_any : (P : Type 0) (result : Result Unit SessionEnd) → P → OnOk result P
+on_any P (Ok _) p = p
+on_any P (Err _) p = tt
+
+pub idles_first : {A : Type 0} {worker : A → ℕ} {does : A → PoolCall → A → Type 0} {l l' l'' : LinkSeen} {a a' a'' : A} {before kept : Intake} {old new : Conversation} {result : Result Unit SessionEnd}
+    → Runs worker does (state_at Reading before old) (state_at (news_stage old.entered (idled before).idles) (idled before) old) l l' a a'
+    → IdlesOn worker does before kept old new l' l'' a' a'' result → ReadsOn worker does before kept old new l l'' a a'' result
+idles_first {before = before} {kept = kept} {result = result} first then = record { intake = idled before; kept_is = on_any (idled before ≡ kept) result (sym then.kept_is); runs = runs_on first then.runs }
+
+-- bytes bring the end nearer, and so does an Idle turn
+pub bytes_nearer : (bytes turns idles count : ℕ) → 0 < count → count ≤ bytes → (bytes - count) * (turns + 1) + turns < bytes * (turns + 1) + idles
+bytes_nearer bytes turns idles count some fits =
+    let least : (bytes - count) + 1 ≤ bytes = omega (arith, some, fits) in
+    omega (arith, mul-le-mul_right (turns + 1) least)
+
+-- what was fed and what is left of the piece are what was held and the piece
+pub fed_whole : (held held' rest : List ℕ) (count : ℕ) → held' ≡ held ++ take count rest → held' ++ take (length rest - count) (drop count rest) ≡ held ++ rest
+fed_whole held held' rest count fed =
+    ap (λ l. held' ++ l) (take_rest rest count) ∙ ap (λ l. l ++ drop count rest) fed
+    ∙ append_assoc held (take count rest) (drop count rest) ∙ ap (λ l. held ++ l) (take-append-drop count rest)
+
+-- what is held once all is fed is cut within the limit
+pub cut_held : (holding : Holding) (rest : List ℕ) → rest ≡ holding.held → holding.limit ≡ most_payload → IsCutWithin holding → IsCutWithin (record { held = rest; limit = most_payload })
+cut_held holding rest is limit cut = rw is (subst (λ n. IsCutWithin (record { held = holding.held; limit = n })) limit cut)
+
+-- and it is no more than that
+pub no_more_held : (holding : Holding) (rest : List ℕ) → rest ≡ holding.held → holding.limit ≡ most_payload → HoldsNoMore holding → length rest ≤ frame_end most_payload rest
+no_more_held holding rest is limit no_more = rw is (subst (λ n. length holding.held ≤ frame_end n holding.held) limit no_more)
+
+-- what a splitter was fed with is no more than that
+pub fed_no_more : (limit : ℕ) (all : List ℕ) (new : Holding) → new.held ≡ take (frame_end limit all) all → new.limit ≡ limit → HoldsNoMore new
+fed_no_more limit all new fed same = rw (fed, same) (present_after limit all)
+
+-- too many Idle turns came in a row
+pub next_idle_out : (entered : Bool) (idles : ℕ) → idles ≡ 0 → next_stage entered idles ≡ end_stage entered end.IdleOut
+next_idle_out entered idles none = rw none refl
+
+-- a session begins
+pub new_is : (c : Conversation) (manner : Manner) → c.session ≡ new_talk manner.role manner.rolling → c.entered ≡ false → c.cursor ≡ 0
+    → state_at Greeting (new_intake manner.idle_turns) c ≡ new_state manner
+new_is c manner talk entered cursor = rw (talk, entered, cursor) refl

@@ -1,0 +1,95 @@
+//! One session.
+
+ghost use Rattle.std.specs.Prelude.{◌≡◌, ◌<◌, ℕ, List, Some};
+ghost use Rattle.pool_io.specs.declared.turn.Turn.{Turn};
+ghost use Rattle.pool_io.specs.Outside.{CountsFailure};
+ghost use Rattle.session_steps.specs.States.{Greeting, Reading};
+ghost use Rattle.session_loop.specs.Causes.{is_read_end, is_write_end};
+ghost use Rattle.session_loop.specs.Good.{IsGoodEnd, IsGoodInput};
+ghost use Rattle.session_loop.specs.Sessions.{IsSession};
+
+use crate::acting::Acting;
+use crate::conversation::Conversation;
+use crate::listening::Listener;
+use crate::putting::put_greeting;
+use pool_core::SessionEnd;
+use pool_network::Link;
+use session_steps::Manner;
+use std::alloc::Global;
+use stream_commands::PIECE_LEN;
+
+impl Conversation {
+    ghost use Rattle.session_loop.specs.Sessions.{ReadsOn, Serves};
+    ghost use Rattle.session_loop.specs.Standing.{IsListening, intake_of, new_intake};
+
+    /// Takes turn after turn, up to what ends the session.
+    fn listen<L: Link, A: Acting>(
+        &mut self,
+        mut listener: Listener,
+        link: &mut L,
+        acting: &mut A,
+    ) -> SessionEnd
+        requires ready { A.ready acting.old }
+        requires listening { IsListening listener }
+        ensures ready { A.ready acting.new }
+        ensures serves { Serves A.worker A.does Reading (intake_of listener) self.old self.new
+            (L.seen link.old) (L.seen link.new) acting.old acting.new result }
+    {
+        let mut buffer = [0; PIECE_LEN];
+        loop {
+            if let Err(end) = listener.turn(self, &mut buffer, link, acting) {
+                return end;
+            }
+        }
+    }
+
+    /// Puts the greeting, and then takes turns.
+    fn serve<L: Link, A: Acting>(
+        &mut self,
+        idle_turns: u64,
+        link: &mut L,
+        acting: &mut A,
+    ) -> SessionEnd
+        requires ready { A.ready acting.old }
+        requires waits { 0 < idle_turns }
+        ensures ready { A.ready acting.new }
+        ensures serves { Serves A.worker A.does Greeting (new_intake idle_turns) self.old self.new
+            (L.seen link.old) (L.seen link.new) acting.old acting.new result }
+    {
+        let Ok(listener) = Listener::new(self.alloc, idle_turns) else {
+            return SessionEnd::Memory;
+        };
+        match put_greeting(self.alloc, &self.session, link) {
+            Err(cause) => SessionEnd::from(cause),
+            Ok(()) => self.listen(listener, link, acting),
+        }
+    }
+}
+
+/// Serves one session over a link, up to its end, and leaves.
+pub fn converse<L: Link, A: Acting>(
+    alloc: Global,
+    link: &mut L,
+    acting: &mut A,
+    manner: Manner,
+) -> SessionEnd
+    requires ready { A.ready acting.old }
+    requires waits { 0 < manner.idle_turns }
+    ensures ready { A.ready acting.new }
+    ensures session { IsSession A.worker A.does manner (L.seen link.old) (L.seen link.new)
+        acting.old acting.new result }
+
+    // A failure is the end exactly where it was counted, and is counted once.
+    ensures reads { CountsFailure (is_read_end result) (L.seen link.old).source.faults
+        (L.seen link.new).source.faults }
+    ensures writes { CountsFailure (is_write_end result) (L.seen link.old).sink.faults
+        (L.seen link.new).sink.faults }
+
+    // Input that is to blame for nothing isn't blamed.
+    ensures good { (told : List Turn) → (L.seen link.old).source.left ≡ Some told
+        → IsGoodInput manner told → IsGoodEnd result }
+{
+    let mut conversation = Conversation::new(alloc, manner.role, manner.rolling);
+    let end = conversation.serve(manner.idle_turns, link, acting);
+    conversation.leave(end, acting)
+}

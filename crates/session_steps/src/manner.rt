@@ -1,0 +1,13 @@
+//! What a worker's sessions have in common.
+
+use pool_history::Role;
+
+/// How sessions are held.
+#[derive(Clone, Copy, Debug, PartialEq, Eq)]
+pub struct Manner {
+    pub role: Role,
+    /// Whether versions may be rolled.
+    pub rolling: bool,
+    /// After so many Idle turns in a row a session ends.
+    pub idle_turns: u64,
+}

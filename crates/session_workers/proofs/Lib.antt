@@ -1,0 +1,4 @@
+pub mod Asked
+pub mod Attending
+pub mod Calls
+pub mod Completing

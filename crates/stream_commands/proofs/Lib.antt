@@ -1,0 +1,7 @@
+pub mod Deciding
+pub mod Driving
+pub mod Fronts
+pub mod OneEnd
+pub mod Pieces
+pub mod Puts
+pub mod Staying

@@ -1,0 +1,11 @@
+pub mod Between
+pub mod Duties
+pub mod Ending
+pub mod Gathering
+pub mod Limits
+pub mod Owing
+pub mod Reading
+pub mod Rows
+pub mod Sound
+pub mod Statuses
+pub mod Texts
