@@ -55,8 +55,8 @@ OwesSome duty steps text =
 abbrev pub OwesFront : Duty → List ReadStep → List ℕ → Type 0
 OwesFront duty steps given = (text : List ℕ) × OwesSome duty steps text × Begins given text
 
--- but for the last piece, of at most 4,096 bytes, what was taken isn't refused: nothing more is read
--- behind a refusal
+-- What was taken isn't refused but for its last 4,096 bytes and Idle answers. A take behind a refusal
+-- might fail, and that is told only of what isn't refused.
 pub record StopsAtRefusal (duty : Duty) (taken : List ReadStep) : Type 0 where
   pub before : List ReadStep
   pub last : List ReadStep

@@ -30,14 +30,15 @@ pub record IsLeftIdle (most : ℕ) (steps : List ReadStep) : Type 0 where
   pub short : length (bytes_in front) ≤ most
   pub reached : JustReachesLimit (IsIdleOut bounds) front
 
--- what an answer says of the steps that were taken and of all that the source had
+-- What an answer says of the steps that were taken and of all that the source had. Where a read
+-- failed, what was taken isn't too long: a read behind that could fail.
 abbrev pub AnswersReading : ℕ → List ReadStep → List ReadStep → Result (List ℕ) Unread → Type 0
 AnswersReading most taken steps (Ok bytes) =
     IsWhole most steps × (bytes ≡ bytes_in steps) × (taken ≡ steps)
 AnswersReading most taken steps (Err TooLong) =
     IsTooLong most steps × StopsAtRefusal (gathering_duty most) taken
 AnswersReading most taken steps (Err IdleOut) = IsLeftIdle most steps
-AnswersReading most taken steps (Err ReadFault) = Unit {0}
+AnswersReading most taken steps (Err ReadFault) = IsWhole most taken
 AnswersReading most taken steps (Err Memory) = Unit {0}
 
 -- between these turns to come and those: the steps taken, no more than reach a limit, and what the
