@@ -1,7 +1,7 @@
 #!/bin/sh
 # Builds the program, and audits three ledgers with it: the worked session's, the same with one bit of its share
-# changed, and the same again with all hashes made anew behind that, as somebody would who tampers with it. Then it
-# keeps the worked session's ledger of format 1 anew, in format 2.
+# changed, and the same again with all hashes computed again behind that, as somebody would who tampers with it. Then it
+# keeps the worked session's ledger of format 1 again, in format 2.
 set -eu
 cd "$(dirname "$0")/.."
 
@@ -50,7 +50,7 @@ audit() {
 
 audit "the worked session's ledger" examples/worked.ledger
 audit "with one bit of its share's time changed" "$work/changed"
-audit "with all hashes made anew behind it" "$work/rehashed"
-echo "of format 1, kept anew:"
+audit "with all hashes computed again behind it" "$work/rehashed"
+echo "of format 1, kept again:"
 "$program" migrate "$work/old" "$work/new"
 cmp "$work/new" examples/worked.ledger && echo "it is examples/worked.ledger, byte for byte"
