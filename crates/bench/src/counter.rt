@@ -40,7 +40,7 @@ impl Machine for Counter {
 
     ghost events = { λ counter. counter.numbers.items };
 
-    ghost faults = { λ _. 0 };
+    ghost health = { λ _. record { faults = 0; tells = false } };
 
     ghost wants_memory = { λ _. true };
 

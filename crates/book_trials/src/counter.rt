@@ -35,7 +35,7 @@ impl Machine for Counter {
 
     ghost events = { λ counter. counter.added.items };
 
-    ghost faults = { λ counter. counter.faults };
+    ghost health = { λ counter. record { faults = counter.faults; tells = false } };
 
     ghost wants_memory = { λ broken. broken.wants_room };
 

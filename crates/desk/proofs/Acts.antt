@@ -10,7 +10,7 @@ use Rattle.pool_base.specs.Lists.{Begins}
 use Rattle.pool_base.specs.Calls.{Call, IsOutcome, RiseFrom}
 use Rattle.desk.specs.declared.rule.Held.{Held}
 use Rattle.desk.specs.declared.rule.Note.{Note}
-use Rattle.desk.specs.Machines.{MakesTurn}
+use Rattle.desk.specs.Machines.{Health, IsLaterHealth, MakesTurn}
 use Rattle.desk.specs.Views.{View, acting_view, joined_view, telling_view}
 use Rattle.desk.specs.Plays.{HasLooked, IsNextCall, IsTaken, call_of, called_view, outcome_of}
 use Rattle.desk.specs.Passes.{AreOfWorker, FrontsRise, IsAnswered, IsResting, MakesCall, Progress, progress_of}
@@ -49,36 +49,36 @@ slot-injective : {X : Type 0} (x y : X) (me : List (ℕ × Option X)) → me ≡
 unfolding held_in
 slot-injective x y me e k = ap (held_in x) (sym e ∙ k)
 
-module _ {E Q R F M : Type 0} (events_of : M → List E) (faults_of : M → ℕ) where
+module _ {E Q R F M : Type 0} (events_of : M → List E) (health_of : M → Health) where
   -- what a seat knows once it has the turn and the machine
   pub record HasMachine (before : View E Q R F) (count : ℕ) (machine : M) (view : View E Q R F) : Type 0 where
-    pub is : view ≡ acting_view before count (events_of machine) (faults_of machine)
+    pub is : view ≡ acting_view before count (events_of machine) (health_of machine)
     pub seen : Begins before.seen (events_of machine)
     pub known : before.known ≤ count
 
-  pub carries : (before after : Me (Option (Held M Q R F)) (View E Q R F)) (count : ℕ) → (t : IsTaken events_of faults_of before count after)
+  pub carries : (before after : Me (Option (Held M Q R F)) (View E Q R F)) (count : ℕ) → (t : IsTaken events_of health_of before count after)
       → before.1 ≡ [] → (held : Held M Q R F) × (after.1 ≡ (0, Some held) ∷ [])
   carries before after count t rests =
       (t.held, ap (λ m. m.1) t.is ∙ ap (λ (l : List (ℕ × Option (Held M Q R F))). (0, Some t.held) ∷ l) rests)
 
-  pub has-machine : (before after : Me (Option (Held M Q R F)) (View E Q R F)) (count : ℕ) (machine : M) → IsTaken events_of faults_of before count after
+  pub has-machine : (before after : Me (Option (Held M Q R F)) (View E Q R F)) (count : ℕ) (machine : M) → IsTaken events_of health_of before count after
       → before.1 ≡ [] → (held : Held M Q R F) × (after.1 ≡ (0, Some held) ∷ []) × (held.machine ≡ machine) → HasMachine before.0 count machine after.0
   has-machine before after count machine t rests there =
       let carried : after.1 ≡ (0, Some t.held) ∷ [] = ap (λ m. m.1) t.is ∙ ap (λ (l : List (ℕ × Option (Held M Q R F))). (0, Some t.held) ∷ l) rests in
       let same : t.held.machine ≡ machine = ap (λ (h : Held M Q R F). h.machine) (slot-injective t.held there.0 after.1 carried there.1) ∙ there.2 in
       record {
-        is = ap (λ m. m.0) t.is ∙ ap (λ (m : M). acting_view before.0 count (events_of m) (faults_of m)) same;
+        is = ap (λ m. m.0) t.is ∙ ap (λ (m : M). acting_view before.0 count (events_of m) (health_of m)) same;
         seen = subst (λ (m : M). Begins before.0.seen (events_of m)) same t.seen;
         known = t.known;
       }
 
 module _ {E Q R F : Type 0} (answers : List E → ℕ → Q → List E → R → Type 0) (wants_memory : F → Bool) where
   -- a turn of the machine is the next call
-  ends-as : (view : View E Q R F) (events now : List E) (faults later worker : ℕ) (asked : Q) (note : Note Q R F) → view.seen ≡ events → view.base ≡ faults
+  ends-as : (view : View E Q R F) (events now : List E) (health later : Health) (worker : ℕ) (asked : Q) (note : Note Q R F) → view.seen ≡ events → view.base ≡ health
       → note.worker ≡ worker → note.asked.value ≡ asked → (answer : Result R F)
-      → MakesTurn answers wants_memory events faults worker asked now later answer
+      → MakesTurn answers wants_memory events health.faults worker asked now later.faults answer
       → Begins events now × IsOutcome answers wants_memory events (call_of view now later note) (outcome_of answer)
-  ends-as view events now faults later worker asked note seen base who what (Ok reply) turn =
+  ends-as view events now health later worker asked note seen base who what (Ok reply) turn =
       let is : drop (length view.seen) now ≡ turn.0 =
       ap (λ (l : List E). drop (length l) now) seen ∙ ap (λ (l : List E). drop (length events) l) turn.1 ∙ drop-append_seam events turn.0 in (
         (turn.0, sym turn.1),
@@ -86,44 +86,44 @@ module _ {E Q R F : Type 0} (answers : List E → ℕ → Q → List E → R →
             (subst (λ (w : ℕ). answers events w note.asked.value turn.0 reply) (sym who)
             (subst (λ (q : Q). answers events worker q turn.0 reply) (sym what) turn.2)),
       )
-  ends-as view events now faults later worker asked note seen base who what (Err fault) turn =
+  ends-as view events now health later worker asked note seen base who what (Err fault) turn =
       let whole : now ≡ events ++ [] = turn.0 ∙ sym (append-nil events) in
       let is : drop (length view.seen) now ≡ [] =
       ap (λ (l : List E). drop (length l) now) seen ∙ ap (λ (l : List E). drop (length events) l) whole ∙ drop-append_seam events [] in (
         ([], sym whole),
-        (is, λ other. subst (λ (n : ℕ). Rose n later) (sym base) (turn.1 other)),
+        (is, λ other. subst (λ (h : Health). Rose h.faults later.faults) (sym base) (turn.1 other)),
       )
 
-  pub next-call : (before view : View E Q R F) (count : ℕ) (events now : List E) (faults later worker : ℕ) (asked : Q) (note : Note Q R F) (answer : Result R F)
-      → view ≡ acting_view before count events faults → before.workers ≡ worker ∷ []
-      → MakesTurn answers wants_memory events faults worker asked now later answer → faults ≤ later
+  pub next-call : (before view : View E Q R F) (count : ℕ) (events now : List E) (health later : Health) (worker : ℕ) (asked : Q) (note : Note Q R F) (answer : Result R F)
+      → view ≡ acting_view before count events health → before.workers ≡ worker ∷ []
+      → MakesTurn answers wants_memory events health.faults worker asked now later.faults answer → IsLaterHealth health later
       → note.worker ≡ worker → note.asked.value ≡ asked → note.answer.value ≡ answer
       → IsNextCall answers wants_memory view now later note
-  next-call before view count events now faults later worker asked note answer is own turn more who what how =
+  next-call before view count events now health later worker asked note answer is own turn more who what how =
       let seen : view.seen ≡ events = ap (λ (v : View E Q R F). v.seen) is in
-      let base : view.base ≡ faults = ap (λ (v : View E Q R F). v.base) is in
-      let ends = ends-as view events now faults later worker asked note seen base who what answer turn in
+      let base : view.base ≡ health = ap (λ (v : View E Q R F). v.base) is in
+      let ends = ends-as view events now health later worker asked note seen base who what answer turn in
       record {
         worker = worker;
         has_turn = ap (λ (v : View E Q R F). v.has_turn) is;
         workers = ap (λ (v : View E Q R F). v.workers) is ∙ own;
         seen = subst (λ (l : List E). Begins l now) (sym seen) ends.0;
-        later = omega (arith, base, more);
+        later = subst (λ (h : Health). IsLaterHealth h later) (sym base) more;
         outcome = subst (λ (l : List E). IsOutcome answers wants_memory l (call_of view now later note) (outcome_of note.answer.value)) (sym seen)
             (subst (λ (r : Result R F). IsOutcome answers wants_memory events (call_of view now later note) (outcome_of r)) (sym how) ends.1);
       }
 
   -- so the pass made that call
-  pub made-call : (table now_table : TableId) (before view : View E Q R F) (count : ℕ) (events now : List E) (faults later worker : ℕ) (asked : Q) (note : Note Q R F) (answer : Result R F)
-      → view ≡ acting_view before count events faults → before.workers ≡ worker ∷ [] → Begins before.seen events → before.known ≤ count
-      → MakesTurn answers wants_memory events faults worker asked now later answer → faults ≤ later
+  pub made-call : (table now_table : TableId) (before view : View E Q R F) (count : ℕ) (events now : List E) (health later : Health) (worker : ℕ) (asked : Q) (note : Note Q R F) (answer : Result R F)
+      → view ≡ acting_view before count events health → before.workers ≡ worker ∷ [] → Begins before.seen events → before.known ≤ count
+      → MakesTurn answers wants_memory events health.faults worker asked now later.faults answer → IsLaterHealth health later
       → note.worker ≡ worker → note.asked.value ≡ asked → note.answer.value ≡ answer
       → MakesCall answers wants_memory (progress_of worker table before) (progress_of worker now_table (called_view view now (call_of view now later note)))
       (length events) asked (outcome_of answer)
-  made-call table now_table before view count events now faults later worker asked note answer is own begins known turn more who what how =
+  made-call table now_table before view count events now health later worker asked note answer is own begins known turn more who what how =
       let seen : view.seen ≡ events = ap (λ (v : View E Q R F). v.seen) is in
-      let base : view.base ≡ faults = ap (λ (v : View E Q R F). v.base) is in
-      let ends = ends-as view events now faults later worker asked note seen base who what answer turn in
+      let base : view.base ≡ health = ap (λ (v : View E Q R F). v.base) is in
+      let ends = ends-as view events now health later worker asked note seen base who what answer turn in
       let call : Call E Q R F = call_of view now later note in
       let n : view.known ≡ count = ap (λ (v : View E Q R F). v.known) is in
       record {
@@ -141,7 +141,7 @@ module _ {E Q R F : Type 0} (answers : List E → ℕ → Q → List E → R →
             (sym (drop-append_seam events ends.0.0) ∙ ap (λ (l : List E). drop (length events) l) ends.0.1 ∙ ap (λ (l : List E). drop (length l) now) (sym seen));
         number = omega (arith, known, n);
         known = refl;
-        later = omega (arith, base, more);
+        later = (subst (λ (h : Health). IsLaterHealth h later) (sym base) more).faults;
       }
 
 -- an answer with its front

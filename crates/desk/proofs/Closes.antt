@@ -16,6 +16,7 @@ use Rattle.pool_base.specs.Calls.{Call, GoodCalls, IsGoodCall, Parted}
 use Rattle.pool_base.specs.Standing.{AreAll}
 use Rattle.pool_base.proofs.Behind.{calls-all}
 use Rattle.desk.specs.declared.rule.Held.{Held}
+use Rattle.desk.specs.Machines.{Health}
 use Rattle.desk.specs.Views.{View, spent_view, workers_from}
 use Rattle.desk.specs.Rule.{HasTurn, IsAtHome, IsOneHistory}
 use Rattle.desk.specs.Closing.{IsOfSeat}
@@ -106,9 +107,9 @@ good-ordered answers wants_memory events log calls same good =
     recursion_from_All P calls (All-permutation P log calls same (All-from_recursion P log good))
 
 module _ {E Q R F M : Type 0} (answers : List E → ℕ → Q → List E → R → Type 0) (wants_memory : F → Bool)
-    (events_of : M → List E) (faults_of : M → ℕ) (start : M) (count : ℕ) where
+    (events_of : M → List E) (health_of : M → Health) (start : M) (count : ℕ) where
   abbrev Rule : State (Option (Held M Q R F)) (View E Q R F) → Type 0
-  Rule s = IsOneHistory answers wants_memory events_of faults_of start count s
+  Rule s = IsOneHistory answers wants_memory events_of health_of start count s
 
   -- a seat beside one that has every worker has none
   no-worker : (s : State (Option (Held M Q R F)) (View E Q R F)) (seat : ℕ) (view : View E Q R F) → (h : Rule s) → get_elem? s.views seat ≡ maybe.some view
@@ -144,7 +145,7 @@ module _ {E Q R F M : Type 0} (answers : List E → ℕ → Q → List E → R �
   -- so nobody has the turn
   at-home : (s : State (Option (Held M Q R F)) (View E Q R F)) (seat : ℕ) (view : View E Q R F) → (h : Rule s) → get_elem? s.views seat ≡ maybe.some view
       → view.has_turn ≡ false → ((w : ℕ) → w < count → Contains view.workers w)
-      → (holder : maybe.Option ℕ) → h.holder ≡ holder → IsAtHome events_of faults_of s.homes h.events h.most
+      → (holder : maybe.Option ℕ) → h.holder ≡ holder → IsAtHome events_of health_of s.homes h.events h.most
   at-home s seat view h there rests every maybe.none out = h.home out
   at-home s seat view h there rests every (maybe.some j) out = absurd (by_place (h.held j out) (ℕ_discrete j seat))
     where
@@ -156,7 +157,7 @@ module _ {E Q R F M : Type 0} (answers : List E → ℕ → Q → List E → R �
   pub record Closes (view : View E Q R F) (homes : List (maybe.Option (Option (Held M Q R F)))) : Type 0 where
     pub held : Held M Q R F
     pub there : get_elem? homes 0 ≡ maybe.some (maybe.some (Some held))
-    pub ends : IsOfSeat answers wants_memory events_of faults_of start view held.machine
+    pub ends : IsOfSeat answers wants_memory events_of health_of start view held.machine
 
   pub closes : (s : State (Option (Held M Q R F)) (View E Q R F)) (seat : ℕ) (view : View E Q R F) → Rule s → get_elem? s.views seat ≡ maybe.some view
       → view.has_turn ≡ false → ((w : ℕ) → w < count → Contains view.workers w) → Closes view s.homes
@@ -172,9 +173,10 @@ module _ {E Q R F M : Type 0} (answers : List E → ℕ → Q → List E → R �
           seen = subst (λ (l : List E). Begins view.seen l) (sym home.events_are) (h.fits seat view there).seen;
           good = subst (λ (l : List E). GoodCalls answers wants_memory l view.calls) (sym home.events_are)
               (good-ordered answers wants_memory h.events h.log view.calls same h.good);
-          parted = subst (λ (l : List E). Parted (events_of start) l (faults_of start) (faults_of home.held.machine) view.calls) (sym home.events_are)
-              (subst (λ (n : ℕ). Parted (events_of start) h.events (faults_of start) n view.calls) (sym home.faults_are)
+          parted = subst (λ (l : List E). Parted (events_of start) l (health_of start).faults (health_of home.held.machine).faults view.calls) (sym home.events_are)
+              (subst (λ (health : Health). Parted (events_of start) h.events (health_of start).faults health.faults view.calls) (sym home.health_is)
               (record { ordered = h.log; same = same; parts = h.parts }));
+          tells = ap (λ (health : Health). health.tells) home.health_is ∙ h.tells;
         };
       }
 

@@ -7,6 +7,7 @@ use Rattle.atomic_table.specs.Seated.{TableId}
 use Rattle.pool_base.specs.Lists.{Begins}
 use Rattle.pool_base.specs.Calls.{Call, GoodCalls, Parted}
 use Rattle.pool_base.proofs.Behind.{all-map}
+use Rattle.desk.specs.Machines.{Health}
 use Rattle.desk.specs.Views.{View, joined_view}
 use Rattle.desk.specs.Plays.{HasLooked}
 use Rattle.desk.specs.Passes.{IsResting, Opening, Progress, progress_of}
@@ -47,14 +48,14 @@ module _ {E Q R F S : Type 0} where
         own = (rests.own, joined.own);
       })
 
-module _ {E Q R F M S : Type 0} (answers : List E → ℕ → Q → List E → R → Type 0) (wants_memory : F → Bool) (events_of : M → List E) (faults_of : M → ℕ) where
+module _ {E Q R F M S : Type 0} (answers : List E → ℕ → Q → List E → R → Type 0) (wants_memory : F → Bool) (events_of : M → List E) (health_of : M → Health) where
   pub has-closed : (desk : Opening M) (passes : List (Progress E Q R F)) (me : Me S (View E Q R F)) (machine : M) → HasEveryWorker desk.count passes
-      → IsJoined passes me → IsOfSeat answers wants_memory events_of faults_of desk.start me.0 machine
-      → HasClosed answers wants_memory events_of faults_of desk passes machine
+      → IsJoined passes me → IsOfSeat answers wants_memory events_of health_of desk.start me.0 machine
+      → HasClosed answers wants_memory events_of health_of desk passes machine
   has-closed desk passes me machine every joined ends =
-      let parted : Parted (events_of desk.start) (events_of machine) (faults_of desk.start) (faults_of machine) (calls_of passes) =
-      subst (λ (l : List (Call E Q R F)). Parted (events_of desk.start) (events_of machine) (faults_of desk.start) (faults_of machine) l) joined.calls ends.parted in
-      let begins = parted-begins (events_of desk.start) (events_of machine) (faults_of desk.start) (faults_of machine) (calls_of passes) parted in
+      let parted : Parted (events_of desk.start) (events_of machine) (health_of desk.start).faults (health_of machine).faults (calls_of passes) =
+      subst (λ (l : List (Call E Q R F)). Parted (events_of desk.start) (events_of machine) (health_of desk.start).faults (health_of machine).faults l) joined.calls ends.parted in
+      let begins = parted-begins (events_of desk.start) (events_of machine) (health_of desk.start).faults (health_of machine).faults (calls_of passes) parted in
       record {
         complete = every;
         begins = begins.0;
@@ -64,5 +65,5 @@ module _ {E Q R F M S : Type 0} (answers : List E → ℕ → Q → List E → R
         own = joined.own;
         good = subst (λ (l : List (Call E Q R F)). GoodCalls answers wants_memory (events_of machine) l) joined.calls ends.good;
         parted = parted;
-        later = begins.1;
+        later = record { faults = begins.1; tells = ends.tells };
       }

@@ -11,6 +11,7 @@ use Rattle.atomic_table.proofs.Lists.{at_set, set_here, set_else, exchanged}
 use Rattle.pool_base.specs.Lists.{Begins}
 use Rattle.pool_base.specs.Calls.{Call, GoodCalls, IsGoodCall, PartsFrom}
 use Rattle.desk.specs.declared.rule.Held.{Held}
+use Rattle.desk.specs.Machines.{Health}
 use Rattle.desk.specs.Views.{View, acting_view, looking_view, workers_from}
 use Rattle.desk.specs.Rule.{FitsHistory, HasTurn, IsAtHome, IsOneHistory, turns_out}
 use Rattle.desk.specs.declared.rule.Note.{Note}
@@ -108,9 +109,9 @@ module _ {E Q R F : Type 0} where
   )
 
 module _ {E Q R F M : Type 0} (answers : List E → ℕ → Q → List E → R → Type 0) (wants_memory : F → Bool)
-    (events_of : M → List E) (faults_of : M → ℕ) (start : M) (count : ℕ) where
+    (events_of : M → List E) (health_of : M → Health) (start : M) (count : ℕ) where
   abbrev Rule : State (Option (Held M Q R F)) (View E Q R F) → Type 0
-  Rule s = IsOneHistory answers wants_memory events_of faults_of start count s
+  Rule s = IsOneHistory answers wants_memory events_of health_of start count s
 
   -- one seat learns something
   pub learnt : (s : State (Option (Held M Q R F)) (View E Q R F)) (seat : ℕ) (view after : View E Q R F) (words : List ℕ) → (h : Rule s)
@@ -126,6 +127,7 @@ module _ {E Q R F M : Type 0} (answers : List E → ℕ → Q → List E → R �
     word = same ∙ h.word;
     parts = h.parts;
     good = h.good;
+    tells = h.tells;
     home = h.home;
     held = λ j is. turn_stays s.views seat view after there turn j (h.held j is);
     fits = all_set (λ j u. FitsHistory h.log h.events h.most h.holder j u) s.views seat after (λ j u _ at. h.fits j u at) fits;
@@ -164,7 +166,7 @@ module _ {E Q R F M : Type 0} (answers : List E → ℕ → Q → List E → R �
   TakesAt seat me old s x =
       (w : View E Q R F) × (a : Act (Option (Held M Q R F))) × Valid s.homes me.1 a × Rule (stepped s 0 x seat me.1 w a)
       × ((get_or s.words 0 0 ≢ old → (w, carried_after me.1 a) ≡ me)
-      × (get_or s.words 0 0 ≡ old → IsTaken events_of faults_of me (get_or s.words 0 0 / 2) (w, carried_after me.1 a)))
+      × (get_or s.words 0 0 ≡ old → IsTaken events_of health_of me (get_or s.words 0 0 / 2) (w, carried_after me.1 a)))
 
   missed : (slots seat : ℕ) (me : Me (Option (Held M Q R F)) (View E Q R F)) (old : ℕ) (s : State (Option (Held M Q R F)) (View E Q R F)) → (h : Rule s)
       → get_elem? s.views seat ≡ maybe.some me.0 → get_or s.words 0 0 ≢ old → TakesAt seat me old s (get_or s.words 0 0)
@@ -185,11 +187,11 @@ module _ {E Q R F M : Type 0} (answers : List E → ℕ → Q → List E → R �
       let w : get_or s.words 0 0 ≡ 2 * length h.log + 1 = word_is s.words _ h.word ∙ ap (λ (o : maybe.Option ℕ). 2 * length h.log + turns_out o) out in
       absurd (omega (arith, w, is, even))
   won_from seat worker me old s h own even there is maybe.none out =
-      let home : IsAtHome events_of faults_of s.homes h.events h.most = h.home out in
+      let home : IsAtHome events_of health_of s.homes h.events h.most = h.home out in
       let w : get_or s.words 0 0 ≡ 2 * length h.log + 0 = word_is s.words _ h.word ∙ ap (λ (o : maybe.Option ℕ). 2 * length h.log + turns_out o) out in
       let n : get_or s.words 0 0 / 2 ≡ length h.log = calls_are s h in
       let mine = h.fits seat me.0 there in
-      let after : View E Q R F = acting_view me.0 (get_or s.words 0 0 / 2) (events_of home.held.machine) (faults_of home.held.machine) in (
+      let after : View E Q R F = acting_view me.0 (get_or s.words 0 0 / 2) (events_of home.held.machine) (health_of home.held.machine) in (
         after,
         takes 0 (Some home.held),
         home.there,
@@ -201,6 +203,7 @@ module _ {E Q R F M : Type 0} (answers : List E → ℕ → Q → List E → R �
           word = word_set s.words _ (old + 1) h.word ∙ ap (λ (x : ℕ). x ∷ []) (omega (arith, w, is));
           parts = h.parts;
           good = h.good;
+          tells = h.tells;
           home = λ e. absurd (maybe.some-ne-none seat e);
           held = λ j e. record {
             view = after;
@@ -219,7 +222,7 @@ module _ {E Q R F M : Type 0} (answers : List E → ℕ → Q → List E → R �
                 seen = subst (λ (l : List E). Begins l h.events) (sym home.events_are) (begins-itself h.events);
                 told = mine.told;
                 known = omega (arith, n);
-                turn = λ on. (refl, home.events_are, n, home.faults_are);
+                turn = λ on. (refl, home.events_are, n, home.health_is);
                 idle = λ e. absurd (no_cons worker (sym own ∙ e));
               });
           all_calls = subst (λ (l : List (Call E Q R F)). IsPermutation h.log l) (sym (same_flat (λ (v : View E Q R F). v.calls) s.views seat me.0 after there refl)) h.all_calls;
@@ -239,7 +242,7 @@ module _ {E Q R F M : Type 0} (answers : List E → ℕ → Q → List E → R �
   -- a take keeps the rule
   pub takes_turn : (slots seat : ℕ) (me : Me (Option (Held M Q R F)) (View E Q R F)) (old worker : ℕ)
       → me.0.workers ≡ worker ∷ [] → old % 2 ≡ 0
-      → Allows Rule slots seat me 0 (λ n. either (eqb n old) (old + 1) n) (Takes events_of faults_of (step slots 0 old (old + 1) maybe.none) me)
+      → Allows Rule slots seat me 0 (λ n. either (eqb n old) (old + 1) n) (Takes events_of health_of (step slots 0 old (old + 1) maybe.none) me)
   takes_turn slots seat me old worker own even s h deep there low =
       exchanged (get_or s.words 0 0) old (old + 1) (TakesAt seat me old s)
       (λ is. won_from seat worker me old s h own even there is h.holder refl)
@@ -247,13 +250,13 @@ module _ {E Q R F M : Type 0} (answers : List E → ℕ → Q → List E → R �
 
   -- a seat's call, after which the machine is back
   core : (slots seat : ℕ) (view : View E Q R F) (machine : M) (note : Note Q R F)
-      → slots ≡ 1 → IsNextCall answers wants_memory view (events_of machine) (faults_of machine) note
+      → slots ≡ 1 → IsNextCall answers wants_memory view (events_of machine) (health_of machine) note
       → (new : ℕ) → new ≡ 2 * view.known + 2
       → let me : Me (Option (Held M Q R F)) (View E Q R F) = (view, (0, Some (record { machine = machine; note = Some note })) ∷ []) in
-      Allows Rule slots seat me 0 (λ _. new) (λ _. Puts events_of faults_of (step slots 0 new 0 maybe.none) me new)
+      Allows Rule slots seat me 0 (λ _. new) (λ _. Puts events_of health_of (step slots 0 new 0 maybe.none) me new)
   core slots seat view machine note one next new is s h deep there low =
       let held : Held M Q R F = record { machine = machine; note = Some note } in
-      let call : Call E Q R F = call_of view (events_of machine) (faults_of machine) note in
+      let call : Call E Q R F = call_of view (events_of machine) (health_of machine) note in
       let after : View E Q R F = called_view view (events_of machine) call in
       let mine = (h.fits seat view there).turn next.has_turn in
       let added : events_of machine ≡ view.seen ++ call.added =
@@ -268,11 +271,12 @@ module _ {E Q R F M : Type 0} (answers : List E → ℕ → Q → List E → R �
         record {
           log = h.log ++ call ∷ [];
           events = events_of machine;
-          most = faults_of machine;
+          most = health_of machine;
           holder = maybe.none;
           word = word_set s.words _ new h.word ∙ ap (λ (x : ℕ). x ∷ []) (omega (arith, is, mine.2, long));
-          parts = subst (λ (l : List E). PartsFrom (events_of start) 0 (faults_of start) l (faults_of machine) (h.log ++ call ∷ [])) (sym now)
-              (parts-snoc (events_of start) 0 (faults_of start) h.events h.most h.log call h.parts (ap length mine.1) (omega (arith, mine.2)) (omega (arith, mine.3)) next.later);
+          parts = subst (λ (l : List E). PartsFrom (events_of start) 0 (health_of start).faults l (health_of machine).faults (h.log ++ call ∷ [])) (sym now)
+              (parts-snoc (events_of start) 0 (health_of start).faults h.events h.most.faults h.log call h.parts (ap length mine.1) (omega (arith, mine.2))
+              (let base = ap (λ (health : Health). health.faults) mine.3 in omega (arith, base)) next.later.faults);
           good = all-snoc (IsGoodCall answers wants_memory (events_of machine)) h.log call
               (subst (λ (l : List E). GoodCalls answers wants_memory l h.log) (sym now) (good-more answers wants_memory h.events call.added h.log h.good))
               (record {
@@ -282,14 +286,15 @@ module _ {E Q R F M : Type 0} (answers : List E → ℕ → Q → List E → R �
                 at_front = refl;
                 outcome = next.outcome;
               });
+          tells = next.later.tells ∙ ap (λ (health : Health). health.tells) mine.3 ∙ h.tells;
           home = λ _. record {
             held = held;
             there = set_here s.homes 0 (maybe.some (Some held)) (omega (arith, deep, one));
             events_are = refl;
-            faults_are = refl;
+            health_is = refl;
           };
           held = λ j e. absurd (none-is-some j e);
-          fits = all_set (λ j u. FitsHistory (h.log ++ call ∷ []) (events_of machine) (faults_of machine) maybe.none j u) s.views seat after
+          fits = all_set (λ j u. FitsHistory (h.log ++ call ∷ []) (events_of machine) (health_of machine) maybe.none j u) s.views seat after
               (λ j u apart at. let f = h.fits j u at in record {
                 seen = grows u.seen f.seen;
                 told = grows u.told f.told;
@@ -312,9 +317,9 @@ module _ {E Q R F M : Type 0} (answers : List E → ℕ → Q → List E → R �
 
   pub puts : (slots seat : ℕ) (me : Me (Option (Held M Q R F)) (View E Q R F)) (view : View E Q R F) (machine : M) (note : Note Q R F)
       → me ≡ (view, (0, Some (record { machine = machine; note = Some note })) ∷ [])
-      → slots ≡ 1 → IsNextCall answers wants_memory view (events_of machine) (faults_of machine) note
+      → slots ≡ 1 → IsNextCall answers wants_memory view (events_of machine) (health_of machine) note
       → (new : ℕ) → new ≡ 2 * view.known + 2
-      → Allows Rule slots seat me 0 (λ _. new) (λ _. Puts events_of faults_of (step slots 0 new 0 maybe.none) me new)
+      → Allows Rule slots seat me 0 (λ _. new) (λ _. Puts events_of health_of (step slots 0 new 0 maybe.none) me new)
   puts slots seat me view machine note e one next new is =
-      subst (λ (x : Me (Option (Held M Q R F)) (View E Q R F)). Allows Rule slots seat x 0 (λ _. new) (λ _. Puts events_of faults_of (step slots 0 new 0 maybe.none) x new)) (sym e)
+      subst (λ (x : Me (Option (Held M Q R F)) (View E Q R F)). Allows Rule slots seat x 0 (λ _. new) (λ _. Puts events_of health_of (step slots 0 new 0 maybe.none) x new)) (sym e)
       (core slots seat view machine note one next new is)

@@ -9,6 +9,7 @@ use Rattle.atomic_table.specs.Table.{State, Splits, Joins, opening}
 use Rattle.atomic_table.proofs.Lists.{at_longer, at_snoc, set_else}
 use Rattle.pool_base.specs.Calls.{Call}
 use Rattle.desk.specs.declared.rule.Held.{Held}
+use Rattle.desk.specs.Machines.{Health}
 use Rattle.desk.specs.Views.{View, dealt_view, fresh_view, joined_view, left_view, spent_view, telling_view, workers_from}
 use Rattle.desk.specs.Rule.{FitsHistory, IsOneHistory}
 use Rattle.desk.proofs.Spread.{one_joined, one_split}
@@ -20,14 +21,14 @@ no-parts [] ys e = (refl, e)
 no-parts (x ∷ xs) ys e = absurd (cc)
 
 module _ {E Q R F M : Type 0} (answers : List E → ℕ → Q → List E → R → Type 0) (wants_memory : F → Bool)
-    (events_of : M → List E) (faults_of : M → ℕ) (start : M) (count : ℕ) where
+    (events_of : M → List E) (health_of : M → Health) (start : M) (count : ℕ) where
   abbrev Rule : State (Option (Held M Q R F)) (View E Q R F) → Type 0
-  Rule s = IsOneHistory answers wants_memory events_of faults_of start count s
+  Rule s = IsOneHistory answers wants_memory events_of health_of start count s
 
   -- a seat gives some of what it has to a new one
   splits : (seat : ℕ) (view left right : View E Q R F)
       → view.calls ≡ right.calls ++ left.calls → view.workers ≡ right.workers ++ left.workers → left.has_turn ≡ view.has_turn
-      → ((log : List (Call E Q R F)) (events : List E) (most : ℕ) (holder : maybe.Option ℕ) → FitsHistory log events most holder seat view
+      → ((log : List (Call E Q R F)) (events : List E) (most : Health) (holder : maybe.Option ℕ) → FitsHistory log events most holder seat view
       → FitsHistory log events most holder seat left × ((j : ℕ) → FitsHistory log events most holder j right))
       → Splits Rule seat view left right
   splits seat view left right calls workers turn fit s h there =
@@ -40,6 +41,7 @@ module _ {E Q R F M : Type 0} (answers : List E → ℕ → Q → List E → R �
         word = h.word;
         parts = h.parts;
         good = h.good;
+        tells = h.tells;
         home = h.home;
         held = λ j is. let t = turn_stays s.views seat view left there turn j (h.held j is) in
             record { view = t.view; there = at_longer (set s.views seat left) (right ∷ []) j t.view t.there; has_turn = t.has_turn };
@@ -99,6 +101,7 @@ module _ {E Q R F M : Type 0} (answers : List E → ℕ → Q → List E → R �
         word = h.word;
         parts = h.parts;
         good = h.good;
+        tells = h.tells;
         home = h.home;
         held = λ j is. turn_stays (set s.views seat both) other theirs spent_view there' (sym rest) j (turn_stays s.views seat view both there refl j (h.held j is));
         fits = all_set (λ k v. FitsHistory h.log h.events h.most h.holder k v) (set s.views seat both) other spent_view
@@ -113,12 +116,13 @@ module _ {E Q R F M : Type 0} (answers : List E → ℕ → Q → List E → R �
   opens held is = record {
     log = [];
     events = events_of start;
-    most = faults_of start;
+    most = health_of start;
     holder = maybe.none;
     word = refl;
     parts = (refl, omega arith);
     good = tt;
-    home = λ _. record { held = held; there = refl; events_are = ap events_of is; faults_are = ap faults_of is };
+    tells = refl;
+    home = λ _. record { held = held; there = refl; events_are = ap events_of is; health_is = ap health_of is };
     held = λ j e. absurd (none-is-some j e);
     fits = one;
     all_calls = IsPermutation-refl [];
@@ -128,8 +132,8 @@ module _ {E Q R F M : Type 0} (answers : List E → ℕ → Q → List E → R �
       first : View E Q R F
       first = fresh_view (events_of start) (workers_from 0 count)
 
-      one : (j : ℕ) (u : View E Q R F) → get_elem? (first ∷ []) j ≡ maybe.some u → FitsHistory [] (events_of start) (faults_of start) maybe.none j u
-      one zero u e = subst (λ (v : View E Q R F). FitsHistory [] (events_of start) (faults_of start) maybe.none 0 v) (maybe.some-injective first u e) (record {
+      one : (j : ℕ) (u : View E Q R F) → get_elem? (first ∷ []) j ≡ maybe.some u → FitsHistory [] (events_of start) (health_of start) maybe.none j u
+      one zero u e = subst (λ (v : View E Q R F). FitsHistory [] (events_of start) (health_of start) maybe.none 0 v) (maybe.some-injective first u e) (record {
         seen = begins-itself (events_of start);
         told = begins-nothing (events_of start);
         known = omega arith;

@@ -4,6 +4,7 @@ use Rattle.std.specs.List.{AllByRecursion, Contains, flat_map}
 use Rattle.atomic_table.specs.Table.{Me}
 use Rattle.pool_base.specs.Lists.{Begins}
 use Rattle.pool_base.specs.Calls.{Call, GoodCalls, Parted}
+use Rattle.desk.specs.Machines.{Health, IsLaterHealth}
 use Rattle.desk.specs.Views.{View}
 use Rattle.desk.specs.Passes.{AreOfWorker, CallsRise, Opening, Progress}
 
@@ -34,9 +35,10 @@ pub record IsRefused {E Q R F M : Type 0} (desk : Opening M) (passes : List (Pro
   pub place_is : IsLeastMissing desk.count passes place
 
 -- the machine's events begin with those of the machine that the desk was opened with, and with what
--- each pass has seen; the calls of all passes are good, and part the events
+-- each pass has seen, and it tells what it keeps if that one did; the calls of all passes are good, and part
+-- the events
 pub record HasClosed {E Q R F M : Type 0} (answers : List E → ℕ → Q → List E → R → Type 0)
-    (wants_memory : F → Bool) (events_of : M → List E) (faults_of : M → ℕ)
+    (wants_memory : F → Bool) (events_of : M → List E) (health_of : M → Health)
     (desk : Opening M) (passes : List (Progress E Q R F)) (machine : M) : Type 0 where
   pub complete : HasEveryWorker desk.count passes
   pub begins : Begins (events_of desk.start) (events_of machine)
@@ -45,9 +47,9 @@ pub record HasClosed {E Q R F M : Type 0} (answers : List E → ℕ → Q → Li
   pub rise : AllByRecursion CallsRise passes
   pub own : AllByRecursion (λ pass. AreOfWorker pass.worker pass.calls) passes
   pub good : GoodCalls answers wants_memory (events_of machine) (calls_of passes)
-  pub parted : Parted (events_of desk.start) (events_of machine) (faults_of desk.start)
-      (faults_of machine) (calls_of passes)
-  pub later : faults_of desk.start ≤ faults_of machine
+  pub parted : Parted (events_of desk.start) (events_of machine) (health_of desk.start).faults
+      (health_of machine).faults (calls_of passes)
+  pub later : IsLaterHealth (health_of desk.start) (health_of machine)
 
 -- a seat that took over what these passes had
 pub record IsJoined {E Q R F S : Type 0} (passes : List (Progress E Q R F))
@@ -62,9 +64,10 @@ pub record IsJoined {E Q R F S : Type 0} (passes : List (Progress E Q R F))
 
 -- the machine is what the calls of one seat made of the one at the start
 pub record IsOfSeat {E Q R F M : Type 0} (answers : List E → ℕ → Q → List E → R → Type 0)
-    (wants_memory : F → Bool) (events_of : M → List E) (faults_of : M → ℕ)
+    (wants_memory : F → Bool) (events_of : M → List E) (health_of : M → Health)
     (start : M) (view : View E Q R F) (machine : M) : Type 0 where
   pub seen : Begins view.seen (events_of machine)
   pub good : GoodCalls answers wants_memory (events_of machine) view.calls
-  pub parted : Parted (events_of start) (events_of machine) (faults_of start) (faults_of machine)
-      view.calls
+  pub parted : Parted (events_of start) (events_of machine) (health_of start).faults
+      (health_of machine).faults view.calls
+  pub tells : (health_of machine).tells ≡ (health_of start).tells

@@ -1,6 +1,17 @@
--- What one call of a machine does to its events and its count of faults (this project's own).
-use Rattle.std.specs.Prelude.{◌≡◌, ℕ, Bool, false, List, ◌++◌, Result, Ok, Err}
+-- What one call of a machine does to its events and its health (this project's own).
+use Rattle.std.specs.Prelude.{◌≡◌, ℕ, ◌≤◌, Bool, false, List, ◌++◌, Result, Ok, Err}
 use Rattle.pool_base.specs.Counts.{Rose}
+
+-- its count of faults, and whether it tells what it keeps
+pub record Health : Type 0 where
+  pub faults : ℕ
+  pub tells : Bool
+
+-- the count is no less than before, and a machine that told still tells, as one that didn't tells
+-- nothing
+pub record IsLaterHealth (before after : Health) : Type 0 where
+  pub faults : before.faults ≤ after.faults
+  pub tells : after.tells ≡ before.tells
 
 -- a reply adds what the machine answers with; a fault adds nothing, and the count rose unless memory
 -- was wanted

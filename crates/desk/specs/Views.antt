@@ -2,9 +2,10 @@
 -- is made.
 use Rattle.std.specs.Prelude.{ℕ, zero, suc, ◌+◌, Bool, true, false, List, [], ◌∷◌, ◌++◌, length, take, drop, max, nat_lt, cond}
 use Rattle.pool_base.specs.Calls.{Call}
+use Rattle.desk.specs.Machines.{Health}
 
 -- what was seen, what was told by a seat that was joined, the known number, the own calls, the
--- workers that it calls for, whether it has the turn, and the count of faults when the turn came
+-- workers that it calls for, whether it has the turn, and the machine's health when the turn came
 pub record View (E Q R F : Type 0) : Type 0 where
   pub seen : List E
   pub told : List E
@@ -12,7 +13,7 @@ pub record View (E Q R F : Type 0) : Type 0 where
   pub calls : List (Call E Q R F)
   pub workers : List ℕ
   pub has_turn : Bool
-  pub base : ℕ
+  pub base : Health
 
 -- so many workers in a row
 abbrev pub workers_from : ℕ → ℕ → List ℕ
@@ -28,7 +29,7 @@ fresh_view start workers = record {
   calls = [];
   workers = workers;
   has_turn = false;
-  base = 0;
+  base = record { faults = 0; tells = false };
 }
 
 -- a seat that was joined
@@ -68,6 +69,6 @@ looking_view view count =
     record view { seen = longer view.seen view.told; told = []; known = count }
 
 -- a seat that has the turn, with so many calls before it
-abbrev pub acting_view : {E Q R F : Type 0} → View E Q R F → ℕ → List E → ℕ → View E Q R F
-acting_view view count events faults =
-    record view { seen = events; known = count; has_turn = true; base = faults }
+abbrev pub acting_view : {E Q R F : Type 0} → View E Q R F → ℕ → List E → Health → View E Q R F
+acting_view view count events health =
+    record view { seen = events; known = count; has_turn = true; base = health }

@@ -30,7 +30,7 @@ impl<M: Machine> Desk<M> {
     pub fn close(self, passes: Vec<Pass<M>>) -> Result<M, CloseError<M>>
         requires { All (λ pass. pass.table ≡ self.table) passes.items }
         ensures { MatchResult result
-            (λ machine. HasClosed M.answers M.wants_memory M.events M.faults self passes.items
+            (λ machine. HasClosed M.answers M.wants_memory M.events M.health self passes.items
             machine)
             (λ refused. IsRefused self passes.items refused.desk refused.passes.items
             refused.place) }
@@ -108,7 +108,7 @@ fn give_up<M: Machine>(
     requires rests { seat.me.0.has_turn ≡ false }
     requires every { (worker : ℕ) → worker < table.shared.key.count
         → Contains seat.me.0.workers worker }
-    ensures { IsOfSeat M.answers M.wants_memory M.events M.faults table.shared.key.start.value
+    ensures { IsOfSeat M.answers M.wants_memory M.events M.health table.shared.key.start.value
         seat.me.0 result }
 {
     let mut closed = table.close_with(seat);

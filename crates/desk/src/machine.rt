@@ -1,7 +1,7 @@
 //! What can stand at a desk.
 
 ghost use Rattle.std.specs.Prelude.{◌≡◌, ℕ, ◌<◌, ◌≤◌, ◌^◌, List, Bool, length};
-ghost use Rattle.desk.specs.Machines.{MakesTurn};
+ghost use Rattle.desk.specs.Machines.{Health, IsLaterHealth, MakesTurn};
 
 /// A machine that keeps a list of events, counts its faults, and answers one request after another.
 pub trait Machine {
@@ -16,10 +16,10 @@ pub trait Machine {
     // The events so far.
     ghost events: { Self → List Self.Event };
 
-    // The count of faults.
-    ghost faults: { Self → ℕ };
+    // The count of faults, and whether it tells what it keeps.
+    ghost health: { Self → Health };
 
-    // The faults that are want of memory, and say nothing of the count.
+    // The faults that are for lack of memory, and say nothing of the count.
     ghost wants_memory: { Self.Fault → Bool };
 
     // After these events, this caller's request adds these events and has this reply.
@@ -31,9 +31,9 @@ pub trait Machine {
         ensures few { result < 2 ^ 62 };
 
     /// Answers the caller's request. A reply adds the events that the machine answers with, a fault
-    /// none; one that isn't want of memory comes only where the count of faults rose in this call.
+    /// none; one that isn't a lack of memory comes only where the count of faults rose in this call.
     fn act(&mut self, caller: u32, request: Self::Request) -> Result<Self::Reply, Self::Fault>
-        ensures turn { MakesTurn answers wants_memory (events self.old) (faults self.old) caller request
-            (events self.new) (faults self.new) result }
-        ensures later { faults self.old ≤ faults self.new };
+        ensures turn { MakesTurn answers wants_memory (events self.old) (health self.old).faults caller
+            request (events self.new) (health self.new).faults result }
+        ensures later { IsLaterHealth (health self.old) (health self.new) };
 }

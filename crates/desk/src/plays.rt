@@ -13,7 +13,7 @@ pub struct Take<M> {
 impl<M: Machine> Play<Slot<M>, ViewOf<M>> for Take<M> {
     ghost use Rattle.desk.specs.Plays.{Takes};
 
-    ghost then = { Takes M.events M.faults };
+    ghost then = { Takes M.events M.health };
 }
 
 /// The machine is put back, with the call that it answered.
@@ -24,7 +24,7 @@ pub struct Put<M> {
 impl<M: Machine> Play<Slot<M>, ViewOf<M>> for Put<M> {
     ghost use Rattle.desk.specs.Plays.{Puts};
 
-    ghost then = { Puts M.events M.faults };
+    ghost then = { Puts M.events M.health };
 }
 
 /// The count of calls is seen, and what was told is known to be a front of the history.

@@ -60,7 +60,7 @@ impl<M: Machine> TableRule<Slot<M>, ViewOf<M>, Key<M>> for Turns<M> {
     ghost use Rattle.desk.specs.Views.{fresh_view, workers_from};
     ghost use Rattle.desk.specs.Rule.{IsOneHistory};
 
-    ghost holds = { λ key. IsOneHistory M.answers M.wants_memory M.events M.faults key.start.value
+    ghost holds = { λ key. IsOneHistory M.answers M.wants_memory M.events M.health key.start.value
         key.count };
 
     ghost first = { λ key. fresh_view (M.events key.start.value) (workers_from 0 key.count) };

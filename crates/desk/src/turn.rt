@@ -1,7 +1,7 @@
 //! The turn at a desk: it is taken with the machine, and given back with the machine and its call.
 
 ghost use Rattle.std.specs.Prelude.{◌≡◌, ℕ, ◌^◌, ◌≤◌, ◌<◌, [], ◌∷◌, Some, None};
-ghost use Rattle.desk.specs.Machines.{MakesTurn};
+ghost use Rattle.desk.specs.Machines.{IsLaterHealth, MakesTurn};
 ghost use Rattle.desk.specs.Plays.{IsTaken, IsSized, IsNextCall, call_of, called_view};
 
 use crate::machine::Machine;
@@ -20,7 +20,7 @@ pub fn take_turn<M: Machine, R: Wait>(rt: &R, board: &Board<M>, seat: &mut Place
     requires board { IsSized board.now.table_id × (seat.old.table_id ≡ board.now.table_id) }
     requires seat { (worker : ℕ) × (seat.old.me.0.workers ≡ worker ∷ []) × (seat.old.me.1 ≡ []) }
     ensures same { seat.new.table_id ≡ seat.old.table_id }
-    ensures taken { IsTaken M.events M.faults seat.old.me result seat.new.me }
+    ensures taken { IsTaken M.events M.health seat.old.me result seat.new.me }
     ensures fits { result < 2 ^ 62 }
 {
     for _ in rt.forever() {
@@ -56,9 +56,9 @@ pub fn answer<M: Machine>(
     worker: u32,
     request: M::Request,
 ) -> (Result<M::Reply, M::Fault>, NoteOf<M>)
-    ensures turn { MakesTurn M.answers M.wants_memory (M.events machine.old) (M.faults machine.old)
-        worker request (M.events machine.new) (M.faults machine.new) result.0 }
-    ensures later { M.faults machine.old ≤ M.faults machine.new }
+    ensures turn { MakesTurn M.answers M.wants_memory (M.events machine.old) (M.health machine.old).faults
+        worker request (M.events machine.new) (M.health machine.new).faults result.0 }
+    ensures later { IsLaterHealth (M.health machine.old) (M.health machine.new) }
     ensures note { (result.1.worker ≡ worker) × (result.1.asked.value ≡ request)
         × (result.1.answer.value ≡ result.0) }
 {
@@ -84,11 +84,11 @@ pub fn put_back<M: Machine>(
     requires carried { seat.old.me.1 ≡ (0, None) ∷ [] }
     requires count { (seat.old.me.0.known ≡ count) × (count < 2 ^ 62) }
     requires call { IsNextCall M.answers M.wants_memory seat.old.me.0 (M.events machine)
-        (M.faults machine) note }
+        (M.health machine) note }
     ensures same { seat.new.table_id ≡ seat.old.table_id }
     ensures called { seat.new.me ≡ (
       called_view seat.old.me.0 (M.events machine)
-          (call_of seat.old.me.0 (M.events machine) (M.faults machine) note),
+          (call_of seat.old.me.0 (M.events machine) (M.health machine) note),
       [],
     ) }
 {

@@ -1,5 +1,5 @@
 -- From the passes of a desk that was just opened to the calls of all when it is closed.
-use Rattle.std.proofs.Common.{◌≡◌, ◌≢◌, ℕ, zero, suc, ◌+◌, ◌<◌, ◌≤◌, All, List, [], ◌∷◌, ◌++◌, length, map, refl, sym, ap, ◌∙◌, subst, arith}
+use Rattle.std.proofs.Common.{◌≡◌, ◌≢◌, ℕ, zero, suc, ◌+◌, ◌<◌, ◌≤◌, All, Option, None, Some, is_some, List, [], ◌∷◌, ◌++◌, length, map, true≢false, refl, sym, ap, ◌∙◌, subst, arith}
 use Rattle.std.specs.Global.{Vec}
 use Rattle.std.specs.List.{AllByRecursion, Contains}
 use Rattle.std.proofs.lemmas.List.Elements.{All-from_recursion}
@@ -15,7 +15,7 @@ use Rattle.pool_history.specs.declared.events.Role.TheVariants as role
 use Rattle.pool_history.specs.Answering.{Answer}
 use Rattle.pool_history.specs.Calls.{GoodPoolCalls, PoolCall, wants_memory}
 use Rattle.ledger_laws.specs.Keeping.{IsKept}
-use Rattle.share_ledger.specs.Books.{BookSeen, KeepsLedger}
+use Rattle.share_ledger.specs.Books.{BookSeen, KeepsInstead, KeepsLedger, health_of}
 use Rattle.session_steps.specs.Steps.{calls_in}
 use Rattle.session_workers.specs.Calling.{PoolPass}
 use Rattle.session_workers.specs.Visits.{IsVisit}
@@ -27,6 +27,13 @@ use Rattle.pool_server.specs.Ending.{HasServed, IsFinished}
 use Rattle.pool_server.specs.Parts.{Seeing, manner_of}
 use Rattle.pool_server.specs.Serving.{AreShifts, HasRun, NumbersRise}
 use Rattle.pool_server.specs.Tending.{AreWorked, IsTended, all_calls, calls_of_shifts}
+
+-- a keeper that tells where it told tells this ledger where it told
+keeps-telling : (before after : Option (List (List ℕ))) (history : List Event) → is_some after ≡ is_some before → KeepsLedger after history → KeepsInstead before after history
+keeps-telling None None history same ledger = refl
+keeps-telling (Some records) (Some now) history same ledger = ap Some ledger
+keeps-telling None (Some now) history same ledger = absurd (true≢false same)
+keeps-telling (Some records) None history same ledger = absurd (true≢false (sym same))
 
 -- a pass that was just dealt
 abbrev fresh_pass : TableId → List Event → ℕ → PoolPass
@@ -131,7 +138,7 @@ module _ {D L K : Type 0} {seeing : Seeing D L} {desk : Opening BookSeen} {start
   every_worker = λ worker less.
       subst (λ (l : List ℕ). Contains l worker) (sym ready_opened.workers) (contains_workers 0 count worker (omega arith) (let dealt = opened.dealt in omega (arith, less, dealt)))
 
-  has_run : (book : BookSeen) → HasClosed Answer wants_memory (λ (seen : BookSeen). seen.events) (λ (seen : BookSeen). seen.keeper.faults) desk tended.passes.items book
+  has_run : (book : BookSeen) → HasClosed Answer wants_memory (λ (seen : BookSeen). seen.events) health_of desk tended.passes.items book
       → IsKept book.events → KeepsLedger book.keeper.records book.events
       → HasRun seeing.service (record { book = start; doors = map seeing.door doors.items; feed = seeing.link feed })
       (record { book = book; doors = map seeing.door tended.doors.items; feed = seeing.link tended.feed })
@@ -147,7 +154,8 @@ module _ {D L K : Type 0} {seeing : Seeing D L} {desk : Opening BookSeen} {start
         doors_after = is.doors_after;
         begins = subst (λ (s : BookSeen). Begins s.events book.events) opened.start closed.begins;
         kept = kept;
-        ledger = ledger;
+        ledger = subst (λ (s : BookSeen). KeepsInstead s.keeper.records book.keeper.records book.events) opened.start
+            (keeps-telling desk.start.keeper.records book.keeper.records book.events closed.later.tells ledger);
         good = subst (λ (l : List PoolCall). GoodPoolCalls book.events l) all.calls closed.good;
         parted =
             subst (λ (s : BookSeen). Parted s.events book.events s.keeper.faults book.keeper.faults (all_calls is.steps is.shifts)) opened.start

@@ -6,7 +6,7 @@ use Rattle.desk.specs.Passes.{Opening}
 use Rattle.pool_history.specs.Answering.{Answer}
 use Rattle.pool_history.specs.Calls.{wants_memory}
 use Rattle.ledger_laws.specs.Keeping.{IsKept}
-use Rattle.share_ledger.specs.Books.{BookSeen, KeepsLedger}
+use Rattle.share_ledger.specs.Books.{BookSeen, KeepsLedger, health_of}
 use Rattle.pool_server.specs.declared.pairing.Tended.{Tended}
 use Rattle.pool_server.specs.declared.serving.Served.{Served}
 use Rattle.pool_server.specs.declared.serving.Served.TheVariants as served
@@ -28,7 +28,7 @@ HasServed seeing book doors feed (served.Memory book' doors' feed') =
 abbrev pub IsFinished :
     {K D L : Type 0} → Opening BookSeen → Tended D L K → Served K D L → Type 0
 IsFinished desk tended (served.Ran book doors feed reason ledger_faults door_faults door_memory) =
-    HasClosed Answer wants_memory (λ seen. seen.events) (λ seen. seen.keeper.faults) desk
+    HasClosed Answer wants_memory (λ seen. seen.events) health_of desk
     tended.passes.items book
     × IsKept book.events × KeepsLedger book.keeper.records book.events
     × (doors ≡ tended.doors) × (feed ≡ tended.feed) × (reason ≡ tended.feed_end)

@@ -7,7 +7,7 @@ use Rattle.pool_network.specs.Seen.{DoorSeen, LinkSeen}
 use Rattle.pool_history.specs.declared.events.Role.TheVariants as role
 use Rattle.pool_history.specs.Calls.{GoodPoolCalls, PoolCall}
 use Rattle.ledger_laws.specs.Keeping.{IsKept}
-use Rattle.share_ledger.specs.Books.{BookSeen, KeepsLedger}
+use Rattle.share_ledger.specs.Books.{BookSeen, KeepsInstead}
 use Rattle.session_steps.specs.declared.ends.SessionEnd.{SessionEnd}
 use Rattle.session_steps.specs.Steps.{SessionStep, calls_in}
 use Rattle.session_workers.specs.Visits.{IsVisit}
@@ -34,8 +34,8 @@ abbrev pub NumbersRise : List PoolCall → Type 0
 NumbersRise calls = (known : ℕ) × RiseFrom 0 calls known
 
 -- The first worker served the feed's link by one session, and each later one had a shift at its door.
--- The history begins with the one that came, is legal and has records; the keeper's are its ledger,
--- where it tells them. The calls of all these sessions are good, and are all that became of the
+-- The history begins with the one that came, is legal and has records; a keeper that told its records
+-- then tells this history's ledger. The calls of all these sessions are good, and are all that became of the
 -- history that came; the numbers of each worker's rise.
 pub record HasRun (service : Service) (old new : Hall) (reason : SessionEnd)
     (ledger_faults door_faults door_memory : ℕ) : Type 0 where
@@ -52,7 +52,7 @@ pub record HasRun (service : Service) (old new : Hall) (reason : SessionEnd)
   pub doors_after : map (λ shift. shift.after) shifts ≡ new.doors
   pub begins : Begins old.book.events new.book.events
   pub kept : IsKept new.book.events
-  pub ledger : KeepsLedger new.book.keeper.records new.book.events
+  pub ledger : KeepsInstead old.book.keeper.records new.book.keeper.records new.book.events
   pub good : GoodPoolCalls new.book.events (all_calls steps shifts)
   pub parted : Parted old.book.events new.book.events old.book.keeper.faults
       new.book.keeper.faults (all_calls steps shifts)

@@ -40,7 +40,7 @@ use Rattle.share_ledger.proofs.Within.{at_past, within_by}
 pub err_same : {X E : Type 0} {a b : E} → ◌≡◌ {A = Result X E} (Err a) (Err b) → a ≡ b
 err_same e = cc
 
--- what an answer was, if it isn't want of memory
+-- what an answer was, if it isn't a lack of memory
 pub planned_as : {X E : Type 0} (memory : E) (x : X) (answer : Result X E) → IsUnless memory (Ok x) answer → answer ≡ Ok x
 planned_as memory x answer (inl h) = absurd cc
 planned_as memory x answer (inr h) = sym h

@@ -28,7 +28,7 @@ use Rattle.share_ledger.specs.Planning.{IsStepWithin, OffersJob, TipsJob, past_i
 use Rattle.share_ledger.specs.Tables.{AreTables, LedgerTables}
 use Rattle.share_ledger.proofs.Within.{counted_jobs, future_same, rules_same, script_same, within}
 
--- a refusal that isn't want of memory is the one that was told
+-- a refusal that isn't a lack of memory is the one that was told
 pub told_refusal : (error : JobError) (told : Option JobError) → error ≢ job_error.Memory → IsRefusal error told → told ≡ Some error
 told_refusal job_error.Memory told not is = absurd (not refl)
 told_refusal (job_error.TooMany count) told not is = is

@@ -97,7 +97,7 @@ pub still : (old shown : LedgerTables) (session : ℕ) (asked : Request) (answer
 still old shown session asked answer same h =
     subst (λ (t : LedgerTables). step_within (rules_of (past_in t)) (past_in t) session asked ≡ without_event answer) same h
 
--- so is a step that may want memory
+-- so is a step that may lack memory
 pub if_made : {E : Type 0} (old shown new : LedgerTables) (session : ℕ) (asked : Request) (made : Result Step E) (st : Step) → old ≡ shown
     → IfOk made (λ (m : Step). m ≡ st) → IsStepWithin old new session asked st → IfOk made (IsStepWithin shown new session asked)
 if_made old shown new session asked (Err e) st same h is = tt

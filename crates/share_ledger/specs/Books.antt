@@ -1,6 +1,7 @@
 -- What a book answers, and what its keeper is told (this project's own).
-use Rattle.std.specs.Prelude.{◌≡◌, ℕ, Bool, true, false, Option, None, Some, IfSome, Result, Ok, Err, List, [], ◌∷◌, ◌++◌}
+use Rattle.std.specs.Prelude.{◌≡◌, ℕ, Bool, true, false, Option, None, Some, is_some, IfSome, Result, Ok, Err, List, [], ◌∷◌, ◌++◌}
 use Rattle.std.specs.Option.{option_map}
+use Rattle.desk.specs.Machines.{Health}
 use Rattle.pool_io.specs.Seen.{KeeperSeen}
 use Rattle.pool_history.specs.declared.asking.Request.{Request}
 use Rattle.pool_history.specs.declared.events.Event.{Event}
@@ -15,6 +16,13 @@ use Rattle.pool_history.specs.Calls.{blames_keeper}
 pub record BookSeen : Type 0 where
   pub events : List Event
   pub keeper : KeeperSeen
+
+-- its keeper's count of faults, and whether that one tells its records
+abbrev pub health_of : BookSeen → Health
+health_of book = record {
+  faults = book.keeper.faults;
+  tells = is_some book.keeper.records;
+}
 
 -- the reply is that of the answer to the request, and the history grows by its events alone
 abbrev pub IsReplied : List Event → List Event → ℕ → Request → Reply → Type 0

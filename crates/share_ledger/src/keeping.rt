@@ -141,7 +141,7 @@ pub(crate) fn keep_start<K: Keeper>(
     }
 }
 
-/// Appends a piece; a keeper's want of memory is the book's.
+/// Appends a piece; a keeper's lack of memory is the book's.
 fn append<K: Keeper>(keeper: &mut K, piece: &[u8]) -> Result<(), BookError>
     requires { length piece.now ≤ 300100 }
     ensures kept { OnOk result (AddsRecord (K.seen keeper.old).records (K.seen keeper.new).records

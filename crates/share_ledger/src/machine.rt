@@ -8,6 +8,7 @@ use pool_io::Keeper;
 impl<K: Keeper> Machine for Book<K> {
     ghost use Rattle.pool_history.specs.Answering.{Answer};
     ghost use Rattle.pool_history.specs.Calls as pool_calls;
+    ghost use Rattle.share_ledger.specs.Books.{health_of};
 
     type Event = Event;
 
@@ -19,7 +20,7 @@ impl<K: Keeper> Machine for Book<K> {
 
     ghost events = { λ book. book.events };
 
-    ghost faults = { λ book. book.keeper.faults };
+    ghost health = { health_of };
 
     ghost wants_memory = { pool_calls.wants_memory };
 

@@ -28,7 +28,7 @@ join_seat-requires g c =
       ap (λ p. p.table) c.pass-in-Some-pop.view_is ∙ tables.1,
       c.pass-in-Some-pop.invariant.carried,
       search rules,
-      joins g.M.Machine.answers g.M.Machine.wants_memory g.M.Machine.events g.M.Machine.faults _ _ c.loop-pass.seat.id c.loop-pass.seat.me.0 _ c.pass-in-Some-pop.inside.seat.me.0
+      joins g.M.Machine.answers g.M.Machine.wants_memory g.M.Machine.events g.M.Machine.health _ _ c.loop-pass.seat.id c.loop-pass.seat.me.0 _ c.pass-in-Some-pop.inside.seat.me.0
           c.loop-pass.invariant.joined.2.turn c.pass-in-Some-pop.invariant.turn,
     )
 
@@ -36,7 +36,7 @@ pub load-requires : goal.load-requires
 load-requires g c = (
   search rules,
   search rules,
-  looks g.M.Machine.answers g.M.Machine.wants_memory g.M.Machine.events g.M.Machine.faults _ _ _ c.join_seat.new.seat.id c.join_seat.new.seat.me
+  looks g.M.Machine.answers g.M.Machine.wants_memory g.M.Machine.events g.M.Machine.health _ _ _ c.join_seat.new.seat.id c.join_seat.new.seat.me
       (ap (λ m. m.0.has_turn) c.join_seat.ensures.2 ∙ c.loop-pass.invariant.joined.2.turn),
 )
 

@@ -9,7 +9,7 @@ pub split_seat-next-requires : goal.split_seat-next-requires
 split_seat-next-requires g c = (
   search rules,
   search rules,
-  deals g.M.Machine.answers g.M.Machine.wants_memory g.M.Machine.events g.M.Machine.faults _ _ c.loop-worker.seat.id c.loop-worker.seat.me.0
+  deals g.M.Machine.answers g.M.Machine.wants_memory g.M.Machine.events g.M.Machine.health _ _ c.loop-worker.seat.id c.loop-worker.seat.me.0
       (ap (λ m. m.0.calls) c.loop-worker.invariant.me) (ap (λ m. m.0.has_turn) c.loop-worker.invariant.me),
 )
 

@@ -7,11 +7,11 @@ use Rattle.desk.proofs.desk.Desk.act.Goals.{in-Ok, in-Err}
 
 pub take_machine-machine-requires-clause-carried : goal.take_machine-machine-requires-clause-carried
 take_machine-machine-requires-clause-carried g c =
-    carries g.M.Machine.events g.M.Machine.faults c.pass.inside.seat.me c.take_turn-count.new.seat.me c.take_turn-count.result c.take_turn-count.ensures.taken c.pass.invariant.carried
+    carries g.M.Machine.events g.M.Machine.health c.pass.inside.seat.me c.take_turn-count.new.seat.me c.take_turn-count.result c.take_turn-count.ensures.taken c.pass.invariant.carried
 
 pub put_back-requires-clause-call : goal.put_back-requires-clause-call
 put_back-requires-clause-call g c =
-    let has = has-machine g.M.Machine.events g.M.Machine.faults c.pass.inside.seat.me c.take_turn-count.new.seat.me c.take_turn-count.result c.take_machine-machine.result
+    let has = has-machine g.M.Machine.events g.M.Machine.health c.pass.inside.seat.me c.take_turn-count.new.seat.me c.take_turn-count.result c.take_machine-machine.result
     c.take_turn-count.ensures.taken c.pass.invariant.carried c.take_machine-machine.ensures.taken in
     let note = c.answer-answered.ensures.note in
     next-call g.M.Machine.answers g.M.Machine.wants_memory c.pass.inside.seat.me.0 c.take_machine-machine.new.seat.me.0 c.take_turn-count.result _ _ _ _ c.pass.inside.worker c.args.request c.answer-answered.result.1 c.answer-answered.result.0
@@ -21,10 +21,10 @@ made : (g : _) (c : goal.Joined-answered g)
     → MakesCall g.M.Machine.answers g.M.Machine.wants_memory (progress_of c.pass.inside.worker c.pass.inside.seat.table_id c.pass.inside.seat.me.0)
     (progress_of c.pass.inside.worker c.put_back.new.seat.table_id
     (called_view c.take_machine-machine.new.seat.me.0 (g.M.Machine.events c.answer-answered.new.machine)
-    (call_of c.take_machine-machine.new.seat.me.0 (g.M.Machine.events c.answer-answered.new.machine) (g.M.Machine.faults c.answer-answered.new.machine) c.answer-answered.result.1)))
+    (call_of c.take_machine-machine.new.seat.me.0 (g.M.Machine.events c.answer-answered.new.machine) (g.M.Machine.health c.answer-answered.new.machine) c.answer-answered.result.1)))
     (length (g.M.Machine.events c.take_machine-machine.result)) c.args.request (outcome_of c.answer-answered.result.0)
 made g c =
-    let has = has-machine g.M.Machine.events g.M.Machine.faults c.pass.inside.seat.me c.take_turn-count.new.seat.me c.take_turn-count.result c.take_machine-machine.result
+    let has = has-machine g.M.Machine.events g.M.Machine.health c.pass.inside.seat.me c.take_turn-count.new.seat.me c.take_turn-count.result c.take_machine-machine.result
     c.take_turn-count.ensures.taken c.pass.invariant.carried c.take_machine-machine.ensures.taken in
     let note = c.answer-answered.ensures.note in
     made-call g.M.Machine.answers g.M.Machine.wants_memory c.pass.inside.seat.table_id c.put_back.new.seat.table_id c.pass.inside.seat.me.0 c.take_machine-machine.new.seat.me.0 c.take_turn-count.result _ _ _ _ c.pass.inside.worker c.args.request c.answer-answered.result.1 c.answer-answered.result.0
@@ -32,7 +32,7 @@ made g c =
 
 pub invariant_of-pass : goal.invariant_of-pass
 invariant_of-pass g c =
-    let has = has-machine g.M.Machine.events g.M.Machine.faults c.pass.inside.seat.me c.take_turn-count.new.seat.me c.take_turn-count.result c.take_machine-machine.result
+    let has = has-machine g.M.Machine.events g.M.Machine.health c.pass.inside.seat.me c.take_turn-count.new.seat.me c.take_turn-count.result c.take_machine-machine.result
     c.take_turn-count.ensures.taken c.pass.invariant.carried c.take_machine-machine.ensures.taken in
     let is = ap (λ m. m.0) c.take_machine-machine.ensures.same.1 ∙ has.is in
     rests-again g.M.Machine.answers g.M.Machine.wants_memory c.pass.inside.seat.table_id c.put_back.new.seat.table_id c.pass.inside.seat.me _ _ c.pass.inside.worker c.args.request _ (made g c)

@@ -20,6 +20,6 @@ give_up-requires-clause-every g c =
 
 pub returns : goal.returns
 returns g c =
-    subst (λ desk. HasClosed g.M.Machine.answers g.M.Machine.wants_memory g.M.Machine.events g.M.Machine.faults desk c.args.passes.items c.give_up.result) c.self.view_is
-    (has-closed g.M.Machine.answers g.M.Machine.wants_memory g.M.Machine.events g.M.Machine.faults _ c.args.passes.items c.join_all-seat.result.me c.give_up.result
+    subst (λ desk. HasClosed g.M.Machine.answers g.M.Machine.wants_memory g.M.Machine.events g.M.Machine.health desk c.args.passes.items c.give_up.result) c.self.view_is
+    (has-closed g.M.Machine.answers g.M.Machine.wants_memory g.M.Machine.events g.M.Machine.health _ c.args.passes.items c.join_all-seat.result.me c.give_up.result
     c.in_default.ensures c.join_all-seat.ensures.joined c.give_up.ensures)

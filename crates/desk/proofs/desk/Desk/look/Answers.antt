@@ -7,7 +7,7 @@ pub load-requires : goal.load-requires
 load-requires g c = (
   search rules,
   search rules,
-  looks g.M.Machine.answers g.M.Machine.wants_memory g.M.Machine.events g.M.Machine.faults _ _ _ c.pass.inside.seat.id c.pass.inside.seat.me c.pass.invariant.turn,
+  looks g.M.Machine.answers g.M.Machine.wants_memory g.M.Machine.events g.M.Machine.health _ _ _ c.pass.inside.seat.id c.pass.inside.seat.me c.pass.invariant.turn,
 )
 
 pub invariant_of-pass : goal.invariant_of-pass

@@ -9,7 +9,7 @@ pub split_seat-told-requires : goal.split_seat-told-requires
 split_seat-told-requires g c = (
   search rules,
   search rules,
-  tells g.M.Machine.answers g.M.Machine.wants_memory g.M.Machine.events g.M.Machine.faults _ _ c.from.inside.seat.id c.from.inside.seat.me.0,
+  tells g.M.Machine.answers g.M.Machine.wants_memory g.M.Machine.events g.M.Machine.health _ _ c.from.inside.seat.id c.from.inside.seat.me.0,
 )
 
 pub join_seat-requires : goal.join_seat-requires
@@ -18,7 +18,7 @@ join_seat-requires g c = (
   search rules,
   search rules,
   search rules,
-  joins g.M.Machine.answers g.M.Machine.wants_memory g.M.Machine.events g.M.Machine.faults _ _ c.to.inside.seat.id c.to.inside.seat.me.0 _ c.split_seat-told.result.me.0
+  joins g.M.Machine.answers g.M.Machine.wants_memory g.M.Machine.events g.M.Machine.health _ _ c.to.inside.seat.id c.to.inside.seat.me.0 _ c.split_seat-told.result.me.0
       c.to.invariant.turn (ap (λ m. m.0.has_turn) c.split_seat-told.ensures.4),
 )
 
@@ -26,7 +26,7 @@ pub load-requires : goal.load-requires
 load-requires g c = (
   search rules,
   search rules,
-  looks g.M.Machine.answers g.M.Machine.wants_memory g.M.Machine.events g.M.Machine.faults _ _ _ c.join_seat.new.seat.id c.join_seat.new.seat.me
+  looks g.M.Machine.answers g.M.Machine.wants_memory g.M.Machine.events g.M.Machine.health _ _ _ c.join_seat.new.seat.id c.join_seat.new.seat.me
       (ap (λ m. m.0.has_turn) c.join_seat.ensures.2 ∙ c.to.invariant.turn),
 )
 

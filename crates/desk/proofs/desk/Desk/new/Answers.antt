@@ -8,9 +8,9 @@ use Rattle.desk.proofs.desk.Desk.new.Goals as goal
 
 pub new-requires : goal.new-requires
 new-requires g c =
-    subst (λ l. IsOneHistory g.M.Machine.answers g.M.Machine.wants_memory g.M.Machine.events g.M.Machine.faults c.of.result.value c.args.count
+    subst (λ l. IsOneHistory g.M.Machine.answers g.M.Machine.wants_memory g.M.Machine.events g.M.Machine.health c.of.result.value c.args.count
     (opening (0 ∷ []) l (fresh_view (g.M.Machine.events c.of.result.value) (workers_from 0 c.args.count)))) (sym c.in-Ok-slots_of.ensures)
-    (opens g.M.Machine.answers g.M.Machine.wants_memory g.M.Machine.events g.M.Machine.faults c.of.result.value c.args.count
+    (opens g.M.Machine.answers g.M.Machine.wants_memory g.M.Machine.events g.M.Machine.health c.of.result.value c.args.count
     (record { machine = c.args.machine; note = None }) (sym c.of.ensures))
 
 pub returns-in-Ok-new : goal.returns-in-Ok-new
