@@ -42,7 +42,7 @@ tip_conditions g tip offer =
     ∷ (not (is_bad_path g offer.merkle_path), custom_error.BadPath (length offer.merkle_path))
     ∷ []
 
--- a job's refusal, where it isn't want of memory
+-- a job's refusal, where it isn't a lack of memory
 pub coinbase_refused : (error : OutputsError) (told : Result (Parts × ℕ) OutputsError) → error ≢ outputs_error.Memory → RefusesOutputs error told
     → outputs_refusal told ≡ Some (custom_error.Coinbase error)
 coinbase_refused outputs_error.Memory told not is = absurd (not refl)

@@ -1,4 +1,4 @@
--- No refusal in a reply is want of memory.
+-- No refusal in a reply is a lack of memory.
 use Rattle.std.proofs.Common.{◌++◌, ◌≡◌, ℕ, ◌^◌, Bool, true, false, ◌||◌, not, is_some, Option, None, Some, Result, Ok, Err, List, [], ◌∷◌, length, refl, ap, sym, ◌∙◌}
 use Rattle.std.proofs.lemmas.Bool.{cond_both}
 use Rattle.std.specs.Prelude.{nat_eq, nat_le, nat_lt, position}
@@ -33,7 +33,7 @@ use Rattle.pool_history.specs.Sessions.{opens, templates}
 use Rattle.history_laws.specs.Fitting.{assembly_wants_memory, custom_wants_memory, job_wants_memory, name_wants_memory, open_wants_memory, outputs_want_memory}
 use Rattle.history_laws.proofs.Entrances.{none-some, some-same}
 
--- a refusal, if any, that isn't want of memory
+-- a refusal, if any, that isn't a lack of memory
 abbrev pub Free : {C : Type 0} → (C → Bool) → Option C → Type 0
 Free wants None = Unit {0}
 Free wants (Some e) = wants e ≡ false

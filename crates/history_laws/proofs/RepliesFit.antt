@@ -35,7 +35,7 @@ pub unless-reply : {X : Type 0} (P : Reply → Type 0) (refuse : X → Reply) (r
 unless-reply P refuse None made refused made-fits = made-fits refl
 unless-reply P refuse (Some x) made refused made-fits = refused x
 
--- the same of a refusal that isn't want of memory
+-- the same of a refusal that isn't a lack of memory
 pub unless-free_reply : {X : Type 0} (P : Reply → Type 0) (wants : X → Bool) (refuse : X → Reply) (r : Option X) (made : Effect) → Free wants r
     → ((x : X) → wants x ≡ false → P (refuse x)) → P made.reply → P (unless_refused refuse r made).reply
 unless-free_reply P wants refuse None made free refused made-fits = made-fits

@@ -36,7 +36,7 @@ pub record ScriptFits (script : List ℕ) : Type 0 where
   pub some : 1 ≤ length script
   pub short : length script ≤ 100
 
--- the refusals that are want of memory
+-- the refusals that are for lack of memory
 abbrev pub assembly_wants_memory : AssemblyError → Bool
 assembly_wants_memory (assembly.ScriptTooLong length) = false
 assembly_wants_memory (assembly.BadOutputs at) = false
@@ -84,7 +84,7 @@ custom_wants_memory (custom.EarlyTime least) = false
 custom_wants_memory (custom.BadPath entries) = false
 custom_wants_memory (custom.Coinbase error) = outputs_want_memory error
 
--- what a reply says is of the types that keep it, and no refusal is want of memory
+-- what a reply says is of the types that keep it, and no refusal is a lack of memory
 abbrev pub ReplyFits : Reply → Type 0
 ReplyFits (reply.Entered session) = session < 2 ^ 22
 ReplyFits (reply.PoolFull most) = Unit {0}

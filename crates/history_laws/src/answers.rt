@@ -39,7 +39,7 @@ pub fn credits_are_committed()
 {}
 
 /// What the answer to any request on a legal history says is in the ranges of its types: classes,
-/// leads, sessions and scripts, and each note of the news; and no refusal in it is want of memory.
+/// leads, sessions and scripts, and each note of the news; and no refusal in it is a lack of memory.
 pub fn answers_fit()
     ensures { AnswersFit }
 {}

@@ -172,7 +172,7 @@ impl Records {
         }
     }
 
-    /// Appends the summary of the events so far. Want of memory leaves `out` as it was.
+    /// Appends the summary of the events so far. Lack of memory leaves `out` as it was.
     pub(crate) fn write_summary(&self, alloc: Global, out: &mut Vec<u8>) -> Result<(), AllocError>
         ensures ok { OnOk result ((history : List Happened)
             → IsReplayOf self.now.replay history

@@ -30,7 +30,7 @@ pub record AuditedOnHost (ledger : List ℕ) (old new : HostSeen) (end : End) : 
   -- what the end says of the file and of what was put
   pub ran : EndsCommand audit_duty (old.openings.brings ledger) source.left
       old.streams.output sink.held end
-  -- the other way round: a told file decides the end, but for a fault or want of memory
+  -- the other way round: a told file decides the end, but for a fault or lack of memory
   pub decided : (turns : List Turn) → old.openings.brings ledger ≡ Some turns
       → DecideEnd audit_duty (steps_of turns) end
   -- a failure is the end exactly where it was counted, and is counted once

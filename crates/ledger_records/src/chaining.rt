@@ -36,7 +36,7 @@ pub fn magic_hash() -> [u8; 32]
 }
 
 /// Appends a later piece of a ledger: the event's record, and its hash behind the hash before it.
-/// Answers that hash. Want of memory leaves `out` as it was.
+/// Answers that hash. Lack of memory leaves `out` as it was.
 pub fn write_piece(
     before: &[u8; 32],
     event: &Event,
@@ -62,7 +62,7 @@ pub fn write_piece(
 }
 
 /// Appends the first piece of a ledger: the magic, Start's record, and its hash. Answers that hash.
-/// Want of memory leaves `out` as it was.
+/// Lack of memory leaves `out` as it was.
 pub fn write_first_piece(event: &Event, out: &mut Vec<u8>) -> Result<[u8; 32], AllocError>
     requires { HasRecord event.now }
     // It is the ledger of this event alone.
@@ -81,7 +81,7 @@ pub fn write_first_piece(event: &Event, out: &mut Vec<u8>) -> Result<[u8; 32], A
     }
 }
 
-/// As `write_first_piece`; want of memory can leave some bytes behind the old ones.
+/// As `write_first_piece`; lack of memory can leave some bytes behind the old ones.
 fn put_first_piece(event: &Event, out: &mut Vec<u8>) -> Result<[u8; 32], AllocError>
     requires { HasRecord event.now }
     ensures ok { OnOk result (out.new.items
@@ -95,7 +95,7 @@ fn put_first_piece(event: &Event, out: &mut Vec<u8>) -> Result<[u8; 32], AllocEr
     Ok(hash)
 }
 
-/// As `write_piece`; want of memory can leave some bytes behind the old ones.
+/// As `write_piece`; lack of memory can leave some bytes behind the old ones.
 fn put_piece(before: &[u8; 32], event: &Event, out: &mut Vec<u8>) -> Result<[u8; 32], AllocError>
     requires { HasRecord event.now }
     ensures ok { OnOk result (out.new.items

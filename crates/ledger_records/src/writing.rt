@@ -18,7 +18,7 @@ use sv2_types::{put_b16m, put_b32, put_boolean, put_str255, put_u8, put_u32};
 const BODY_ROOM: usize = 64;
 
 /// Appends the event's record: its kind, three bytes of length, low byte first, and its body.
-/// Want of memory leaves `out` as it was.
+/// Lack of memory leaves `out` as it was.
 pub fn write_record(event: &Event, out: &mut Vec<u8>) -> Result<(), AllocError>
     requires { HasRecord event.now }
     ensures ok { OnOk result (out.new.items ≡ out.old.items ++ record_of event.now) }
@@ -33,7 +33,7 @@ pub fn write_record(event: &Event, out: &mut Vec<u8>) -> Result<(), AllocError>
     put
 }
 
-/// Appends a kind and a body. Want of memory can leave some of them behind the old bytes.
+/// Appends a kind and a body. Lack of memory can leave some of them behind the old bytes.
 fn put_record(kind: u8, body: &[u8], out: &mut Vec<u8>) -> Result<(), AllocError>
     requires { length body.now < 2 ^ 24 }
     ensures ok { OnOk result (out.new.items

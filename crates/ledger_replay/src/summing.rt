@@ -10,7 +10,7 @@ impl Replay {
     ghost use Rattle.pool_history.specs.Summary.{summary_of, summary_text};
     ghost use Rattle.ledger_replay.specs.Replays.{WasReplayed};
 
-    /// Appends the summary of the events that were told. Want of memory leaves `out` as it was.
+    /// Appends the summary of the events that were told. Lack of memory leaves `out` as it was.
     pub fn write_summary(&self, out: &mut Vec<u8>) -> Result<(), AllocError>
         ensures ok { OnOk result ((past : List Event) → WasReplayed self.now past
             → out.new.items ≡ out.old.items ++ summary_text (summary_of past)) }

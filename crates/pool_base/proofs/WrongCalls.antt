@@ -45,7 +45,7 @@ no-call_twice p = omega (arith, p)
 pub no-falling : (now : ℕ) → RiseFrom 0 (second ∷ first ∷ []) now → ⊥
 no-falling now r = omega (arith, r)
 
--- a fault that isn't want of memory, at a count that stays
+-- a fault that isn't a lack of memory, at a count that stays
 pub no-uncounted_fault : IsOutcome (λ before worker asked added reply. Unit {0}) (λ fault. false) [] (record first { added = [] }) (Faulted 0) → ⊥
 no-uncounted_fault h = omega (arith, h.1 refl)
 

@@ -25,7 +25,7 @@ pub record Call (E Q R F : Type 0) : Type 0 where
   pub added : List E
 
 -- a reply is one that the machine answers with; a fault adds nothing, and the count rose unless
--- memory was wanted
+-- memory ran out
 abbrev pub IsOutcome :
     {E Q R F : Type 0} → (List E → ℕ → Q → List E → R → Type 0) → (F → Bool) → List E → Call E Q R F
     → Outcome R F → Type 0

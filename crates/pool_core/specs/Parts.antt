@@ -10,7 +10,7 @@ IsPart true frames number next old new =
 IsPart false frames number next old new =
     (drop number frames ≡ []) × (next ≡ number) × (new ≡ old)
 
--- the only frame is put, or there is none; nothing is where memory is wanted
+-- the only frame is put, or there is none; nothing is where memory runs out
 abbrev pub PutsOnly : Result Bool AllocError → List (List ℕ) → List ℕ → List ℕ → Type 0
 PutsOnly (Ok true) frames old new =
     (frame : List ℕ) × (frames ≡ frame ∷ []) × (new ≡ old ++ frame)

@@ -117,7 +117,7 @@ impl Session {
     }
 
     /// Appends the frame with the number `part` of a reply's answer, or of its news, and counts it,
-    /// or says that there is none. Want of memory changes nothing.
+    /// or says that there is none. Lack of memory changes nothing.
     pub fn on_part(
         &self,
         reply: &Reply,

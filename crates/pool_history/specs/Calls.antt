@@ -10,12 +10,12 @@ use Rattle.pool_history.specs.declared.refusals.BookError.TheVariants.{KeeperFau
 use Rattle.pool_history.specs.declared.replies.Reply.{Reply}
 use Rattle.pool_history.specs.Answering.{Answer}
 
--- a fault that is want of memory: no count of faults has to rise for it
+-- a fault that is a lack of memory: no count of faults has to rise for it
 abbrev pub wants_memory : BookError → Bool
 wants_memory KeeperFault = false
 wants_memory Memory = true
 
--- the keeper's fault; want of memory is none
+-- the keeper's fault; lack of memory is none
 abbrev pub blames_keeper : BookError → Bool
 blames_keeper KeeperFault = true
 blames_keeper Memory = false

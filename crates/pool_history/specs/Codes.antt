@@ -23,7 +23,7 @@ share_code failed.Difficulty = codes "difficulty-too-low"
 share_code failed.Duplicate = codes "duplicate-share"
 share_code failed.Full = codes "ledger-full"
 
--- the code of a refused opening; no reply says that memory was wanted
+-- the code of a refused opening; no reply says that memory ran out
 abbrev pub open_code : OpenError → List ℕ
 open_code open_error.UnknownUser = codes "unknown-user"
 open_code (open_error.TargetOutOfRange class) = codes "max-target-out-of-range"

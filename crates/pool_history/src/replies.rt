@@ -126,7 +126,7 @@ pub struct Opened {
     pub lead: Lead,
 }
 
-/// The answer to a request. The refusals in it are never for want of memory.
+/// The answer to a request. The refusals in it are never for lack of memory.
 #[derive(Debug, Drop)]
 pub enum Reply {
     /// The session's number.

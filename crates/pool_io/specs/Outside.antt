@@ -78,19 +78,19 @@ is_failed_take End = false
 is_failed_take Idle = false
 is_failed_take Failed = true
 
--- the sink failed; want of memory is no failure
+-- the sink failed; lack of memory is no failure
 abbrev pub is_failed_put : {A : Type 0} → Result A SinkFailed → Bool
 is_failed_put (Ok a) = false
 is_failed_put (Err sink.Failed) = true
 is_failed_put (Err sink.Memory) = false
 
--- the keeper failed; want of memory is no failure
+-- the keeper failed; lack of memory is no failure
 abbrev pub is_failed_append : {A : Type 0} → Result A KeeperFailed → Bool
 is_failed_append (Ok a) = false
 is_failed_append (Err keeper.Failed) = true
 is_failed_append (Err keeper.Memory) = false
 
--- the host failed; want of memory is no failure
+-- the host failed; lack of memory is no failure
 abbrev pub is_failed_gift : {A : Type 0} → Result A HostError → Bool
 is_failed_gift (Ok a) = false
 is_failed_gift (Err host.Failed) = true

@@ -17,7 +17,7 @@ came_seen seen came.Failed = came.Failed
 came_seen seen came.Memory = came.Memory
 
 -- one answer of a door takes the old arrivals to the new ones: it is closed where there are none,
--- and a failure or a want of memory lets nobody in
+-- and a failure or a lack of memory lets nobody in
 abbrev pub ComesFrom : List (Arrival LinkSeen) → List (Arrival LinkSeen) → Came LinkSeen → Type 0
 ComesFrom old new (came.Caller link) = old ≡ arrival.Caller link ∷ new
 ComesFrom old new came.Idle = old ≡ arrival.Idle ∷ new
@@ -32,7 +32,7 @@ ComesNext None new answer = new ≡ None
 ComesNext (Some arrivals) new answer =
     (left : List (Arrival LinkSeen)) × (new ≡ Some left) × ComesFrom arrivals left answer
 
--- the door failed; want of memory is no failure
+-- the door failed; lack of memory is no failure
 abbrev pub is_failed_asking : Came LinkSeen → Bool
 is_failed_asking came.Failed = true
 is_failed_asking _ = false

@@ -167,7 +167,7 @@ pub record AreSettings (bytes : List ℕ) (settings : Settings) : Type 0 where
   pub parsed : read bytes ≡ Some value
   pub says : settings_in value ≡ Ok settings
 
--- an answer is what was told, but for want of memory
+-- an answer is what was told, but for lack of memory
 abbrev pub IsSaid : {X : Type 0} → Option X → Result X SettingsError → Type 0
 IsSaid told (Ok x) = told ≡ Some x
 IsSaid told (Err Bad) = told ≡ None

@@ -7,7 +7,7 @@ ghost use Rattle.pool_history.specs.Summary.{account_line, line};
 use itoa::Buffer;
 use std::alloc::AllocError;
 
-/// Appends a word and its number, as a line. Want of memory can leave some of it.
+/// Appends a word and its number, as a line. Lack of memory can leave some of it.
 pub fn put_line(out: &mut Vec<u8>, word: &[u8], number: u64) -> Result<(), AllocError>
     ensures ok { OnOk result (out.new.items ≡ out.old.items ++ line word.now number) }
     ensures err { OnErr result (Begins out.old.items out.new.items) }

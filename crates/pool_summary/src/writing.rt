@@ -13,7 +13,7 @@ use payouts::Tally;
 use std::alloc::AllocError;
 
 /// Appends the summary of a history of so many sessions and events, whose credits a tally was told.
-/// Want of memory leaves `out` as it was.
+/// Lack of memory leaves `out` as it was.
 pub fn write_summary(
     sessions: u32,
     events: u64,
@@ -38,7 +38,7 @@ pub fn write_summary(
     }
 }
 
-// As `write_summary`; want of memory can leave some bytes behind the old ones.
+// As `write_summary`; lack of memory can leave some bytes behind the old ones.
 fn put_summary(
     sessions: u32,
     events: u64,

@@ -163,7 +163,7 @@ module _ (old new : WorldSeen) where
   with_keeper settings ledger answer (inr none) =
       subst (HasFailure old new) (sym none.1) (host_refused none.0 none.2.counts)
 
--- a file that brings settings has no other answer than these, but for a fault or want of memory
+-- a file that brings settings has no other answer than these, but for a fault or lack of memory
 not_outside : (none : NoSettings) → (none ≡ no_settings.ReadFault → ⊥) → (none ≡ no_settings.Memory → ⊥) → (read : Result (List ℕ) Unread) → IsOutside read
     → AnswersFile read (Err none) → ⊥
 not_outside none read_well fits (Ok bytes) outside answers = outside

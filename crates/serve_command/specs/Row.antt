@@ -152,7 +152,7 @@ pub record HasFailedDoor (old new : NetworkSeen) : Type 0 where
   pub lists : CameBack old.doors new.doors doors_back
   pub failed : SomeDoorFailed doors doors_back
 
--- what failed where there were settings: nothing, or memory was wanted; a put of the report; the
+-- what failed where there were settings: nothing, or memory ran out; a put of the report; the
 -- keeper; or the host, the network or a door
 abbrev pub HasFailure : WorldSeen → WorldSeen → Status → Type 0
 HasFailure old new status.Done = Unit {0}

@@ -16,7 +16,7 @@ status_by_faults ledger_faults door_faults printed =
     if ledger_faults == 0 then (if door_faults == 0 then printed else status.HostFault)
     else status.KeeperFault
 
--- want of memory comes before all of them
+-- lack of memory comes before all of them
 abbrev pub status_of_served : ℕ → ℕ → ℕ → Status → Status
 status_of_served ledger_faults door_faults door_memory status.Memory = status.Memory
 status_of_served ledger_faults door_faults door_memory printed =

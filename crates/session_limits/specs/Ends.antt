@@ -53,7 +53,7 @@ abbrev pub is_missed : SessionStep → Bool
 is_missed Missed = true
 is_missed _ = false
 
--- a put failed; want of memory is no failure
+-- a put failed; lack of memory is no failure
 abbrev pub is_unwritten : Option SinkFailed → Bool
 is_unwritten None = false
 is_unwritten (Some sink.Failed) = true
@@ -98,7 +98,7 @@ pub record HasNoHindrance (idle_turns : ℕ) (turns : List Turn) (old new : Fail
   pub writes : ¬ Rose old.writes new.writes
   pub keeper : ¬ Rose old.keeper new.keeper
 
--- all was served, or memory was wanted
+-- all was served, or memory ran out
 abbrev pub IsWellEnded : SessionEnd → Type 0
 IsWellEnded end.Done = Unit {0}
 IsWellEnded end.Memory = Unit {0}

@@ -50,7 +50,7 @@ pub fn only_enters_find_it_full()
     ensures { OnlyEntersFindItFull }
 {}
 
-/// Good input that reaches no limit is served to its end, or memory was wanted, where nothing else
+/// Good input that reaches no limit is served to its end, or memory ran out, where nothing else
 /// failed and the pool wasn't full.
 pub fn good_input_ends_well()
     ensures { GoodInputEndsWell }

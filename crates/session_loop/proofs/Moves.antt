@@ -164,7 +164,7 @@ puts_none {l = l} whole none = record {
   writes = refl;
 }
 
--- memory was wanted for what was to be put
+-- memory ran out for what was to be put
 pub puts_wanted : {l : LinkSeen} (whole : List ℕ) → PutsOut whole (Some sink.Memory) l l
 puts_wanted {l = l} whole = record {
   bytes = [];

@@ -84,7 +84,7 @@ module _ {A : Type 0} {worker : A → ℕ} {does : A → PoolCall → A → Type
       })
       refl refl refl refl refl (λ n. refl)
 
-  -- memory was wanted
+  -- memory ran out
   pub starved_runs : Runs worker does (state_at Reading intake c) (state_at (end_stage c.entered end.Memory) intake c) l l a a
   starved_runs = runs_quiet Starved tt refl refl refl refl refl (λ n. refl)
 

@@ -95,7 +95,7 @@ pub record CanOverrun (s : State) (len : ℕ) : Type 0 where
   pub reading : s.stage ≡ Reading
   pub begins : BeginsOver len s.unmet
 
--- memory is wanted for the first frames, or for a frame's request
+-- memory runs out for the first frames, or for a frame's request
 abbrev pub CanStarve : Stage → Type 0
 CanStarve Greeting = Unit {0}
 CanStarve Reading = Unit {0}

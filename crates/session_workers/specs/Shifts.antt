@@ -105,7 +105,7 @@ StopsBy now last after end.Closed = (0 < now) × AnswersSo last after came.Close
 StopsBy now last after end.Failed = (0 < now) × AnswersSo last after came.Failed
 StopsBy now last after end.Memory = (0 < now) × AnswersSo last after came.Memory
 
--- the door failed; want of memory is no failure
+-- the door failed; lack of memory is no failure
 abbrev pub is_failed_end : DoorEnd → Bool
 is_failed_end end.Failed = true
 is_failed_end _ = false

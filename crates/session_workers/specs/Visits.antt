@@ -72,7 +72,7 @@ failures_at link asking = record {
   keeper = asking.faults;
 }
 
--- good input is served to its end, or memory was wanted, where nothing else failed, no limit was
+-- good input is served to its end, or memory ran out, where nothing else failed, no limit was
 -- reached, and fewer than 2^22 sessions have entered in all that the pass has seen
 abbrev pub ServesGoodLink :
     Manner → LinkSeen → LinkSeen → Asking → Asking → SessionEnd → Type 0

@@ -24,7 +24,7 @@ use Rattle.session_loop.specs.Answerers.{Acts, RollsAsBriefed, outcome_of}
 use Rattle.share_ledger.specs.Books.{BookSeen, IsReplied, KeepsInstead, KeepsLedger, is_keeper_fault}
 use Rattle.solo_session.specs.Calling.{CallsBook, GoesOn, StandInTurn, added_in}
 
--- a fault that isn't want of memory was counted
+-- a fault that isn't a lack of memory was counted
 fault_rose : (cause : BookError) (before after : ℕ) → CountsFailure (blames_keeper cause) before after → wants_memory cause ≡ false → Rose before after
 fault_rose fault.KeeperFault before after counts wanted = omega (arith, counts)
 fault_rose fault.Memory before after counts wanted = cc

@@ -53,7 +53,7 @@ all_in rules (call ∷ calls) turns first =
     ap (λ b. b || has_turned_away calls) (few_entered (event.Start rules ∷ []) call call.outcome turns.1 (omega arith))
     ∙ later_in ((event.Start rules ∷ []) ++ call.added) calls turns.2 first.1
 
--- no session began: the keeper failed, or memory was wanted
+-- no session began: the keeper failed, or memory ran out
 pub unbegun_well : (cause : BookError) (before now : ℕ) → CountsFailure (blames_keeper cause) before now → ¬ Rose before now → IsServedWell (solo.Unbegun cause)
 unbegun_well fault.KeeperFault before now counts none = none (rose_by true before now refl counts)
 unbegun_well fault.Memory before now counts none = tt

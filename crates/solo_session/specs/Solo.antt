@@ -87,7 +87,7 @@ IsServed rules idle_turns old new (solo.Unbegun cause) = IsUnbegun old new cause
 IsServed rules idle_turns old new (solo.Over reason) =
     IsSoloSession rules idle_turns old new reason
 
--- all was served, or memory was wanted
+-- all was served, or memory ran out
 abbrev pub IsServedWell : SoloEnd → Type 0
 IsServedWell (solo.Unbegun fault.KeeperFault) = ⊥
 IsServedWell (solo.Unbegun fault.Memory) = Unit {0}
@@ -101,7 +101,7 @@ failures_of outsides = record {
   keeper = outsides.keeper.faults;
 }
 
--- good input is served to its end, or memory was wanted, where nothing else failed and no limit was
+-- good input is served to its end, or memory ran out, where nothing else failed and no limit was
 -- reached
 abbrev pub ServesGoodInput : Rules → ℕ → Outsides → Outsides → SoloEnd → Type 0
 ServesGoodInput rules idle_turns old new end =

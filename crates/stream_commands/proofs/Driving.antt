@@ -24,7 +24,7 @@ pub answered_first : (HasRead : List ℕ → List ℕ → Type 0) → HasRead []
     → HasAnswered HasRead record { taken = 0; idles = 0 } before before []
 answered_first HasRead read before = record { free = free_none; idles = refl; bytes = refl; given = []; put = Adds-none before; read = read }
 
--- want of memory before the first turn
+-- lack of memory before the first turn
 pub memory_first : (duty : Duty) → IsSoundDuty duty → (turns : Option (List Turn)) (before : Option (List ℕ)) → EndsCommand duty turns turns before before end.Memory
 memory_first duty sound turns before =
     record { taken = []; within = free_none.0; brought = brought_none turns; given = []; put = Adds-none before; ends = λ told is. (([], inl ([], steps_of told, refl, sound.nothing), ([], refl)), λ out. omega (arith, out)) }

@@ -1,4 +1,4 @@
--- The steps that a source brings decide the end, but for faults and want of memory.
+-- The steps that a source brings decide the end, but for faults and lack of memory.
 use Rattle.std.proofs.Common.{◌≡◌, ℕ, List, ◌++◌, refl, sym, ap, subst, ◌∙◌, inl, inr}
 use Rattle.pool_io.specs.Steps.{ReadStep, bytes_in, IsAtLimit, IsIdleOut, IsBytesOut}
 use Rattle.pool_io.proofs.Stepping.{bytes_in-append, longer, shorter, fronts_of, free_of}

@@ -30,11 +30,11 @@ IsOutsideEnd ReadFault = Unit {0}
 IsOutsideEnd WriteFault = Unit {0}
 IsOutsideEnd Memory = Unit {0}
 
--- the end is this one, or a fault or want of memory came first
+-- the end is this one, or a fault or lack of memory came first
 abbrev pub EndsAs : End → End → Type 0
 EndsAs wanted end = (end ≡ wanted) ⊎ IsOutsideEnd end
 
--- the steps that the source tells decide the end, but for a fault or want of memory
+-- the steps that the source tells decide the end, but for a fault or lack of memory
 pub record DecideEnd (duty : Duty) (steps : List ReadStep) (end : End) : Type 0 where
   pub whole : (text : List ℕ) → OwesWhole duty steps text → EndsAs Done end
   pub refused : (text : List ℕ) → OwesRefused duty steps text → EndsAs Refused end

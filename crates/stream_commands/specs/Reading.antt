@@ -59,7 +59,7 @@ IsOutside (Err IdleOut) = ⊥
 IsOutside (Err ReadFault) = Unit {0}
 IsOutside (Err Memory) = Unit {0}
 
--- the steps that the source tells decide the answer, but for a fault or want of memory
+-- the steps that the source tells decide the answer, but for a fault or lack of memory
 pub record DecideReading (most : ℕ) (steps : List ReadStep) (answer : Result (List ℕ) Unread) :
     Type 0 where
   pub whole : IsWhole most steps → (answer ≡ Ok (bytes_in steps)) ⊎ IsOutside answer

@@ -26,7 +26,7 @@ pub record RanOnHost (duty : Duty) (old new : StreamsSeen) (end : End) : Type 0 
   pub host : new.faults ≡ old.faults
   -- what the end says of the input and of what was put
   pub ran : EndsCommand duty old.input source.left old.output sink.held end
-  -- the other way round: told input decides the end, but for a fault or want of memory
+  -- the other way round: told input decides the end, but for a fault or lack of memory
   pub decided : (told : List Turn) → old.input ≡ Some told → DecideEnd duty (steps_of told) end
   -- a failure is the end exactly where it was counted, and is counted once
   pub reads : CountsFailure (is_read_fault (Some end)) 0 source.faults

@@ -175,7 +175,7 @@ pub fn drive<C: StreamCommand, S: Source, T: Sink>(
     ensures ran { EndsCommand (C.duty task.now) (S.seen source.old).left (S.seen source.new).left
         (T.seen sink.old).held (T.seen sink.new).held result }
 
-    // The steps that the source tells decide the end, but for a fault or want of memory.
+    // The steps that the source tells decide the end, but for a fault or lack of memory.
     ensures decided { (told : List Turn) → (S.seen source.old).left ≡ Some told
         → DecideEnd (C.duty task.now) (steps_of told) result }
 

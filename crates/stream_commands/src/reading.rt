@@ -57,7 +57,7 @@ pub fn read_whole<S: Source>(alloc: Global, most: u64, source: &mut S) -> Result
     requires { most < 2 ^ 40 }
     ensures read { ReadsWhole most (S.seen source.old).left (S.seen source.new).left result }
 
-    // The other way round: told input decides the answer, but for a fault or want of memory.
+    // The other way round: told input decides the answer, but for a fault or lack of memory.
     ensures decided { (told : List Coming) → (S.seen source.old).left ≡ Some told
         → DecideReading most (steps_of told) result }
 

@@ -70,7 +70,7 @@ fn extension_type(kind: u8) -> u16
     }
 }
 
-/// Appends the header and the spellings. Want of memory can leave some of them behind the old
+/// Appends the header and the spellings. Lack of memory can leave some of them behind the old
 /// bytes.
 fn put_parts(kind: u8, fields: &[Field<'_>], out: &mut Vec<u8>) -> Result<(), AllocError>
     requires { FitPayload fields.now }

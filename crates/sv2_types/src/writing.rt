@@ -1,4 +1,4 @@
-//! Spellings at the end of a buffer. Want of memory leaves the buffer's bytes as they were.
+//! Spellings at the end of a buffer. Lack of memory leaves the buffer's bytes as they were.
 
 ghost use Rattle.std.specs.Prelude.{◌≡◌, ◌<◌, ◌≤◌, ◌^◌, ◌++◌, length, OnOk, OnErr};
 ghost use Rattle.sv2_types.specs.Reading.{numbers_of, parts_at};

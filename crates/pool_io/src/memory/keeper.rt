@@ -29,7 +29,7 @@ impl KeptRecord {
     }
 }
 
-/// Keeps what is appended. It never fails but for want of memory.
+/// Keeps what is appended. It never fails but for lack of memory.
 #[derive(Drop)]
 pub struct SureKeeper {
     alloc: Global,

@@ -6,7 +6,7 @@ use super::failing::FailingCalls;
 use crate::{Sink, SinkFailed};
 use std::marker::Model;
 
-/// Holds what was put. It never fails but for want of memory.
+/// Holds what was put. It never fails but for lack of memory.
 #[derive(Drop)]
 pub struct SureSink {
     bytes: Vec<u8>,
