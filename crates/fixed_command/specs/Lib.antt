@@ -1,5 +1,6 @@
 pub mod Answers
 pub mod Duty
+pub mod Fronts
 pub mod Judging
 pub mod Laws
 pub mod OneReading

@@ -3,8 +3,9 @@ ghost use Rattle.std.specs.Prelude.{◌≡◌, ◌≤◌, ℕ, List, [], ◌∷�
 ghost use Rattle.std.specs.List.{list_any};
 ghost use Rattle.fixed_command.specs.Rolling.{rolled_of, is_same};
 
+use crate::front::Front;
 use crate::submission::{Rolled, rolled_of};
-use block_header::{Header, dsha, meets_class};
+use block_header::meets_class;
 use mining_msgs::SubmitSharesStandard;
 use std::alloc::{AllocError, Global};
 
@@ -55,11 +56,14 @@ pub struct Judge {
     pub class: u8,
     pub job: Job,
     pub credited: Vec<Rolled>,
+    /// The front of the headers of the version that came last.
+    pub front: Front,
     ghost in_range: { class ≤ 60 },
+    ghost of_job: { front.job ≡ job },
 }
 
 impl Judge {
-    ghost use Rattle.fixed_command.specs.Answers.{first_refusal, hash_of};
+    ghost use Rattle.fixed_command.specs.Answers.{first_refusal};
     ghost use Rattle.fixed_command.specs.Judging.{RemembersCredits};
 
     pub fn new(alloc: Global, class: u8, job: &Job) -> Judge
@@ -72,24 +76,22 @@ impl Judge {
             class,
             job: *job,
             credited: Vec::new(alloc),
+            front: Front::new(0, job),
         }
     }
 
-    fn hash(&self, rolled: &Rolled) -> [u8; 32]
-        ensures { result ≡ hash_of self.now.job rolled.now }
+    /// Has the front of this version's headers in hand.
+    fn turn_to(&mut self, version: u32)
+        ensures same { self.new ≡ record self.old { front = self.new.front } }
+        ensures version { self.new.front.version ≡ version }
     {
-        let header = Header {
-            version: rolled.version,
-            prev_hash: self.job.prev_hash,
-            root: self.job.root,
-            ntime: rolled.ntime,
-            nbits: self.job.nbits,
-            nonce: rolled.nonce,
-        };
-        dsha(&header.bytes())
+        if self.front.version != version {
+            self.front = Front::new(version, &self.job);
+        }
     }
 
     fn first_refusal(&self, share: &SubmitSharesStandard) -> Option<Refusal>
+        requires { self.now.front.version ≡ share.now.version }
         ensures { (earlier : List _) → RemembersCredits self.now earlier
             → result ≡ first_refusal self.now.class self.now.job earlier share.now }
     {
@@ -98,7 +100,7 @@ impl Judge {
             Some(Refusal::InvalidChannelId)
         } else if share.job_id != 1 {
             Some(Refusal::InvalidJobId)
-        } else if !meets_class(&self.hash(&rolled), self.class) {
+        } else if !meets_class(&self.front.hash(rolled.ntime, rolled.nonce), self.class) {
             Some(Refusal::DifficultyTooLow)
         } else if is_among(&self.credited, &rolled) {
             Some(Refusal::DuplicateShare)
@@ -122,6 +124,7 @@ impl Judge {
         ensures class { self.new.class ≡ self.old.class }
         ensures job { self.new.job ≡ self.old.job }
     {
+        self.turn_to(share.version);
         let refusal = self.first_refusal(share);
         if refusal.is_none() {
             self.credited.push(rolled_of(share))?;

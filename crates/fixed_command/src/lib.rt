@@ -4,6 +4,7 @@
 
 mod answer;
 mod command;
+mod front;
 mod judge;
 mod laws;
 mod stream;
