@@ -7,14 +7,15 @@ ghost use Rattle.desk.specs.Plays.{IsTaken, IsSized, IsNextCall, call_of, called
 use crate::machine::Machine;
 use crate::plays::{Put, Take};
 use crate::rule::{Board, Held, Note, NoteOf, Place};
+use crossbeam_utils::Backoff;
 use std::snapshot::Snapshot;
 use std::sync::Wait;
-use std::thread;
 
 // So many calls a desk takes.
 const MOST_CALLS: u64 = 1 << 62;
 
-/// Waits until no other seat has the turn. Answers the count of calls so far; a desk that has made
+/// Waits until no other seat has the turn: it pauses some hundred times, as most turns are short, and
+/// then yields the processor between two looks. Answers the count of calls so far; a desk that has made
 /// 2^62 of them gives no turn.
 pub fn take_turn<M: Machine, R: Wait>(rt: &R, board: &Board<M>, seat: &mut Place<M>) -> u64
     requires board { IsSized board.now.table_id × (seat.old.table_id ≡ board.now.table_id) }
@@ -23,6 +24,7 @@ pub fn take_turn<M: Machine, R: Wait>(rt: &R, board: &Board<M>, seat: &mut Place
     ensures taken { IsTaken M.events M.health seat.old.me result seat.new.me }
     ensures fits { result < 2 ^ 62 }
 {
+    let backoff = Backoff::new();
     for _ in rt.forever() {
         let found = board.peek(0);
         if found % 2 == 0
@@ -31,7 +33,7 @@ pub fn take_turn<M: Machine, R: Wait>(rt: &R, board: &Board<M>, seat: &mut Place
         {
             return found / 2;
         }
-        thread::yield_now();
+        backoff.snooze();
     }
     unreachable!()
 }
