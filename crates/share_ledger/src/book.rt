@@ -16,7 +16,8 @@ pub struct Book<K: Keeper> {
     keeper: K,
     /// The hash behind the last record that was kept.
     hash: [u8; 32],
-    tables: Tables,
+    /// On the heap, so that who takes the book in turn with others moves no more than a word of them.
+    tables: Box<Tables>,
 }
 
 impl<K: Keeper> Model for Book<K> {
@@ -27,12 +28,13 @@ impl<K: Keeper> Model for Book<K> {
     ghost Value = { BookSeen };
 
     ghost view = { λ book. record {
-      events = book.tables.history.events;
+      events = book.tables.value.history.events;
       keeper = K.seen book.keeper;
     } };
 
-    ghost invariant = { λ book. (book.hash ≡ hash_after book.tables.history.events)
-        × KeepsLedger (K.seen book.keeper).records book.tables.history.events };
+    ghost invariant = { λ book. (book.hash ≡ hash_after book.tables.value.history.events)
+        × KeepsLedger (K.seen book.keeper).records
+        book.tables.value.history.events };
 }
 
 impl<K: Keeper> Book<K> {
@@ -59,7 +61,7 @@ impl<K: Keeper> Book<K> {
         ensures fault { IfErr result (λ failed. CountsFailure (blames_keeper failed.1)
             (K.seen keeper).faults (K.seen failed.0).faults) }
     {
-        let tables = match Tables::start(alloc, rules) {
+        let tables = match start_tables(alloc, rules) {
             Ok(tables) => tables,
             Err(_) => return Err((keeper, BookError::Memory)),
         };
@@ -92,7 +94,7 @@ impl<K: Keeper> Book<K> {
             self.alloc,
             &mut self.keeper,
             &mut self.hash,
-            &mut self.tables,
+            &mut *self.tables,
             step,
         )
     }
@@ -108,7 +110,7 @@ impl<K: Keeper> Book<K> {
             sessions,
             tally,
             ..
-        } = &self.tables;
+        } = &*self.tables;
         write_summary(sessions.count(), history.len(), tally, out)
     }
 
@@ -140,6 +142,19 @@ impl<K: Keeper> Book<K> {
             hash: _,
             tables,
         } = self;
-        (keeper, tables.into_history())
+        (keeper, Box::into_inner(tables).into_history())
     }
+}
+
+ghost use Rattle.std.specs.Prelude.{◌≡◌, [], ◌∷◌, IfOk, IsTrue};
+ghost use Rattle.pool_history.specs.declared.events.Event.TheVariants as event;
+ghost use Rattle.pool_history.specs.Accounts.{are_in_range};
+
+/// The tables of a pool that starts.
+fn start_tables(alloc: Global, rules: Rules) -> Result<Box<Tables>, AllocError>
+    requires { IsTrue (are_in_range rules) }
+    ensures { IfOk result (λ tables. tables.value.history.events ≡ event.Start rules ∷ []) }
+{
+    let tables = Tables::start(alloc, rules)?;
+    Ok(Box::new(alloc, tables)?)
 }

@@ -10,21 +10,21 @@ pub keep_start-requires : goal.keep_start-requires
 keep_start-requires c c' =
     let first : c'.first.result.now ≡ event.Start c'.args.rules =
     c'.first.ensures (event.Start c'.args.rules) (ap (λ (l : List Event). slice_get l 0) c'.in-Ok.ensures) in
-    first-record c'.in-Ok.tables.history.events c'.first.result.now (c'.in-Ok.ensures ∙ ap (λ (e : Event). e ∷ []) (sym first)) c'.are_kept.ensures.kept
+    first-record c'.in-Ok.tables.value.history.events c'.first.result.now (c'.in-Ok.ensures ∙ ap (λ (e : Event). e ∷ []) (sym first)) c'.are_kept.ensures.kept
 
 pub invariant_of-result : goal.invariant_of-result
 invariant_of-result c c' =
     let first : c'.first.result.now ≡ event.Start c'.args.rules =
     c'.first.ensures (event.Start c'.args.rules) (ap (λ (l : List Event). slice_get l 0) c'.in-Ok.ensures) in
-    let one : c'.in-Ok.tables.history.events ≡ c'.first.result.now ∷ [] = c'.in-Ok.ensures ∙ ap (λ (e : Event). e ∷ []) (sym first) in (
+    let one : c'.in-Ok.tables.value.history.events ≡ c'.first.result.now ∷ [] = c'.in-Ok.ensures ∙ ap (λ (e : Event). e ∷ []) (sym first) in (
       c'.in-Ok-keep_start.ensures.hash ∙ ap hash_after (sym one),
-      keeps-instead _ _ c'.in-Ok.tables.history.events
-          (keeps-first _ _ c'.first.result.now c'.in-Ok.tables.history.events one c'.requires.unused c'.in-Ok-keep_start.ensures.kept),
+      keeps-instead _ _ c'.in-Ok.tables.value.history.events
+          (keeps-first _ _ c'.first.result.now c'.in-Ok.tables.value.history.events one c'.requires.unused c'.in-Ok-keep_start.ensures.kept),
     )
 
 pub returns-in-Ok-keep_start-clause-kept : goal.returns-in-Ok-keep_start-clause-kept
 returns-in-Ok-keep_start-clause-kept c c' =
     let first : c'.first.result.now ≡ event.Start c'.args.rules =
     c'.first.ensures (event.Start c'.args.rules) (ap (λ (l : List Event). slice_get l 0) c'.in-Ok.ensures) in
-    keeps-first _ _ c'.first.result.now c'.in-Ok.tables.history.events (c'.in-Ok.ensures ∙ ap (λ (e : Event). e ∷ []) (sym first)) c'.requires.unused
+    keeps-first _ _ c'.first.result.now c'.in-Ok.tables.value.history.events (c'.in-Ok.ensures ∙ ap (λ (e : Event). e ∷ []) (sym first)) c'.requires.unused
     c'.in-Ok-keep_start.ensures.kept
