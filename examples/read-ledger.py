@@ -214,15 +214,15 @@ def words_of(event, said, numbers):
     return words
 
 
-def print_events(ledger):
-    """Prints all events up to the first defect, which is raised. Answers how many there are."""
+def events_of(ledger):
+    """The format, and then each event up to the first defect, which is raised: its number, its place,
+    its record, its kind, its fields by their names, and the hash behind it."""
     magic = ledger.read(8)
     if magic not in MAGICS:
         raise Defect("not a ledger at 0: it doesn't begin with SV2LEDG1 or SV2LEDG2")
-    print(f"format {MAGICS[magic]}")
+    yield MAGICS[magic]
     chained = MAGICS[magic] == 2
     chain = hashlib.sha256(magic).digest()
-    numbers = {what: first for what, _, first in NUMBERED}
     place, count = len(magic), 0
     while ledger.peek(1):
         try:
@@ -239,10 +239,22 @@ def print_events(ledger):
                     f"broken chain {count}: the hash behind the record at {place} "
                     f"is {found.hex()}, and should be {chain.hex()}"
                 )
-        print(f"{count} at {place}: {words_of(event, said, numbers)}")
+        yield count, place, record, event, said, found
         place += len(record) + len(found)
         count += 1
-    return count, chained
+
+
+def print_events(ledger):
+    """Prints all events up to the first defect, which is raised. Answers how many there are."""
+    events = events_of(ledger)
+    ledger_format = next(events)
+    print(f"format {ledger_format}")
+    numbers = {what: first for what, _, first in NUMBERED}
+    count = 0
+    for number, place, _, event, said, _ in events:
+        print(f"{number} at {place}: {words_of(event, said, numbers)}")
+        count += 1
+    return count, ledger_format == 2
 
 
 def main():
