@@ -1,2 +1,6 @@
+pub mod Climbs
 pub mod HeldLeads
-pub mod Spans
+pub mod Paths
+pub mod Rows
+pub mod Spaces
+pub mod Trees

@@ -1,8 +1,11 @@
 //! The leads that open channels hold, and which lead comes next. It knows no channel.
 #![tactic(auto)]
 
-mod gaps;
+mod nodes;
+mod paths;
+mod rows;
 mod space;
-mod spans;
+mod tree;
 
+pub use rows::Steps;
 pub use space::{Space, SpaceError};

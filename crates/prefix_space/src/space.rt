@@ -1,9 +1,14 @@
 //! The table of held leads.
 
-use crate::gaps::next_lead;
+use crate::nodes::Node;
+use crate::paths::key_of;
+use crate::rows::Steps;
+use crate::tree;
+use indexmap::{IndexMap, IndexSet};
 use pool_history::Lead;
 use std::alloc::{AllocError, Global};
-use std::marker::Model;
+use std::marker::{Brand, Model};
+use std::sync::ledger::{Blank, Ledger};
 use thiserror::Error;
 
 /// Why no lead is taken.
@@ -19,7 +24,8 @@ pub enum SpaceError {
 /// more there is room for.
 #[derive(Debug, Drop)]
 pub struct Space {
-    leads: Vec<Lead>,
+    held: IndexSet<u64>,
+    nodes: IndexMap<u32, Node>,
 }
 
 impl Model for Space {
@@ -27,15 +33,14 @@ impl Model for Space {
 
     ghost Value = { HeldLeads };
 
-    ghost use Rattle.std.specs.Prelude.{◌-◌, vec_capacity, vec_len};
-    ghost use Rattle.prefix_space.specs.Spans.{AreSpansInOrder};
+    ghost use Rattle.prefix_space.specs.Spaces.{IsSpace, lead_room, leads_of};
 
     ghost view = { λ space. record {
-      held = space.leads.items;
-      spare = vec_capacity space.leads - vec_len space.leads;
+      held = leads_of space.held;
+      spare = lead_room space.held space.nodes;
     } };
 
-    ghost invariant = { λ space. AreSpansInOrder space.leads.items };
+    ghost invariant = { λ space. IsSpace space.held space.nodes };
 }
 
 impl Space {
@@ -48,8 +53,10 @@ impl Space {
     pub fn new(alloc: Global) -> Result<Space, AllocError>
         ensures { IfOk result (λ space. (space.held ≡ []) × (1 ≤ space.spare)) }
     {
-        let leads = Vec::with_capacity(alloc, 1)?;
-        Ok(Space { leads })
+        let held = IndexSet::with_capacity(alloc, 1)?;
+        let mut nodes = IndexMap::with_capacity(alloc, 4)?;
+        tree::plant(&mut nodes);
+        Ok(Space { held, nodes })
     }
 
     /// Holds the lowest free lead of so many bytes. Memory may be wanted only where there is no
@@ -64,14 +71,14 @@ impl Space {
         ensures memory { result ≡ Err SpaceError.Memory → self.old.spare ≡ 0 }
         ensures refused { OnErr result (self.new ≡ self.old) }
     {
-        let Some(next) = next_lead(&self.leads, len) else {
+        let Some(lead) = self.lowest(len) else {
             return Err(SpaceError::NoSpace);
         };
-        if self.leads.reserve(1).is_err() {
+        if !make_room(&mut self.held, &mut self.nodes) {
             return Err(SpaceError::Memory);
         }
-        put(&mut self.leads, next.at, next.lead);
-        Ok(next.lead)
+        hold(&mut self.held, &mut self.nodes, lead);
+        Ok(lead)
     }
 
     /// The lead that `take` would give.
@@ -80,10 +87,30 @@ impl Space {
         requires most { len ≤ 4 }
         ensures { result ≡ lowest len self.now.held }
     {
-        match next_lead(&self.leads, len) {
-            Some(next) => Some(next.lead),
-            None => None,
-        }
+        self.find_for::<Brand>(len, Blank::new(1))
+    }
+
+    fn find_for<L: Ledger>(&self, len: u8, blank: Blank) -> Option<Lead>
+        requires some { 1 ≤ len }
+        requires most { len ≤ 4 }
+        requires name { blank.name ≡ L.name }
+        requires parts { blank.parts ≡ L.parts }
+        requires counts { 0 < blank.parts }
+        ensures { result ≡ lowest len self.now.held }
+    {
+        let mut steps = Steps::<L>::open(blank);
+        self.find(len, &mut steps)
+    }
+
+    /// The same, with a count of the words that it reads: at most four at each level, whatever is
+    /// held.
+    pub fn find<L: Ledger>(&self, len: u8, steps: &mut Steps<L>) -> Option<Lead>
+        requires some { 1 ≤ len }
+        requires most { len ≤ 4 }
+        ensures value { result ≡ lowest len self.now.held }
+        ensures cost { steps.new ≤ steps.old + 16 }
+    {
+        tree::find(&self.nodes, len, steps)
     }
 
     /// Makes room for one more lead.
@@ -93,7 +120,11 @@ impl Space {
         ensures more { self.old.spare ≤ self.new.spare }
         ensures spared { 1 ≤ self.old.spare → IsOk result }
     {
-        self.leads.reserve(1)
+        if make_room(&mut self.held, &mut self.nodes) {
+            Ok(())
+        } else {
+            Err(AllocError)
+        }
     }
 
     /// Gives back a lead that is held.
@@ -101,11 +132,10 @@ impl Space {
         requires { IsTrue (is_held self.old.held lead) }
         ensures held { IsPermutation self.old.held (lead ∷ self.new.held) }
         ensures gone { is_held self.new.held lead ≡ false }
-        ensures room { self.new.spare ≡ self.old.spare + 1 }
+        ensures room { self.old.spare ≤ self.new.spare }
     {
-        if let Some(at) = index_of(&self.leads, &lead) {
-            self.leads.remove(at);
-        }
+        let _was = self.held.swap_remove(&key_of(&lead));
+        climb_for::<Brand>(&mut self.nodes, lead, false, Blank::new(1));
     }
 
     /// Whether a lead is held. No held lead begins another.
@@ -113,28 +143,70 @@ impl Space {
         ensures value { result ≡ is_held self.now.held lead }
         ensures apart { AreLeadsApart self.now.held }
     {
-        self.leads.iter().any(|other| other.bytes() == lead.bytes())
+        self.held.contains(&key_of(&lead))
     }
 }
 
-ghost use Rattle.std.specs.Prelude.{◌≡◌, ◌+◌, ◌<◌, ◌≤◌, position, vec_capacity, vec_len};
-ghost use Rattle.std.specs.List.{insert};
-ghost use Rattle.std.specs.Str.{bytes_eq};
+ghost use Rattle.std.specs.Prelude.{◌≡◌, ℕ, ◌+◌, ◌<◌, ◌≤◌, ◌++◌, ◌∷◌, [], List, IsPermutation, IsTrue, nat_eq, true, false, length, Some};
+ghost use Rattle.std.specs.List.{AllByRecursion};
+ghost use Rattle.indexmap.specs.IndexMap.{spare as node_spare};
+ghost use Rattle.indexmap.specs.IndexSet.{contains, spare as set_spare};
+ghost use Rattle.pool_history.specs.Spaces.{lowest};
+ghost use Rattle.prefix_space.specs.Climbs.{FitsUpTo, IsEnd};
+ghost use Rattle.prefix_space.specs.Paths.{lead_key};
+ghost use Rattle.prefix_space.specs.Spaces.{IsSpace, lead_room, leads_of};
+ghost use Rattle.prefix_space.specs.Trees.{nodes_of};
 
-/// Where a lead stands among others.
-fn index_of(leads: &[Lead], lead: &Lead) -> Option<usize>
-    ensures { result ≡ position (λ other. bytes_eq other lead.now) leads.now }
+/// Makes room for a lead and for the nodes on its way, and says whether there is room.
+fn make_room(held: &mut IndexSet<u64>, nodes: &mut IndexMap<u32, Node>) -> bool
+    ensures keys { held.new.keys ≡ held.old.keys }
+    ensures nodes { nodes.new.entries ≡ nodes.old.entries }
+    ensures room { result ≡ true → 1 ≤ lead_room held.new nodes.new }
+    ensures none { result ≡ false → lead_room held.new nodes.new ≡ 0 }
+    ensures more { lead_room held.old nodes.old ≤ lead_room held.new nodes.new }
 {
-    leads.iter().position(|other| other.bytes() == lead.bytes())
+    let _held = held.reserve(1);
+    let _nodes = nodes.reserve(3);
+    // What there is room for is read off the tables: a refusal doesn't say that nothing was gained.
+    held.len() < held.capacity() && nodes.len() + 2 < nodes.capacity()
 }
 
-/// Puts a lead where there is room for it.
-fn put(leads: &mut Vec<Lead>, at: usize, lead: Lead)
-    requires within { at ≤ vec_len leads.old }
-    requires room { vec_len leads.old < vec_capacity leads.old }
-    ensures items { leads.new.items ≡ insert leads.old.items at lead }
-    ensures len { vec_len leads.new ≡ vec_len leads.old + 1 }
-    ensures capacity { vec_capacity leads.new ≡ vec_capacity leads.old }
+/// Holds the lowest free lead, for which there is room.
+fn hold(held: &mut IndexSet<u64>, nodes: &mut IndexMap<u32, Node>, lead: Lead)
+    requires room { 1 ≤ lead_room held.old nodes.old }
+    requires space { IsSpace held.old nodes.old }
+    requires lowest { lowest (length lead) (leads_of held.old) ≡ Some lead }
+    ensures space { IsSpace held.new nodes.new }
+    ensures held { leads_of held.new ≡ leads_of held.old ++ lead ∷ [] }
+    ensures room { lead_room held.old nodes.old ≤ lead_room held.new nodes.new + 1 }
 {
-    let _done = leads.insert(at, lead);
+    put_key(held, key_of(&lead));
+    tree::add_way(nodes, lead);
+    climb_for::<Brand>(nodes, lead, true, Blank::new(1));
+}
+
+/// Puts in a number that isn't there, and for which there is room.
+fn put_key(held: &mut IndexSet<u64>, key: u64)
+    requires room { 1 ≤ set_spare held.old }
+    requires new { contains nat_eq held.old key ≡ false }
+    ensures keys { held.new.keys ≡ held.old.keys ++ key ∷ [] }
+    ensures room { set_spare held.old ≤ set_spare held.new + 1 }
+{
+    let Ok(_new) = held.insert(key) else {
+        return;
+    };
+}
+
+/// Brings the tree up to date, and counts nothing.
+fn climb_for<L: Ledger>(nodes: &mut IndexMap<u32, Node>, lead: Lead, is_held: bool, blank: Blank)
+    requires name { blank.name ≡ L.name }
+    requires parts { blank.parts ≡ L.parts }
+    requires counts { 0 < blank.parts }
+    ensures fits { (held : List (List ℕ)) → IsEnd lead is_held held
+        → FitsUpTo lead (length lead) held (nodes_of nodes.old)
+        → FitsUpTo lead 0 held (nodes_of nodes.new) }
+    ensures room { node_spare nodes.old ≤ node_spare nodes.new }
+{
+    let mut steps = Steps::<L>::open(blank);
+    tree::climb(nodes, lead, is_held, &mut steps);
 }
