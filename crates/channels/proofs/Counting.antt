@@ -7,7 +7,6 @@ use Rattle.std.specs.Map.{lookup, remove_entry}
 use Rattle.history_laws.proofs.Entrances.{none-some, some-same}
 use Rattle.pool_history.specs.Channels.{channels_in}
 use Rattle.channels.specs.declared.channel.Channel.{Channel}
-use Rattle.channels.specs.declared.channel.Setting.{Setting}
 use Rattle.pool_history.specs.Refusing.{has_too_many_among}
 use Rattle.channels.specs.Tables.{shown_channel, with_changed, without_session}
 use Rattle.channels.proofs.Lookups.{shown_all}
@@ -16,11 +15,11 @@ use Rattle.channels.proofs.Lookups.{shown_all}
 abbrev pub own_count : ℕ → List (ℕ × Channel) → ℕ
 own_count session entries = length (filter (λ e. eqb e.1.session session) entries)
 
-pub count-shown : (settings : List Setting) (session : ℕ) (entries : List (ℕ × Channel)) → length (channels_in (shown_all settings entries) session) ≡ own_count session entries
-count-shown settings session [] = refl
-count-shown settings session (e ∷ entries) = by_test (eqb e.1.session session) (count-shown settings session entries) where
-  by_test : (t : Bool) → length (channels_in (shown_all settings entries) session) ≡ own_count session entries
-      → length (cond t (shown_channel settings e.0 e.1 ∷ channels_in (shown_all settings entries) session) (channels_in (shown_all settings entries) session))
+pub count-shown : (session : ℕ) (entries : List (ℕ × Channel)) → length (channels_in (shown_all entries) session) ≡ own_count session entries
+count-shown session [] = refl
+count-shown session (e ∷ entries) = by_test (eqb e.1.session session) (count-shown session entries) where
+  by_test : (t : Bool) → length (channels_in (shown_all entries) session) ≡ own_count session entries
+      → length (cond t (shown_channel e.0 e.1 ∷ channels_in (shown_all entries) session) (channels_in (shown_all entries) session))
       ≡ length (cond t (e ∷ filter (λ d. eqb d.1.session session) entries) (filter (λ d. eqb d.1.session session) entries))
   by_test true same = omega (arith, same)
   by_test false same = same
@@ -118,12 +117,12 @@ closed-counted session own id c entries mine found count is =
     omega (arith, removed, is)
 
 -- a session that may open one more has few open
-pub few-counted : (settings : List Setting) (session openings : ℕ) (entries : List (ℕ × Channel)) → has_too_many_among (shown_all settings entries) openings session ≡ false
+pub few-counted : (session openings : ℕ) (entries : List (ℕ × Channel)) → has_too_many_among (shown_all entries) openings session ≡ false
     → own_count session entries < 1024
-few-counted settings session openings entries few =
-    subst (λ n. n < 1024) (count-shown settings session entries)
-    (by_test (nat_le 1024 (length (channels_in (shown_all settings entries) session))) refl few) where
-      by_test : (t : Bool) → nat_le 1024 (length (channels_in (shown_all settings entries) session)) ≡ t
-          → (t || nat_le (2 ^ 22) openings) ≡ false → length (channels_in (shown_all settings entries) session) < 1024
+few-counted session openings entries few =
+    subst (λ n. n < 1024) (count-shown session entries)
+    (by_test (nat_le 1024 (length (channels_in (shown_all entries) session))) refl few) where
+      by_test : (t : Bool) → nat_le 1024 (length (channels_in (shown_all entries) session)) ≡ t
+          → (t || nat_le (2 ^ 22) openings) ≡ false → length (channels_in (shown_all entries) session) < 1024
       by_test true is few = absurd (false≢true (sym few))
-      by_test false is few = leb-false 1024 (length (channels_in (shown_all settings entries) session)) is
+      by_test false is few = leb-false 1024 (length (channels_in (shown_all entries) session)) is

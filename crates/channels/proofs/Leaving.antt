@@ -13,7 +13,6 @@ use Rattle.pool_history.specs.Spaces.{overlap}
 use Rattle.prefix_space.specs.HeldLeads.{is_held}
 use Rattle.prefix_space.proofs.Orders.{apart-differ, none-same}
 use Rattle.channels.specs.declared.channel.Channel.{Channel}
-use Rattle.channels.specs.declared.channel.Setting.{Setting}
 use Rattle.channels.specs.Tables.{AreKept, HasItsClass, shown_channel, without_session}
 use Rattle.channels.proofs.Closings.{leads_of}
 use Rattle.channels.proofs.Lookups.{shown_all}
@@ -152,28 +151,27 @@ apart-left session (e ∷ entries) apart =
       by_test true each rest = (each, rest)
       by_test false each rest = rest
 
-pub left-kept : (opened : ℕ) (settings : List Setting) (entries : List (ℕ × Channel)) (held given : List (List ℕ)) (session : ℕ) → AreKept opened settings entries held
+pub left-kept : (opened : ℕ) (entries : List (ℕ × Channel)) (held given : List (List ℕ)) (session : ℕ) → AreKept opened entries held
     → ((lead : List ℕ) → is_held given lead ≡ is_held (leads_of (without_session session entries)) lead)
-    → AreKept opened settings (without_session session entries) given
-left-kept opened settings entries held given session kept same = record {
+    → AreKept opened (without_session session entries) given
+left-kept opened entries held given session kept same = record {
   ids = all-left (λ e. e.0 ≤ opened) session entries kept.ids;
-  settings_are = kept.settings_are;
-  classes = all-left (λ e. HasItsClass settings e.0 e.1) session entries kept.classes;
+  classes = all-left (λ e. HasItsClass e.1) session entries kept.classes;
   leads = same;
   apart = apart-left session entries kept.apart;
 }
 
 -- the other channels are shown
-pub shown-left : (settings : List Setting) (session : ℕ) (entries : List (ℕ × Channel))
-    → shown_all settings (without_session session entries) ≡ filter (λ c. not (eqb c.session session)) (shown_all settings entries)
-shown-left settings session [] = refl
-shown-left settings session (e ∷ entries) = by_test (not (eqb e.1.session session)) (shown-left settings session entries) where
+pub shown-left : (session : ℕ) (entries : List (ℕ × Channel))
+    → shown_all (without_session session entries) ≡ filter (λ c. not (eqb c.session session)) (shown_all entries)
+shown-left session [] = refl
+shown-left session (e ∷ entries) = by_test (not (eqb e.1.session session)) (shown-left session entries) where
   others : List (ℕ × Channel)
   others = without_session session entries
 
-  by_test : (t : Bool) → shown_all settings others ≡ filter (λ c. not (eqb c.session session)) (shown_all settings entries)
-      → shown_all settings (cond t (e ∷ others) others)
-      ≡ cond t (shown_channel settings e.0 e.1 ∷ filter (λ c. not (eqb c.session session)) (shown_all settings entries))
-      (filter (λ c. not (eqb c.session session)) (shown_all settings entries))
-  by_test true same = ap (λ l. shown_channel settings e.0 e.1 ∷ l) same
+  by_test : (t : Bool) → shown_all others ≡ filter (λ c. not (eqb c.session session)) (shown_all entries)
+      → shown_all (cond t (e ∷ others) others)
+      ≡ cond t (shown_channel e.0 e.1 ∷ filter (λ c. not (eqb c.session session)) (shown_all entries))
+      (filter (λ c. not (eqb c.session session)) (shown_all entries))
+  by_test true same = ap (λ l. shown_channel e.0 e.1 ∷ l) same
   by_test false same = same

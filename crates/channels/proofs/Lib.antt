@@ -2,6 +2,7 @@ pub mod Changing
 pub mod Closings
 pub mod Counting
 pub mod Disjoint
+pub mod Halves
 pub mod Joining
 pub mod Leaving
 pub mod Lookups

@@ -1,3 +1,4 @@
+pub mod ClassSettings
 pub mod Histories
 pub mod Plans
 pub mod Tables

@@ -1,16 +1,18 @@
 //! Changes of the channels that are kept.
 
-ghost use Rattle.std.specs.Prelude.{◌≡◌, ℕ, ◌≤◌, None, Some, List, [], ◌∷◌, ◌++◌, IsPermutation, length, map, nat_eq};
+ghost use Rattle.std.specs.Prelude.{◌≡◌, ℕ, ◌≤◌, None, Some, List, [], ◌∷◌, ◌++◌, IsPermutation, OnOk, length, map, nat_eq};
+ghost use Rattle.std.specs.Map.{lookup};
 ghost use Rattle.pool_history.specs.Spaces.{lowest};
 ghost use Rattle.history_laws.specs.Openings.{AreLeadsApart};
 ghost use Rattle.indexmap.specs.IndexMap.{get, spare};
 ghost use Rattle.prefix_space.specs.HeldLeads.{is_held};
-ghost use Rattle.channels.specs.Tables.{named_channel, reclassed_channel, with_changed, without_session};
+ghost use Rattle.channels.specs.Tables.{count_kept, named_channel, reclassed_channel, roomed_channel, rooms_of, with_changed, without_session};
 
 use crate::channel::Channel;
 use indexmap::IndexMap;
 use pool_history::{Class, Lead};
 use prefix_space::Space;
+use std::alloc::AllocError;
 use sv2_types::Str255;
 
 /// Keeps a channel under an id that is new, and for which there is room.
@@ -46,14 +48,29 @@ pub(crate) fn put_account(channels: &mut IndexMap<u32, Channel>, id: u32, accoun
     }
 }
 
-/// Gives a channel another present class.
-pub(crate) fn put_class(channels: &mut IndexMap<u32, Channel>, id: u32, class: Class)
-    ensures entries { channels.new.entries
-        ≡ with_changed (reclassed_channel class) id channels.old.entries }
-    ensures room { spare channels.new ≡ spare channels.old }
+/// Makes room for a class that is set for a channel.
+pub(crate) fn reserve_class(
+    channels: &mut IndexMap<u32, Channel>,
+    id: u32,
+) -> Result<(), AllocError>
+    ensures { (room : ℕ) × (channels.new.entries
+        ≡ with_changed (roomed_channel room) id channels.old.entries) × OnOk result (1 ≤ room) }
+{
+    match channels.get_mut(&id) {
+        Some(there) => there.settings.reserve(),
+        None => Ok(()),
+    }
+}
+
+/// Sets the class of a channel at a place, for which there is room.
+pub(crate) fn put_class(channels: &mut IndexMap<u32, Channel>, id: u32, at: u64, class: Class)
+    requires { 1 ≤ count_kept (lookup (nat_eq id) (rooms_of channels.old.entries)) }
+    ensures { channels.new.entries
+        ≡ with_changed (reclassed_channel at class) id channels.old.entries }
 {
     if let Some(there) = channels.get_mut(&id) {
         there.class = class;
+        there.settings.set(at, class);
     }
 }
 

@@ -8,6 +8,7 @@ mod counts;
 mod laws;
 mod openings;
 mod plan;
+mod settings;
 mod table;
 
 pub use accounts::{account_in, is_known_account};

@@ -1,11 +1,14 @@
 //! The table of open channels.
 
 use crate::accounts::{account_in, is_known_account};
-use crate::changes::{drop_session, give_leads, hold, put_account, put_channel, put_class};
-use crate::channel::{Channel, Setting};
+use crate::changes::{
+    drop_session, give_leads, hold, put_account, put_channel, put_class, reserve_class,
+};
+use crate::channel::Channel;
 use crate::counts::{count_closing, count_of, count_opening, forget_count};
 use crate::openings::{class_given, lead_len, opening_account, opening_refusal};
 use crate::plan::ChannelPlan;
+use crate::settings::Settings;
 use indexmap::IndexMap;
 use pool_history::{Class, Kind, Lead, NameError, OpenAsk, OpenError, Opened, Rules};
 use prefix_space::Space;
@@ -28,15 +31,12 @@ pub enum SetError {
     Memory,
 }
 
-/// The open channels, the leads that they hold, and the classes that were set for them. Contracts
-/// see the channels in the order of their ids, how many were opened, and for how many more there is
-/// room.
+/// The open channels, and the leads that they hold. Contracts see the channels in the order of their
+/// ids, how many were opened, and for how many more there is room.
 #[derive(Debug, Drop)]
 pub struct Channels {
     opened: u32,
     channels: IndexMap<u32, Channel>,
-    /// In the order in which they were set.
-    settings: Vec<Setting>,
     space: Space,
     /// How many channels each session has open; a session that isn't there has none.
     counts: IndexMap<u32, u32>,
@@ -47,25 +47,23 @@ impl Model for Channels {
 
     ghost Value = { ChannelTable };
 
-    ghost use Rattle.std.specs.Prelude.{◌-◌, map, min, reverse, vec_capacity, vec_len};
+    ghost use Rattle.std.specs.Prelude.{map, min};
     ghost use Rattle.indexmap.specs.IndexMap.{spare};
-    ghost use Rattle.channels.specs.Tables.{AreKept, CountsChannels, shown_channel};
+    ghost use Rattle.channels.specs.Tables.{AreKept, CountsChannels, rooms_of, shown_channel};
 
     ghost view = { λ table. record {
       opened = table.opened;
-      open_channels = map (λ entry. shown_channel (reverse table.settings.items) entry.0 entry.1)
-          table.channels.entries;
+      open_channels = map (λ entry. shown_channel entry.0 entry.1) table.channels.entries;
       opening_room = min (spare table.channels) (min (spare table.counts) table.space.spare);
-      setting_room = vec_capacity table.settings - vec_len table.settings;
+      setting_rooms = rooms_of table.channels.entries;
     } };
 
-    ghost invariant = { λ table. AreKept table.opened (reverse table.settings.items)
-        table.channels.entries table.space.held
+    ghost invariant = { λ table. AreKept table.opened table.channels.entries table.space.held
         × CountsChannels table.counts.entries table.channels.entries };
 }
 
 impl Channels {
-    ghost use Rattle.std.specs.Prelude.{◌≡◌, ◌↔◌, ◌⊎◌, ℕ, ◌≤◌, None, List, [], ◌∷◌, IfErr, IfOk, IsErr, OnErr, OnOk, map};
+    ghost use Rattle.std.specs.Prelude.{◌≡◌, ◌↔◌, ◌⊎◌, ℕ, ◌≤◌, None, List, [], ◌∷◌, IfErr, IfOk, IsErr, IsTrue, OnErr, OnOk, is_some, map};
     ghost use Rattle.std.specs.Option.{option_copied, option_map};
     ghost use Rattle.pool_history.specs.Accounts.{account_of};
     ghost use Rattle.pool_history.specs.Answering.{account_for};
@@ -84,7 +82,6 @@ impl Channels {
         Ok(Channels {
             opened: 0,
             channels: IndexMap::new(alloc),
-            settings: Vec::new(alloc),
             space,
             counts: IndexMap::new(alloc),
         })
@@ -114,12 +111,7 @@ impl Channels {
             (channel_in self.now.open_channels channel) }
     {
         match self.channels.get(&channel) {
-            Some(there) => Some(class_at_place(
-                &self.settings,
-                channel,
-                live_at,
-                there.opening_class,
-            )),
+            Some(there) => Some(there.settings.class_at(live_at, there.opening_class)),
             None => None,
         }
     }
@@ -129,7 +121,7 @@ impl Channels {
         ensures { IfOk result (λ ids. ids.items
             ≡ map (λ shown. shown.id) (channels_in self.now.open_channels session)) }
     {
-        ids_of(*self.settings.allocator(), &self.channels, session)
+        ids_of(*self.channels.allocator(), &self.channels, session)
     }
 
     /// Closes an open channel of a session, and gives its lead back.
@@ -273,7 +265,7 @@ impl Channels {
         if let Some(refusal) = name_refusal(&self.channels, session, channel, account, rules) {
             return Err(refusal);
         }
-        let Ok(account) = Str255::of(*self.settings.allocator(), account) else {
+        let Ok(account) = Str255::of(*self.channels.allocator(), account) else {
             return Err(NameError::Memory);
         };
         Ok(ChannelPlan::Name { channel, account })
@@ -296,7 +288,7 @@ impl Channels {
         let Some(_lead) = own_lead(&self.channels, session, channel) else {
             return Err(SetError::NotOpen);
         };
-        let Ok(()) = self.settings.reserve(1) else {
+        let Ok(()) = self.make_class_room(channel) else {
             return Err(SetError::Memory);
         };
         Ok(ChannelPlan::Class { at, channel, class })
@@ -369,7 +361,7 @@ impl Channels {
             Ok(opened) => opened,
             Err(refusal) => return Err(refusal),
         };
-        let alloc = *self.settings.allocator();
+        let alloc = *self.channels.allocator();
         let Ok(account) = opening_account(alloc, ask.kind, ask.identity.text()) else {
             return Err(OpenError::Memory);
         };
@@ -389,6 +381,15 @@ impl Channels {
         self.space.reserve()
     }
 
+    /// Room for a class that is set for an open channel.
+    fn make_class_room(&mut self, channel: u32) -> Result<(), AllocError>
+        requires { IsTrue (is_some (channel_in self.old.open_channels channel)) }
+        ensures same { ShowsSameChannels self.old self.new }
+        ensures ready { OnOk result (MaySetClass self.new channel) }
+    {
+        reserve_class(&mut self.channels, channel)
+    }
+
     /// Opens a channel, for which there is room.
     fn take_opening(&mut self, session: u32, kind: Kind, account: Str255, opened: Opened) -> Opened
         requires { MayOpenNext self.old session kind opened }
@@ -396,6 +397,7 @@ impl Channels {
         ensures told { (at : ℕ) (moves : List ChannelMove) → IsTold self.old moves
             → IsTold self.new (Opens at session kind account opened.class opened.lead ∷ moves) }
     {
+        let alloc = *self.channels.allocator();
         count_opening(&mut self.counts, session);
         hold(&mut self.space, opened.lead);
         let channel = Channel {
@@ -405,6 +407,7 @@ impl Channels {
             lead: opened.lead,
             opening_class: opened.class,
             class: opened.class,
+            settings: Settings::new(alloc),
         };
         put_channel(&mut self.channels, opened.channel, channel);
         self.opened = opened.channel;
@@ -425,8 +428,7 @@ impl Channels {
         ensures { (moves : List ChannelMove) → IsTold self.old moves
             → IsTold self.new (Sets at channel class ∷ moves) }
     {
-        put_class(&mut self.channels, channel, class);
-        self.settings.push_reserved(Setting { channel, at, class });
+        put_class(&mut self.channels, channel, at, class);
     }
 }
 
@@ -440,35 +442,12 @@ pub fn spaces_apart(channels: &Channels, a: u32, b: u32)
 }
 
 ghost use Rattle.std.specs.Option.{option_copied};
-ghost use Rattle.std.specs.Prelude.{◌≡◌, ◌≤◌, ◌==◌, ◌&&◌, None, IfOk, filter, find, length, map, nat_eq, nat_lt, not, reverse};
+ghost use Rattle.std.specs.Prelude.{◌≡◌, ◌≤◌, ◌==◌, ◌&&◌, None, IfOk, filter, length, map, nat_eq, not};
 ghost use Rattle.std.specs.Str.{bytes_eq};
 ghost use Rattle.pool_history.specs.Accounts.{is_empty};
 ghost use Rattle.channels.specs.Plans.{naming_refusal};
-ghost use Rattle.pool_history.specs.Channels.{class_before};
 ghost use Rattle.indexmap.specs.IndexMap.{IsUnique, get};
-ghost use Rattle.channels.specs.Tables.{AreSpacesApart, channel_if_own, lead_if_own, sets_of};
-
-/// The last setting of a channel before a place.
-fn last_before(settings: &[Setting], channel: u32, place: u64) -> Option<&Setting>
-    ensures { option_copied result
-        ≡ find (λ setting. setting.channel == channel && nat_lt setting.at place)
-        (reverse settings.now) }
-{
-    settings
-        .iter()
-        .rev()
-        .find(|setting| setting.channel == channel && setting.at < place)
-}
-
-/// The last class that was set for a channel before a place, or else that of its opening.
-fn class_at_place(settings: &[Setting], channel: u32, place: u64, opening: Class) -> Class
-    ensures { result ≡ class_before place (sets_of channel (reverse settings.now)) opening }
-{
-    match last_before(settings, channel, place) {
-        Some(setting) => setting.class,
-        None => opening,
-    }
-}
+ghost use Rattle.channels.specs.Tables.{AreSpacesApart, channel_if_own, lead_if_own};
 
 /// The ids of a session's channels.
 fn ids_of(

@@ -1,10 +1,9 @@
-use Rattle.std.proofs.Common.{◌≡◌, ℕ, ◌+◌, ◌<◌, cond, true, List, [], ◌∷◌, ◌++◌, length, map, reverse, refl, ap, subst, sym, ◌∙◌, arith}
+use Rattle.std.proofs.Common.{◌≡◌, ℕ, ◌+◌, ◌<◌, cond, true, List, [], ◌∷◌, ◌++◌, length, map, refl, ap, subst, sym, ◌∙◌, arith}
 use Rattle.std.proofs.Math.Dec.{eqb}
 use Rattle.std.specs.Map.{lookup}
 use Rattle.pool_history.specs.Channels.{OpenChannel, channels_told}
 use Rattle.pool_history.specs.Spaces.{is_free, lowest}
 use Rattle.channels.specs.declared.channel.Channel.{Channel}
-use Rattle.channels.specs.declared.channel.Setting.{Setting}
 use Rattle.pool_history.specs.Refusing.{has_too_many_among}
 use Rattle.channels.specs.Tables.{CountsChannels, AreKept}
 use Rattle.channels.proofs.Changing.{same-facts}
@@ -16,16 +15,14 @@ use Rattle.channels.proofs.table.Channels.take_opening.Goals as goal
 
 pub count_opening-requires-clause-few : goal.count_opening-requires-clause-few
 count_opening-requires-clause-few c =
-    let settings : List Setting = reverse c.self.inside.settings.items in
     let few : own_count c.args.session c.self.inside.channels.entries < 1024 =
-    few-counted settings c.args.session c.self.inside.opened c.self.inside.channels.entries
+    few-counted c.args.session c.self.inside.opened c.self.inside.channels.entries
     (ap (λ table. has_too_many_among table.open_channels table.opened c.args.session) c.self.view_is ∙ c.requires.opening.few) in
     omega (arith, few, c.self.invariant.1 c.args.session)
 
 pub hold-requires-clause-lowest : goal.hold-requires-clause-lowest
 hold-requires-clause-lowest c =
-    let settings : List Setting = reverse c.self.inside.settings.items in
-    held-lowest (length c.args.opened.lead) settings c.self.inside.channels.entries c.self.inside.space.held c.self.invariant.0.leads
+    held-lowest (length c.args.opened.lead) c.self.inside.channels.entries c.self.inside.space.held c.self.invariant.0.leads
     ∙ ap (λ table. lowest (length c.args.opened.lead) (map (λ channel. channel.lead) table.open_channels)) c.self.view_is ∙ c.requires.opening.lead_is
 
 pub put_channel-requires-clause-new : goal.put_channel-requires-clause-new
@@ -35,7 +32,6 @@ put_channel-requires-clause-new c =
 
 pub invariant_of-self : goal.invariant_of-self
 invariant_of-self c =
-    let settings : List Setting = reverse c.self.inside.settings.items in
     let entries : List (ℕ × Channel) = c.self.inside.channels.entries in
     let channel : Channel = record {
       session = c.args.session;
@@ -44,6 +40,7 @@ invariant_of-self c =
       lead = c.args.opened.lead;
       opening_class = c.args.opened.class;
       class = c.args.opened.class;
+      settings = c.new.result;
       standard_is_whole = c.requires.opening.whole;
     } in
     let put : c.put_channel.new.channels.entries ≡ entries ++ (c.args.opened.channel, channel) ∷ [] =
@@ -51,11 +48,11 @@ invariant_of-self c =
     let next : c.args.opened.channel ≡ c.self.inside.opened + 1 = c.requires.opening.next ∙ sym (ap (λ table. table.opened + 1) c.self.view_is) in
     let free : is_free (leads_of entries) c.args.opened.lead ≡ true =
     lowest-free entries c.args.opened.lead
-    (ap (lowest (length c.args.opened.lead)) (sym (leads-shown settings entries))
+    (ap (lowest (length c.args.opened.lead)) (sym (leads-shown entries))
     ∙ ap (λ table. lowest (length c.args.opened.lead) (map (λ channel. channel.lead) table.open_channels)) c.self.view_is ∙ c.requires.opening.lead_is) in
-    subst (λ es. AreKept c.args.opened.channel settings es c.hold.new.space.held × CountsChannels c.count_opening.new.counts.entries es) (sym put) (
-      subst (λ id. AreKept id settings (entries ++ (id, channel) ∷ []) c.hold.new.space.held) (sym next)
-          (joined-kept c.self.inside.opened settings entries c.self.inside.space.held c.hold.new.space.held channel refl free c.hold.ensures c.self.invariant.0),
+    subst (λ es. AreKept c.args.opened.channel es c.hold.new.space.held × CountsChannels c.count_opening.new.counts.entries es) (sym put) (
+      subst (λ id. AreKept id (entries ++ (id, channel) ∷ []) c.hold.new.space.held) (sym next)
+          (joined-kept c.self.inside.opened entries c.self.inside.space.held c.hold.new.space.held channel refl c.new.ensures free c.hold.ensures c.self.invariant.0),
       λ session.
           c.count_opening.ensures session ∙ ap (λ n. n + cond (eqb c.args.session session) 1 0) (c.self.invariant.1 session)
           ∙ sym (count-joined session entries (c.args.opened.channel, channel)),
@@ -63,7 +60,6 @@ invariant_of-self c =
 
 pub returns-clause-told : goal.returns-clause-told
 returns-clause-told c at moves told =
-    let settings : List Setting = reverse c.self.inside.settings.items in
     let entries : List (ℕ × Channel) = c.self.inside.channels.entries in
     let channel : Channel = record {
       session = c.args.session;
@@ -72,6 +68,7 @@ returns-clause-told c at moves told =
       lead = c.args.opened.lead;
       opening_class = c.args.opened.class;
       class = c.args.opened.class;
+      settings = c.new.result;
       standard_is_whole = c.requires.opening.whole;
     } in
     let put : c.put_channel.new.channels.entries ≡ entries ++ (c.args.opened.channel, channel) ∷ [] =
@@ -80,8 +77,8 @@ returns-clause-told c at moves told =
     record {
       opened_are = c.requires.opening.next ∙ ap (λ n. n + 1) told.opened_are;
       channels_are =
-          ap (shown_all settings) put ∙ ap (λ id. shown_all settings (entries ++ (id, channel) ∷ [])) next
-          ∙ shown-joined c.self.inside.opened settings entries channel c.self.invariant.0.settings_are
+          ap (shown_all) put ∙ ap (λ id. shown_all (entries ++ (id, channel) ∷ [])) next
+          ∙ shown-joined c.self.inside.opened entries channel c.new.ensures
           ∙ ap (λ table. table.open_channels ++ shown channel (table.opened + 1) ∷ []) c.self.view_is
           ∙ ap (λ l. l ++ shown channel (c.args.self.now.opened + 1) ∷ []) told.channels_are
           ∙ ap (λ n. channels_told moves ++ shown channel (n + 1) ∷ []) told.opened_are;
