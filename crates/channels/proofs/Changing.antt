@@ -13,10 +13,12 @@ use Rattle.pool_history.specs.declared.events.Kind.TheVariants.{Standard}
 use Rattle.pool_history.specs.Channels.{OpenChannel, account_or, channel_in, with_class, with_name}
 use Rattle.prefix_space.specs.HeldLeads.{is_held}
 use Rattle.channels.specs.ClassSettings.{ClassSettings}
+use Rattle.channels.specs.Orders.{by_id}
 use Rattle.channels.specs.declared.channel.Channel.{Channel}
 use Rattle.channels.specs.Tables.{AreKept, HasItsClass, named_channel, reclassed_channel, roomed_channel, rooms_of, shown_channel, with_changed}
 use Rattle.channels.proofs.Closings.{leads_of}
 use Rattle.channels.proofs.Lookups.{channel_in-shown, eqb-flip, shown_all}
+use Rattle.channels.proofs.Ordering.{lookup-mapped, mapped-by_id}
 
 -- where the id isn't there nothing changes
 pub absent-changed : (f : Channel → Channel) (id : ℕ) (entries : List (ℕ × Channel)) → AllByRecursion (λ k. eqb id k ≡ false) (keys_of entries)
@@ -119,13 +121,7 @@ lookup-changed f id (e ∷ entries) = by_test (eqb id e.0) refl (lookup-changed 
 
 -- there is as much room for a channel as its settings have
 pub room-kept : (id : ℕ) (entries : List (ℕ × Channel)) (c : Channel) → lookup (eqb id) entries ≡ Some c → lookup (eqb id) (rooms_of entries) ≡ Some c.settings.room
-room-kept id [] c found = absurd (none-some found)
-room-kept id (e ∷ entries) c found = by_test (eqb id e.0) found (λ later. room-kept id entries c later) where
-  by_test : (t : Bool) → cond t (Some e.1) (lookup (eqb id) entries) ≡ Some c
-      → (lookup (eqb id) entries ≡ Some c → lookup (eqb id) (rooms_of entries) ≡ Some c.settings.room)
-      → cond t (Some e.1.settings.room) (lookup (eqb id) (rooms_of entries)) ≡ Some c.settings.room
-  by_test true found rest = ap (λ k. Some k.settings.room) (some-same found)
-  by_test false found rest = rest found
+room-kept id entries c found = lookup-mapped (λ k. k.settings.room) id entries ∙ ap (option_map (λ k. k.settings.room)) found
 
 -- so there is, where room is made for an open channel
 pub room-made : (room id : ℕ) (entries : List (ℕ × Channel)) → is_some (channel_in (shown_all entries) id) ≡ true
@@ -147,8 +143,10 @@ changed-kept f opened id entries held leads classes kept =
       ids = all-changed (λ e. e.0 ≤ opened) (λ e. e.0 ≤ opened) f id entries (λ e is below. below) (λ e is below. below) kept.ids;
       classes =
           all-changed (λ e. HasItsClass e.1) (λ e. HasItsClass e.1) f id entries (λ e is has. classes e.1 has) (λ e is has. has) kept.classes;
-      leads = λ lead. kept.leads lead ∙ ap (λ l. is_held l lead) (sym same);
-      apart = subst AreLeadsApart (sym same) kept.apart;
+      holds = record {
+        leads = λ lead. kept.holds.leads lead ∙ ap (λ l. is_held l lead) (sym same);
+        apart = subst AreLeadsApart (sym same) kept.holds.apart;
+      };
     }
 
 pub named-class : (account : List ℕ) (c : Channel) → HasItsClass c → HasItsClass (named_channel account c)
@@ -200,3 +198,10 @@ settings-written f class id c given told whole entries apart found same is =
     ap (λ s. set_value (eqb id) entries (record c { class = class; settings = s; standard_is_whole = whole })) same
     ∙ ap (λ w. set_value (eqb id) entries w) (sym (is ∙ same-facts (record c { class = class; settings = told }) whole))
     ∙ found-changed f id c entries apart found
+
+-- the entries in the order of their ids are changed as they are kept
+pub changed-by_id : (f : Channel → Channel) (id : ℕ) (entries : List (ℕ × Channel)) → by_id (with_changed f id entries) ≡ with_changed f id (by_id entries)
+changed-by_id f id entries = mapped-by_id (λ e. cond (eqb id e.0) (e.0, f e.1) e) (λ e. keys e (eqb id e.0)) entries where
+  keys : (e : ℕ × Channel) (t : Bool) → (cond t (e.0, f e.1) e).0 ≡ e.0
+  keys e true = refl
+  keys e false = refl

@@ -18,7 +18,7 @@ use Rattle.history_laws.proofs.Legalities.{some-none}
 use Rattle.history_laws.proofs.Holding.{bytes_eq-self, overlap-comm}
 use Rattle.prefix_space.proofs.Orders.{apart-differ, none-same}
 use Rattle.channels.specs.declared.channel.Channel.{Channel}
-use Rattle.channels.specs.Tables.{AreKept, HasItsClass, channel_if_own, kept_channel, kept_of, lead_if_own, shown_channel}
+use Rattle.channels.specs.Tables.{AreKept, HasItsClass, HoldsLeads, channel_if_own, kept_channel, kept_of, lead_if_own, shown_channel}
 use Rattle.channels.proofs.Lookups.{eqb-flip, kept-shown, shown_all}
 
 -- the leads of the channels that are kept
@@ -226,15 +226,19 @@ own-kept session id (e ∷ entries) all = by_test (eqb id e.0) refl (own-kept se
   by_test true is rest = by_session (subst (λ n. HasItsClass e.1) (sym (eqb-true id e.0 is)) all.0) (eqb e.1.session session)
   by_test false is rest = rest
 
+-- the leads that are held when a channel is closed
+pub closed-holds : (id : ℕ) (c : Channel) (entries : List (ℕ × Channel)) (held given : List (List ℕ)) → HoldsLeads held entries → lookup (eqb id) entries ≡ Some c
+    → IsPermutation held (c.lead ∷ given) → is_held given c.lead ≡ false → HoldsLeads given (remove_entry (eqb id) entries)
+closed-holds id c entries held given holds found perm gone = record {
+  leads = given-leads id c entries held given holds.leads holds.apart found perm gone;
+  apart = apart-without id entries holds.apart;
+}
+
 -- the tables fit each other when a channel is closed
-pub closed-kept : (opened : ℕ) (entries : List (ℕ × Channel)) (held given : List (List ℕ)) (session id : ℕ) (lead : List ℕ)
-    → AreKept opened entries held → IsOwn session id (lookup (eqb id) entries) lead → IsPermutation held (lead ∷ given)
-    → is_held given lead ≡ false → AreKept opened (remove_entry (eqb id) entries) given
-closed-kept opened entries held given session id lead kept own perm gone = record {
+pub closed-kept : (opened : ℕ) (entries : List (ℕ × Channel)) (held given : List (List ℕ)) (id : ℕ) → AreKept opened entries held
+    → HoldsLeads given (remove_entry (eqb id) entries) → AreKept opened (remove_entry (eqb id) entries) given
+closed-kept opened entries held given id kept holds = record {
   ids = all-without (λ e. e.0 ≤ opened) id entries kept.ids;
   classes = all-without (λ e. HasItsClass e.1) id entries kept.classes;
-  leads =
-      given-leads id own.channel entries held given kept.leads kept.apart own.is (subst (λ l. IsPermutation held (l ∷ given)) (sym own.lead_is) perm)
-      (subst (λ l. is_held given l ≡ false) (sym own.lead_is) gone);
-  apart = apart-without id entries kept.apart;
+  holds = holds;
 }

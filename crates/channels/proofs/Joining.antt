@@ -1,13 +1,11 @@
 -- A channel joins the tables.
-use Rattle.std.proofs.Common.{◌≡◌, ℕ, ◌+◌, ◌≤◌, ◌^◌, Bool, true, false, cond, ◌||◌, not, Option, None, Some, List, zero, suc, [], ◌∷◌, ◌++◌, arith, length, map, refl, ap, subst, sym, ◌∙◌}
-use Rattle.std.proofs.Math.Dec.{eqb}
-use Rattle.std.proofs.lemmas.Bool.{false≢true, ne_eqb}
+use Rattle.std.proofs.Common.{◌≡◌, ℕ, ◌+◌, ◌≤◌, ◌^◌, Bool, true, false, ◌||◌, not, Option, Some, List, zero, suc, [], ◌∷◌, ◌++◌, arith, length, map, refl, ap, subst, sym, ◌∙◌}
+use Rattle.std.proofs.lemmas.Bool.{false≢true}
 use Rattle.std.proofs.lemmas.List.Folds.{list_any-append}
 use Rattle.std.proofs.lemmas.List.Sorted.{list_any-IsPermutation}
 use Rattle.std.proofs.lemmas.Slice.Eq.{bytes_eq-Decides}
 use Rattle.std.specs.Prelude.{IsPermutation}
 use Rattle.std.specs.List.{AllByRecursion, list_any}
-use Rattle.std.specs.Map.{lookup}
 use Rattle.std.specs.Str.{bytes_eq}
 use Rattle.history_laws.specs.Openings.{AreLeadsApart}
 use Rattle.history_laws.proofs.Holding.{bytes_eq-self, first_free-free, or-comm, overlap-comm}
@@ -89,14 +87,6 @@ pub leads-shown : (entries : List (ℕ × Channel)) → map (λ c. c.lead) (show
 leads-shown [] = refl
 leads-shown (e ∷ entries) = ap (λ l. e.1.lead ∷ l) (leads-shown entries)
 
--- an id that wasn't given yet has no channel
-pub later-absent : (opened : ℕ) (entries : List (ℕ × Channel)) → AllByRecursion (λ e. e.0 ≤ opened) entries → lookup (eqb (opened + 1)) entries ≡ None
-later-absent opened [] all = refl
-later-absent opened (e ∷ entries) all =
-    ap (λ t. cond t (Some e.1) (lookup (eqb (opened + 1)) entries)) (ne_eqb (opened + 1) e.0 (λ same. differ same)) ∙ later-absent opened entries all.1 where
-      differ : opened + 1 ≡ e.0 → ⊥
-      differ same = let below : e.0 ≤ opened = all.0 in omega (arith, below, same)
-
 -- what is shown of one entry more
 pub shown-joined : (opened : ℕ) (entries : List (ℕ × Channel)) (c : Channel) → c.settings.sets ≡ []
     → shown_all (entries ++ (opened + 1, c) ∷ [])
@@ -150,15 +140,17 @@ joined-kept opened entries held taken c class none free perm kept = record {
   classes =
       all-joined (λ e. HasItsClass e.1) (λ e. HasItsClass e.1) entries (opened + 1, c) (λ e has. has) kept.classes
       (record { class_is = class ∙ sym (ap (λ sets. last_class sets c.opening_class) none) });
-  leads = λ lead.
-      sym (list_any-IsPermutation (λ other. bytes_eq other lead) (c.lead ∷ held) taken perm)
-      ∙ ap (λ b. bytes_eq c.lead lead || b) (kept.leads lead)
-      ∙ or-comm (bytes_eq c.lead lead) (is_held (leads_of entries) lead)
-      ∙ ap (λ b. is_held (leads_of entries) lead || b) (sym (or-false (bytes_eq c.lead lead)))
-      ∙ sym (ap (λ l. is_held l lead) (leads-joined entries (opened + 1, c)) ∙ list_any-append (λ other. bytes_eq other lead) (leads_of entries) (c.lead ∷ []));
-  apart =
-      subst AreLeadsApart (sym (leads-joined entries (opened + 1, c)))
-      (apart-joined (leads_of entries) c.lead (free-none (leads_of entries) c.lead free) kept.apart);
+  holds = record {
+    leads = λ lead.
+        sym (list_any-IsPermutation (λ other. bytes_eq other lead) (c.lead ∷ held) taken perm)
+        ∙ ap (λ b. bytes_eq c.lead lead || b) (kept.holds.leads lead)
+        ∙ or-comm (bytes_eq c.lead lead) (is_held (leads_of entries) lead)
+        ∙ ap (λ b. is_held (leads_of entries) lead || b) (sym (or-false (bytes_eq c.lead lead)))
+        ∙ sym (ap (λ l. is_held l lead) (leads-joined entries (opened + 1, c)) ∙ list_any-append (λ other. bytes_eq other lead) (leads_of entries) (c.lead ∷ []));
+    apart =
+        subst AreLeadsApart (sym (leads-joined entries (opened + 1, c)))
+        (apart-joined (leads_of entries) c.lead (free-none (leads_of entries) c.lead free) kept.holds.apart);
+  };
 } where
   or-false : (b : Bool) → (b || false) ≡ b
   or-false true = refl

@@ -48,6 +48,7 @@ pub record IsNextOpening (table : ChannelTable) (session : ℕ) (kind : Kind) (o
 pub record MayOpenNext (table : ChannelTable) (session : ℕ) (kind : Kind) (opened : Opened)
     : Type 0 where
   pub room : 1 ≤ table.opening_room
+  pub listed : 1 ≤ count_kept (lookup (nat_eq session) table.session_rooms)
   pub opening : IsNextOpening table session kind opened
 
 -- a table may set a class: there is room, and the channel is open

@@ -4,8 +4,8 @@
 mod accounts;
 mod changes;
 mod channel;
-mod counts;
 mod laws;
+mod listing;
 mod openings;
 mod plan;
 mod settings;

@@ -9,13 +9,14 @@ use Rattle.pool_history.specs.Refusing.{nameable}
 use Rattle.channels.specs.declared.channel.Channel.{Channel}
 use Rattle.channels.specs.declared.plan.ChannelPlan.TheVariants as plan
 use Rattle.channels.specs.Plans.{IsUnless, naming_refusal, plan_for}
+use Rattle.channels.specs.Orders.{by_id}
 use Rattle.channels.proofs.Lookups.{shown_all}
 use Rattle.channels.proofs.Planning.{name-found, name-refused, planned, refused}
 use Rattle.channels.proofs.table.Channels.plan_name.Goals as goal
 
 pub returns-in-Some-clause-answer : goal.returns-in-Some-clause-answer
 returns-in-Some-clause-answer c =
-    let entries : List (ℕ × Channel) = c.self.inside.channels.entries in
+    let entries : List (ℕ × Channel) = by_id c.self.inside.channels.entries in
     let account : List ℕ = account_of c.args.identity.now in
     refused name.Memory c.in-Some.refusal (plan.Name c.args.channel account)
     (nameable c.args.rules.now account (channel_in (channels_in c.args.self.now.open_channels c.args.session) c.args.channel))
@@ -26,7 +27,7 @@ returns-in-Some-clause-answer c =
 
 pub returns-clause-answer : goal.returns-clause-answer
 returns-clause-answer c =
-    let entries : List (ℕ × Channel) = c.self.inside.channels.entries in
+    let entries : List (ℕ × Channel) = by_id c.self.inside.channels.entries in
     let account : List ℕ = account_of c.args.identity.now in
     let own : (channel : OpenChannel) × (nameable c.args.rules.now account (channel_in (channels_in (shown_all entries) c.args.session) c.args.channel) ≡ Ok channel) =
     name-found c.args.rules.now account c.args.session c.args.channel entries c.name_refusal.ensures.unique
