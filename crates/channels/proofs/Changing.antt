@@ -10,13 +10,15 @@ use Rattle.history_laws.proofs.Entrances.{none-some, some-same}
 use Rattle.history_laws.proofs.Legalities.{some-none}
 use Rattle.history_laws.specs.Openings.{AreLeadsApart}
 use Rattle.pool_history.specs.declared.events.Kind.TheVariants.{Standard}
-use Rattle.pool_history.specs.Channels.{ClassSet, OpenChannel, account_or, channel_in, last_class, with_class, with_name}
+use Rattle.pool_history.specs.Channels.{OpenChannel, account_or, channel_in, with_class, with_name}
 use Rattle.prefix_space.specs.HeldLeads.{is_held}
+use Rattle.channels.specs.ClassSettings.{ClassSettings}
+use Rattle.channels.specs.Orders.{by_id}
 use Rattle.channels.specs.declared.channel.Channel.{Channel}
-use Rattle.channels.specs.declared.channel.Setting.{Setting}
-use Rattle.channels.specs.Tables.{AreKept, HasItsClass, named_channel, reclassed_channel, sets_of, shown_channel, with_changed}
+use Rattle.channels.specs.Tables.{AreKept, HasItsClass, named_channel, reclassed_channel, roomed_channel, rooms_of, shown_channel, with_changed}
 use Rattle.channels.proofs.Closings.{leads_of}
 use Rattle.channels.proofs.Lookups.{channel_in-shown, eqb-flip, shown_all}
+use Rattle.channels.proofs.Ordering.{lookup-mapped, mapped-by_id}
 
 -- where the id isn't there nothing changes
 pub absent-changed : (f : Channel → Channel) (id : ℕ) (entries : List (ℕ × Channel)) → AllByRecursion (λ k. eqb id k ≡ false) (keys_of entries)
@@ -66,95 +68,95 @@ leads-changed f id same (e ∷ entries) = by_test (eqb id e.0) ∙ ap (λ l. e.1
   by_test false = refl
 
 -- an account is given to what is shown
-pub shown-named : (settings : List Setting) (id : ℕ) (account : List ℕ) (entries : List (ℕ × Channel))
-    → shown_all settings (with_changed (named_channel account) id entries) ≡ map (with_name id account) (shown_all settings entries)
-shown-named settings id account [] = refl
-shown-named settings id account (e ∷ entries) =
-    ap (λ c. c ∷ shown_all settings (with_changed (named_channel account) id entries)) (by_test (eqb id e.0) ∙ ap named (eqb-flip id e.0))
-    ∙ ap (λ l. with_name id account (shown_channel settings e.0 e.1) ∷ l) (shown-named settings id account entries) where
+pub shown-named : (id : ℕ) (account : List ℕ) (entries : List (ℕ × Channel))
+    → shown_all (with_changed (named_channel account) id entries) ≡ map (with_name id account) (shown_all entries)
+shown-named id account [] = refl
+shown-named id account (e ∷ entries) =
+    ap (λ c. c ∷ shown_all (with_changed (named_channel account) id entries)) (by_test (eqb id e.0) ∙ ap named (eqb-flip id e.0))
+    ∙ ap (λ l. with_name id account (shown_channel e.0 e.1) ∷ l) (shown-named id account entries) where
       named : Bool → OpenChannel
       named t =
-          cond t (record (shown_channel settings e.0 e.1) { account = account_or e.1.account account }) (shown_channel settings e.0 e.1)
+          cond t (record (shown_channel e.0 e.1) { account = account_or e.1.account account }) (shown_channel e.0 e.1)
 
-      by_test : (t : Bool) → shown_channel settings (cond t (e.0, named_channel account e.1) e).0 (cond t (e.0, named_channel account e.1) e).1 ≡ named t
+      by_test : (t : Bool) → shown_channel (cond t (e.0, named_channel account e.1) e).0 (cond t (e.0, named_channel account e.1) e).1 ≡ named t
       by_test true = refl
       by_test false = refl
 
 -- a class is set for what is shown
-pub shown-set : (settings : List Setting) (at id class : ℕ) (entries : List (ℕ × Channel))
-    → shown_all (record { channel = id; at = at; class = class } ∷ settings) (with_changed (reclassed_channel class) id entries)
-    ≡ map (with_class at id class) (shown_all settings entries)
-shown-set settings at id class [] = refl
-shown-set settings at id class (e ∷ entries) =
-    ap (λ c. c ∷ shown_all longer (with_changed (reclassed_channel class) id entries)) (by_test (eqb id e.0) refl ∙ ap set (eqb-flip id e.0))
-    ∙ ap (λ l. with_class at id class (shown_channel settings e.0 e.1) ∷ l) (shown-set settings at id class entries) where
-      longer : List Setting
-      longer = record { channel = id; at = at; class = class } ∷ settings
-
-      with_sets : List ClassSet → OpenChannel
-      with_sets sets = record (shown_channel settings e.0 e.1) { sets = sets }
-
+pub shown-set : (at id class : ℕ) (entries : List (ℕ × Channel))
+    → shown_all (with_changed (reclassed_channel at class) id entries) ≡ map (with_class at id class) (shown_all entries)
+shown-set at id class [] = refl
+shown-set at id class (e ∷ entries) =
+    ap (λ c. c ∷ shown_all (with_changed (reclassed_channel at class) id entries)) (by_test (eqb id e.0) ∙ ap set (eqb-flip id e.0))
+    ∙ ap (λ l. with_class at id class (shown_channel e.0 e.1) ∷ l) (shown-set at id class entries) where
       set : Bool → OpenChannel
       set t =
-          cond t (with_sets (record { at = at; class = class } ∷ sets_of e.0 settings)) (shown_channel settings e.0 e.1)
+          cond t (record (shown_channel e.0 e.1) { sets = record { at = at; class = class } ∷ e.1.settings.sets }) (shown_channel e.0 e.1)
 
-      among : Bool → List ClassSet
-      among t = cond t (record { at = at; class = class } ∷ sets_of e.0 settings) (sets_of e.0 settings)
+      by_test : (t : Bool) → shown_channel (cond t (e.0, reclassed_channel at class e.1) e).0 (cond t (e.0, reclassed_channel at class e.1) e).1 ≡ set t
+      by_test true = refl
+      by_test false = refl
 
-      by_test : (t : Bool) → eqb id e.0 ≡ t
-          → shown_channel longer (cond t (e.0, reclassed_channel class e.1) e).0 (cond t (e.0, reclassed_channel class e.1) e).1 ≡ set t
-      by_test true is = ap (λ b. with_sets (among b)) is
-      by_test false is = ap (λ b. with_sets (among b)) is
+-- room isn't shown
+pub shown-roomed : (room id : ℕ) (entries : List (ℕ × Channel)) → shown_all (with_changed (roomed_channel room) id entries) ≡ shown_all entries
+shown-roomed room id [] = refl
+shown-roomed room id (e ∷ entries) =
+    ap (λ c. c ∷ shown_all (with_changed (roomed_channel room) id entries)) (by_test (eqb id e.0)) ∙ ap (λ l. shown_channel e.0 e.1 ∷ l) (shown-roomed room id entries) where
+      by_test : (t : Bool) → shown_channel (cond t (e.0, roomed_channel room e.1) e).0 (cond t (e.0, roomed_channel room e.1) e).1 ≡ shown_channel e.0 e.1
+      by_test true = refl
+      by_test false = refl
+
+-- what is found afterwards
+pub lookup-changed : (f : Channel → Channel) (id : ℕ) (entries : List (ℕ × Channel)) → lookup (eqb id) (with_changed f id entries) ≡ option_map f (lookup (eqb id) entries)
+lookup-changed f id [] = refl
+lookup-changed f id (e ∷ entries) = by_test (eqb id e.0) refl (lookup-changed f id entries) where
+  changed : Bool → ℕ × Channel
+  changed t = cond t (e.0, f e.1) e
+
+  by_test : (t : Bool) → eqb id e.0 ≡ t → lookup (eqb id) (with_changed f id entries) ≡ option_map f (lookup (eqb id) entries)
+      → cond (eqb id (changed t).0) (Some (changed t).1) (lookup (eqb id) (with_changed f id entries))
+      ≡ option_map f (cond t (Some e.1) (lookup (eqb id) entries))
+  by_test true is rest = ap (λ b. cond b (Some (f e.1)) (lookup (eqb id) (with_changed f id entries))) is
+  by_test false is rest = ap (λ b. cond b (Some e.1) (lookup (eqb id) (with_changed f id entries))) is ∙ rest
+
+-- there is as much room for a channel as its settings have
+pub room-kept : (id : ℕ) (entries : List (ℕ × Channel)) (c : Channel) → lookup (eqb id) entries ≡ Some c → lookup (eqb id) (rooms_of entries) ≡ Some c.settings.room
+room-kept id entries c found = lookup-mapped (λ k. k.settings.room) id entries ∙ ap (option_map (λ k. k.settings.room)) found
+
+-- so there is, where room is made for an open channel
+pub room-made : (room id : ℕ) (entries : List (ℕ × Channel)) → is_some (channel_in (shown_all entries) id) ≡ true
+    → lookup (eqb id) (rooms_of (with_changed (roomed_channel room) id entries)) ≡ Some room
+room-made room id entries there = by_option (lookup (eqb id) entries) refl (sym (ap is_some (channel_in-shown entries id)) ∙ there) where
+  by_option : (o : Option Channel) → lookup (eqb id) entries ≡ o → is_some (option_map (shown_channel id) o) ≡ true
+      → lookup (eqb id) (rooms_of (with_changed (roomed_channel room) id entries)) ≡ Some room
+  by_option None is there = absurd (false≢true there)
+  by_option (Some c) is there =
+      room-kept id (with_changed (roomed_channel room) id entries) (roomed_channel room c)
+      (lookup-changed (roomed_channel room) id entries ∙ ap (option_map (roomed_channel room)) is)
 
 -- the tables fit each other afterwards
-pub named-kept : (opened : ℕ) (settings : List Setting) (entries : List (ℕ × Channel)) (held : List (List ℕ)) (id : ℕ) (account : List ℕ)
-    → AreKept opened settings entries held → AreKept opened settings (with_changed (named_channel account) id entries) held
-named-kept opened settings entries held id account kept =
-    let same : leads_of (with_changed (named_channel account) id entries) ≡ leads_of entries = leads-changed (named_channel account) id (λ c. refl) entries in
+pub changed-kept : (f : Channel → Channel) (opened id : ℕ) (entries : List (ℕ × Channel)) (held : List (List ℕ)) → ((c : Channel) → (f c).lead ≡ c.lead)
+    → ((c : Channel) → HasItsClass c → HasItsClass (f c)) → AreKept opened entries held → AreKept opened (with_changed f id entries) held
+changed-kept f opened id entries held leads classes kept =
+    let same : leads_of (with_changed f id entries) ≡ leads_of entries = leads-changed f id leads entries in
     record {
-      ids =
-          all-changed (λ e. e.0 ≤ opened) (λ e. e.0 ≤ opened) (named_channel account) id entries (λ e is below. below) (λ e is below. below) kept.ids;
-      settings_are = kept.settings_are;
+      ids = all-changed (λ e. e.0 ≤ opened) (λ e. e.0 ≤ opened) f id entries (λ e is below. below) (λ e is below. below) kept.ids;
       classes =
-          all-changed (λ e. HasItsClass settings e.0 e.1) (λ e. HasItsClass settings e.0 e.1) (named_channel account) id entries
-          (λ e is has. record { class_is = has.class_is }) (λ e is has. has) kept.classes;
-      leads = λ lead. kept.leads lead ∙ ap (λ l. is_held l lead) (sym same);
-      apart = subst AreLeadsApart (sym same) kept.apart;
+          all-changed (λ e. HasItsClass e.1) (λ e. HasItsClass e.1) f id entries (λ e is has. classes e.1 has) (λ e is has. has) kept.classes;
+      holds = record {
+        leads = λ lead. kept.holds.leads lead ∙ ap (λ l. is_held l lead) (sym same);
+        apart = subst AreLeadsApart (sym same) kept.holds.apart;
+      };
     }
 
-pub set-kept : (opened : ℕ) (settings : List Setting) (entries : List (ℕ × Channel)) (held : List (List ℕ)) (at id class : ℕ) → id ≤ opened
-    → AreKept opened settings entries held
-    → AreKept opened (record { channel = id; at = at; class = class } ∷ settings) (with_changed (reclassed_channel class) id entries) held
-set-kept opened settings entries held at id class below kept =
-    let same : leads_of (with_changed (reclassed_channel class) id entries) ≡ leads_of entries = leads-changed (reclassed_channel class) id (λ c. refl) entries in
-    record {
-      ids =
-          all-changed (λ e. e.0 ≤ opened) (λ e. e.0 ≤ opened) (reclassed_channel class) id entries (λ e is below. below) (λ e is below. below) kept.ids;
-      settings_are = (below, kept.settings_are);
-      classes =
-          all-changed (λ e. HasItsClass settings e.0 e.1) (λ e. HasItsClass (record { channel = id; at = at; class = class } ∷ settings) e.0 e.1)
-          (reclassed_channel class) id entries here there kept.classes;
-      leads = λ lead. kept.leads lead ∙ ap (λ l. is_held l lead) (sym same);
-      apart = subst AreLeadsApart (sym same) kept.apart;
-    } where
-      last : (e : ℕ × Channel) → Bool → ℕ
-      last e t = last_class (cond t (record { at = at; class = class } ∷ sets_of e.0 settings) (sets_of e.0 settings)) e.1.opening_class
+pub named-class : (account : List ℕ) (c : Channel) → HasItsClass c → HasItsClass (named_channel account c)
+named-class account c has = record { class_is = has.class_is }
 
-      here : (e : ℕ × Channel) → eqb id e.0 ≡ true → HasItsClass settings e.0 e.1
-          → HasItsClass (record { channel = id; at = at; class = class } ∷ settings) e.0 (reclassed_channel class e.1)
-      here e is has = record { class_is = sym (ap (last e) is) }
+pub set-class : (at class : ℕ) (c : Channel) → HasItsClass c → HasItsClass (reclassed_channel at class c)
+set-class at class c has = record { class_is = refl }
 
-      there : (e : ℕ × Channel) → eqb id e.0 ≡ false → HasItsClass settings e.0 e.1
-          → HasItsClass (record { channel = id; at = at; class = class } ∷ settings) e.0 e.1
-      there e is has = record { class_is = has.class_is ∙ sym (ap (last e) is) }
-
--- what was found was opened
-pub found-below : (opened id : ℕ) (c : Channel) (entries : List (ℕ × Channel)) → AllByRecursion (λ e. e.0 ≤ opened) entries → lookup (eqb id) entries ≡ Some c → id ≤ opened
-found-below opened id c [] all found = absurd (none-some found)
-found-below opened id c (e ∷ entries) all found = by_test (eqb id e.0) refl found (found-below opened id c entries all.1) where
-  by_test : (t : Bool) → eqb id e.0 ≡ t → cond t (Some e.1) (lookup (eqb id) entries) ≡ Some c → (lookup (eqb id) entries ≡ Some c → id ≤ opened) → id ≤ opened
-  by_test true is found rest = subst (λ n. n ≤ opened) (sym (eqb-true id e.0 is)) all.0
-  by_test false is found rest = rest found
+pub roomed-class : (room : ℕ) (c : Channel) → HasItsClass c → HasItsClass (roomed_channel room c)
+roomed-class room c has = record { class_is = has.class_is }
 
 -- whatever proves the fact that a channel's type carries
 pub same-facts : (c : Channel) (whole : c.kind ≡ Standard → length c.lead ≡ 4) → c ≡ record c { standard_is_whole = whole }
@@ -187,18 +189,19 @@ pub later-written : (account : List ℕ) (id : ℕ) (c : Channel) (entries : Lis
 later-written account id c entries apart found some =
     ap (λ w. set_value (eqb id) entries w) (sym (later-named account c some)) ∙ found-changed (named_channel account) id c entries apart found
 
--- another class is written
-pub class-written : (class id : ℕ) (c : Channel) (whole : c.kind ≡ Standard → length c.lead ≡ 4) (entries : List (ℕ × Channel)) → IsDistinct eqb (keys_of entries)
-    → lookup (eqb id) entries ≡ Some c
-    → set_value (eqb id) entries (record c { class = class; standard_is_whole = whole }) ≡ with_changed (reclassed_channel class) id entries
-class-written class id c whole entries apart found =
-    ap (λ w. set_value (eqb id) entries w) (sym (same-facts (reclassed_channel class c) whole)) ∙ found-changed (reclassed_channel class) id c entries apart found
+-- another class is written, and other settings
+pub settings-written : (f : Channel → Channel) (class id : ℕ) (c : Channel) (given told : ClassSettings) (whole : c.kind ≡ Standard → length c.lead ≡ 4)
+    (entries : List (ℕ × Channel)) → IsDistinct eqb (keys_of entries) → lookup (eqb id) entries ≡ Some c → given ≡ told
+    → f c ≡ record c { class = class; settings = told }
+    → set_value (eqb id) entries (record c { class = class; settings = given; standard_is_whole = whole }) ≡ with_changed f id entries
+settings-written f class id c given told whole entries apart found same is =
+    ap (λ s. set_value (eqb id) entries (record c { class = class; settings = s; standard_is_whole = whole })) same
+    ∙ ap (λ w. set_value (eqb id) entries w) (sym (is ∙ same-facts (record c { class = class; settings = told }) whole))
+    ∙ found-changed f id c entries apart found
 
--- an open channel was opened
-pub open-below : (opened id : ℕ) (settings : List Setting) (entries : List (ℕ × Channel)) → AllByRecursion (λ e. e.0 ≤ opened) entries
-    → is_some (channel_in (shown_all settings entries) id) ≡ true → id ≤ opened
-open-below opened id settings entries all there =
-    by_option (lookup (eqb id) entries) refl (sym (ap is_some (channel_in-shown settings entries id)) ∙ there) where
-      by_option : (o : Option Channel) → lookup (eqb id) entries ≡ o → is_some (option_map (shown_channel settings id) o) ≡ true → id ≤ opened
-      by_option None is there = absurd (false≢true there)
-      by_option (Some c) is there = found-below opened id c entries all is
+-- the entries in the order of their ids are changed as they are kept
+pub changed-by_id : (f : Channel → Channel) (id : ℕ) (entries : List (ℕ × Channel)) → by_id (with_changed f id entries) ≡ with_changed f id (by_id entries)
+changed-by_id f id entries = mapped-by_id (λ e. cond (eqb id e.0) (e.0, f e.1) e) (λ e. keys e (eqb id e.0)) entries where
+  keys : (e : ℕ × Channel) (t : Bool) → (cond t (e.0, f e.1) e).0 ≡ e.0
+  keys e true = refl
+  keys e false = refl

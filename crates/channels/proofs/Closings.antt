@@ -18,8 +18,7 @@ use Rattle.history_laws.proofs.Legalities.{some-none}
 use Rattle.history_laws.proofs.Holding.{bytes_eq-self, overlap-comm}
 use Rattle.prefix_space.proofs.Orders.{apart-differ, none-same}
 use Rattle.channels.specs.declared.channel.Channel.{Channel}
-use Rattle.channels.specs.declared.channel.Setting.{Setting}
-use Rattle.channels.specs.Tables.{AreKept, HasItsClass, channel_if_own, kept_channel, kept_of, lead_if_own, shown_channel}
+use Rattle.channels.specs.Tables.{AreKept, HasItsClass, HoldsLeads, channel_if_own, kept_channel, kept_of, lead_if_own, shown_channel}
 use Rattle.channels.proofs.Lookups.{eqb-flip, kept-shown, shown_all}
 
 -- the leads of the channels that are kept
@@ -34,29 +33,29 @@ all-without P id (e ∷ entries) all = by_test (eqb id e.0) (all-without P id en
   by_test false rest = (all.0, rest)
 
 -- where ids are distinct, the others stay
-pub others-stay : (settings : List Setting) (id : ℕ) (entries : List (ℕ × Channel)) → AllByRecursion (λ k. eqb id k ≡ false) (keys_of entries)
-    → filter (λ c. not (eqb c.id id)) (shown_all settings entries) ≡ shown_all settings entries
-others-stay settings id [] all = refl
-others-stay settings id (e ∷ entries) all =
-    ap (λ t. cond (not t) (shown_channel settings e.0 e.1 ∷ filter (λ c. not (eqb c.id id)) (shown_all settings entries))
-    (filter (λ c. not (eqb c.id id)) (shown_all settings entries))) (eqb-flip e.0 id ∙ all.0)
-    ∙ ap (λ l. shown_channel settings e.0 e.1 ∷ l) (others-stay settings id entries all.1)
+pub others-stay : (id : ℕ) (entries : List (ℕ × Channel)) → AllByRecursion (λ k. eqb id k ≡ false) (keys_of entries)
+    → filter (λ c. not (eqb c.id id)) (shown_all entries) ≡ shown_all entries
+others-stay id [] all = refl
+others-stay id (e ∷ entries) all =
+    ap (λ t. cond (not t) (shown_channel e.0 e.1 ∷ filter (λ c. not (eqb c.id id)) (shown_all entries))
+    (filter (λ c. not (eqb c.id id)) (shown_all entries))) (eqb-flip e.0 id ∙ all.0)
+    ∙ ap (λ l. shown_channel e.0 e.1 ∷ l) (others-stay id entries all.1)
 
-pub remove-shown : (settings : List Setting) (id : ℕ) (entries : List (ℕ × Channel)) → IsDistinct eqb (keys_of entries)
-    → shown_all settings (remove_entry (eqb id) entries) ≡ filter (λ c. not (eqb c.id id)) (shown_all settings entries)
+pub remove-shown : (id : ℕ) (entries : List (ℕ × Channel)) → IsDistinct eqb (keys_of entries)
+    → shown_all (remove_entry (eqb id) entries) ≡ filter (λ c. not (eqb c.id id)) (shown_all entries)
 unfolding IsDistinct
-remove-shown settings id [] apart = refl
-remove-shown settings id (e ∷ entries) apart =
-    by_test (eqb id e.0) refl (remove-shown settings id entries apart.1)
-    ∙ ap (λ t. cond (not t) (shown_channel settings e.0 e.1 ∷ filter (λ c. not (eqb c.id id)) (shown_all settings entries))
-    (filter (λ c. not (eqb c.id id)) (shown_all settings entries))) (eqb-flip id e.0) where
-      by_test : (t : Bool) → eqb id e.0 ≡ t → shown_all settings (remove_entry (eqb id) entries) ≡ filter (λ c. not (eqb c.id id)) (shown_all settings entries)
-          → shown_all settings (cond t entries (e ∷ remove_entry (eqb id) entries))
-          ≡ cond (not t) (shown_channel settings e.0 e.1 ∷ filter (λ c. not (eqb c.id id)) (shown_all settings entries))
-          (filter (λ c. not (eqb c.id id)) (shown_all settings entries))
+remove-shown id [] apart = refl
+remove-shown id (e ∷ entries) apart =
+    by_test (eqb id e.0) refl (remove-shown id entries apart.1)
+    ∙ ap (λ t. cond (not t) (shown_channel e.0 e.1 ∷ filter (λ c. not (eqb c.id id)) (shown_all entries))
+    (filter (λ c. not (eqb c.id id)) (shown_all entries))) (eqb-flip id e.0) where
+      by_test : (t : Bool) → eqb id e.0 ≡ t → shown_all (remove_entry (eqb id) entries) ≡ filter (λ c. not (eqb c.id id)) (shown_all entries)
+          → shown_all (cond t entries (e ∷ remove_entry (eqb id) entries))
+          ≡ cond (not t) (shown_channel e.0 e.1 ∷ filter (λ c. not (eqb c.id id)) (shown_all entries))
+          (filter (λ c. not (eqb c.id id)) (shown_all entries))
       by_test true is rest =
-          sym (others-stay settings id entries (subst (λ n. AllByRecursion (λ k. eqb n k ≡ false) (keys_of entries)) (sym (eqb-true id e.0 is)) apart.0))
-      by_test false is rest = ap (λ l. shown_channel settings e.0 e.1 ∷ l) rest
+          sym (others-stay id entries (subst (λ n. AllByRecursion (λ k. eqb n k ≡ false) (keys_of entries)) (sym (eqb-true id e.0 is)) apart.0))
+      by_test false is rest = ap (λ l. shown_channel e.0 e.1 ∷ l) rest
 
 -- the leads are those of the others, and that of the closed channel
 pub lead-removed : (id : ℕ) (c : Channel) (entries : List (ℕ × Channel)) (lead : List ℕ) → lookup (eqb id) entries ≡ Some c
@@ -135,108 +134,111 @@ given-leads id c entries held given same apart found perm gone lead = by_test (b
   by_test false is = sym (ap (λ b. b || is_held given lead) is) ∙ all ∙ ap (λ b. b || is_held (leads_of (remove_entry (eqb id) entries)) lead) is
 
 -- the open channel of a session
-abbrev pub own_in : List Setting → ℕ → ℕ → Option Channel → Option OpenChannel
-own_in settings session id None = None
-own_in settings session id (Some c) = cond (eqb c.session session) (Some (shown_channel settings id c)) None
+abbrev pub own_in : ℕ → ℕ → Option Channel → Option OpenChannel
+own_in session id None = None
+own_in session id (Some c) = cond (eqb c.session session) (Some (shown_channel id c)) None
 
-pub others-none : (settings : List Setting) (session id : ℕ) (entries : List (ℕ × Channel)) → AllByRecursion (λ k. eqb id k ≡ false) (keys_of entries)
-    → channel_in (channels_in (shown_all settings entries) session) id ≡ None
-others-none settings session id [] all = refl
-others-none settings session id (e ∷ entries) all = by_test (eqb e.1.session session) (others-none settings session id entries all.1) where
-  by_test : (t : Bool) → channel_in (channels_in (shown_all settings entries) session) id ≡ None
-      → channel_in (cond t (shown_channel settings e.0 e.1 ∷ channels_in (shown_all settings entries) session) (channels_in (shown_all settings entries) session)) id ≡ None
+pub others-none : (session id : ℕ) (entries : List (ℕ × Channel)) → AllByRecursion (λ k. eqb id k ≡ false) (keys_of entries)
+    → channel_in (channels_in (shown_all entries) session) id ≡ None
+others-none session id [] all = refl
+others-none session id (e ∷ entries) all = by_test (eqb e.1.session session) (others-none session id entries all.1) where
+  by_test : (t : Bool) → channel_in (channels_in (shown_all entries) session) id ≡ None
+      → channel_in (cond t (shown_channel e.0 e.1 ∷ channels_in (shown_all entries) session) (channels_in (shown_all entries) session)) id ≡ None
   by_test true rest =
-      ap (λ b. cond b (Some (shown_channel settings e.0 e.1)) (channel_in (channels_in (shown_all settings entries) session) id)) (eqb-flip e.0 id ∙ all.0) ∙ rest
+      ap (λ b. cond b (Some (shown_channel e.0 e.1)) (channel_in (channels_in (shown_all entries) session) id)) (eqb-flip e.0 id ∙ all.0) ∙ rest
   by_test false rest = rest
 
-pub own-shown : (settings : List Setting) (session id : ℕ) (entries : List (ℕ × Channel)) → IsDistinct eqb (keys_of entries)
-    → channel_in (channels_in (shown_all settings entries) session) id ≡ own_in settings session id (lookup (eqb id) entries)
+pub own-shown : (session id : ℕ) (entries : List (ℕ × Channel)) → IsDistinct eqb (keys_of entries)
+    → channel_in (channels_in (shown_all entries) session) id ≡ own_in session id (lookup (eqb id) entries)
 unfolding IsDistinct
-own-shown settings session id [] apart = refl
-own-shown settings session id (e ∷ entries) apart =
-    first (eqb e.1.session session) ∙ by_test (eqb id e.0) refl (own-shown settings session id entries apart.1) where
+own-shown session id [] apart = refl
+own-shown session id (e ∷ entries) apart =
+    first (eqb e.1.session session) ∙ by_test (eqb id e.0) refl (own-shown session id entries apart.1) where
       rest_of : Option OpenChannel
-      rest_of = channel_in (channels_in (shown_all settings entries) session) id
+      rest_of = channel_in (channels_in (shown_all entries) session) id
 
       first : (u : Bool)
-          → channel_in (cond u (shown_channel settings e.0 e.1 ∷ channels_in (shown_all settings entries) session) (channels_in (shown_all settings entries) session)) id
-          ≡ cond u (cond (eqb id e.0) (Some (shown_channel settings e.0 e.1)) rest_of) rest_of
-      first true = ap (λ b. cond b (Some (shown_channel settings e.0 e.1)) rest_of) (eqb-flip e.0 id)
+          → channel_in (cond u (shown_channel e.0 e.1 ∷ channels_in (shown_all entries) session) (channels_in (shown_all entries) session)) id
+          ≡ cond u (cond (eqb id e.0) (Some (shown_channel e.0 e.1)) rest_of) rest_of
+      first true = ap (λ b. cond b (Some (shown_channel e.0 e.1)) rest_of) (eqb-flip e.0 id)
       first false = refl
 
-      by_test : (t : Bool) → eqb id e.0 ≡ t → rest_of ≡ own_in settings session id (lookup (eqb id) entries)
-          → cond (eqb e.1.session session) (cond t (Some (shown_channel settings e.0 e.1)) rest_of) rest_of
-          ≡ own_in settings session id (cond t (Some e.1) (lookup (eqb id) entries))
+      by_test : (t : Bool) → eqb id e.0 ≡ t → rest_of ≡ own_in session id (lookup (eqb id) entries)
+          → cond (eqb e.1.session session) (cond t (Some (shown_channel e.0 e.1)) rest_of) rest_of
+          ≡ own_in session id (cond t (Some e.1) (lookup (eqb id) entries))
       by_test true is rest =
-          ap (λ o. cond (eqb e.1.session session) (Some (shown_channel settings e.0 e.1)) o)
-          (others-none settings session id entries (subst (λ n. AllByRecursion (λ k. eqb n k ≡ false) (keys_of entries)) (sym (eqb-true id e.0 is)) apart.0))
-          ∙ ap (λ n. cond (eqb e.1.session session) (Some (shown_channel settings n e.1)) None) (sym (eqb-true id e.0 is))
+          ap (λ o. cond (eqb e.1.session session) (Some (shown_channel e.0 e.1)) o)
+          (others-none session id entries (subst (λ n. AllByRecursion (λ k. eqb n k ≡ false) (keys_of entries)) (sym (eqb-true id e.0 is)) apart.0))
+          ∙ ap (λ n. cond (eqb e.1.session session) (Some (shown_channel n e.1)) None) (sym (eqb-true id e.0 is))
       by_test false is rest = same (eqb e.1.session session) rest_of ∙ rest where
         same : (u : Bool) (o : Option OpenChannel) → cond u o o ≡ o
         same true o = refl
         same false o = refl
 
 -- a channel that a session has, and its lead
-pub record IsOwn (settings : List Setting) (session id : ℕ) (o : Option Channel) (lead : List ℕ) : Type 0 where
+pub record IsOwn (session id : ℕ) (o : Option Channel) (lead : List ℕ) : Type 0 where
   pub channel : Channel
   pub is : o ≡ Some channel
   pub lead_is : channel.lead ≡ lead
-  pub own : own_in settings session id o ≡ Some (shown_channel settings id channel)
+  pub own : own_in session id o ≡ Some (shown_channel id channel)
 
 -- the channel is the session's
-pub own-session : {settings : List Setting} {session id : ℕ} {o : Option Channel} {lead : List ℕ} (own : IsOwn settings session id o lead) → eqb own.channel.session session ≡ true
-own-session {settings} {session} {id} {o} {lead} own =
-    by_test (eqb own.channel.session session) (sym (ap (own_in settings session id) own.is) ∙ own.own) where
-      by_test : (t : Bool) → cond t (Some (shown_channel settings id own.channel)) None ≡ Some (shown_channel settings id own.channel) → t ≡ true
+pub own-session : {session id : ℕ} {o : Option Channel} {lead : List ℕ} (own : IsOwn session id o lead) → eqb own.channel.session session ≡ true
+own-session {session} {id} {o} {lead} own =
+    by_test (eqb own.channel.session session) (sym (ap (own_in session id) own.is) ∙ own.own) where
+      by_test : (t : Bool) → cond t (Some (shown_channel id own.channel)) None ≡ Some (shown_channel id own.channel) → t ≡ true
       by_test true is = refl
       by_test false is = absurd (none-some is)
 
-pub own-lead : (settings : List Setting) (session id : ℕ) (o : Option Channel) (lead : List ℕ) → lead_if_own session o ≡ Some lead → IsOwn settings session id o lead
-own-lead settings session id None lead is = absurd (none-some is)
-own-lead settings session id (Some c) lead is = by_test (eqb c.session session) refl is where
-  by_test : (t : Bool) → eqb c.session session ≡ t → option_map (λ k. k.lead) (cond t (Some c) None) ≡ Some lead → IsOwn settings session id (Some c) lead
+pub own-lead : (session id : ℕ) (o : Option Channel) (lead : List ℕ) → lead_if_own session o ≡ Some lead → IsOwn session id o lead
+own-lead session id None lead is = absurd (none-some is)
+own-lead session id (Some c) lead is = by_test (eqb c.session session) refl is where
+  by_test : (t : Bool) → eqb c.session session ≡ t → option_map (λ k. k.lead) (cond t (Some c) None) ≡ Some lead → IsOwn session id (Some c) lead
   by_test true mine found = record {
     channel = c;
     is = refl;
     lead_is = some-same found;
-    own = ap (λ b. cond b (Some (shown_channel settings id c)) None) mine;
+    own = ap (λ b. cond b (Some (shown_channel id c)) None) mine;
   }
   by_test false mine found = absurd (none-some found)
 
-pub own-none : (settings : List Setting) (session id : ℕ) (o : Option Channel) → lead_if_own session o ≡ None → own_in settings session id o ≡ None
-own-none settings session id None is = refl
-own-none settings session id (Some c) is = by_test (eqb c.session session) is where
-  by_test : (t : Bool) → option_map (λ k. k.lead) (cond t (Some c) None) ≡ None → cond t (Some (shown_channel settings id c)) None ≡ None
+pub own-none : (session id : ℕ) (o : Option Channel) → lead_if_own session o ≡ None → own_in session id o ≡ None
+own-none session id None is = refl
+own-none session id (Some c) is = by_test (eqb c.session session) is where
+  by_test : (t : Bool) → option_map (λ k. k.lead) (cond t (Some c) None) ≡ None → cond t (Some (shown_channel id c)) None ≡ None
   by_test true found = absurd (some-none found)
   by_test false found = refl
 
 -- it is kept as it is shown
-pub own-kept : (settings : List Setting) (session id : ℕ) (entries : List (ℕ × Channel)) → AllByRecursion (λ e. HasItsClass settings e.0 e.1) entries
-    → option_map kept_of (channel_if_own session (lookup (eqb id) entries)) ≡ option_map kept_channel (own_in settings session id (lookup (eqb id) entries))
-own-kept settings session id [] all = refl
-own-kept settings session id (e ∷ entries) all = by_test (eqb id e.0) refl (own-kept settings session id entries all.1) where
-  by_session : HasItsClass settings id e.1 → (u : Bool)
-      → option_map kept_of (cond u (Some e.1) None) ≡ option_map kept_channel (cond u (Some (shown_channel settings id e.1)) None)
-  by_session has true = ap (λ k. Some k) (sym (kept-shown settings id e.1 has))
+pub own-kept : (session id : ℕ) (entries : List (ℕ × Channel)) → AllByRecursion (λ e. HasItsClass e.1) entries
+    → option_map kept_of (channel_if_own session (lookup (eqb id) entries)) ≡ option_map kept_channel (own_in session id (lookup (eqb id) entries))
+own-kept session id [] all = refl
+own-kept session id (e ∷ entries) all = by_test (eqb id e.0) refl (own-kept session id entries all.1) where
+  by_session : HasItsClass e.1 → (u : Bool)
+      → option_map kept_of (cond u (Some e.1) None) ≡ option_map kept_channel (cond u (Some (shown_channel id e.1)) None)
+  by_session has true = ap (λ k. Some k) (sym (kept-shown id e.1 has))
   by_session has false = refl
 
   by_test : (t : Bool) → eqb id e.0 ≡ t
-      → option_map kept_of (channel_if_own session (lookup (eqb id) entries)) ≡ option_map kept_channel (own_in settings session id (lookup (eqb id) entries))
+      → option_map kept_of (channel_if_own session (lookup (eqb id) entries)) ≡ option_map kept_channel (own_in session id (lookup (eqb id) entries))
       → option_map kept_of (channel_if_own session (cond t (Some e.1) (lookup (eqb id) entries)))
-      ≡ option_map kept_channel (own_in settings session id (cond t (Some e.1) (lookup (eqb id) entries)))
-  by_test true is rest = by_session (subst (λ n. HasItsClass settings n e.1) (sym (eqb-true id e.0 is)) all.0) (eqb e.1.session session)
+      ≡ option_map kept_channel (own_in session id (cond t (Some e.1) (lookup (eqb id) entries)))
+  by_test true is rest = by_session (subst (λ n. HasItsClass e.1) (sym (eqb-true id e.0 is)) all.0) (eqb e.1.session session)
   by_test false is rest = rest
 
+-- the leads that are held when a channel is closed
+pub closed-holds : (id : ℕ) (c : Channel) (entries : List (ℕ × Channel)) (held given : List (List ℕ)) → HoldsLeads held entries → lookup (eqb id) entries ≡ Some c
+    → IsPermutation held (c.lead ∷ given) → is_held given c.lead ≡ false → HoldsLeads given (remove_entry (eqb id) entries)
+closed-holds id c entries held given holds found perm gone = record {
+  leads = given-leads id c entries held given holds.leads holds.apart found perm gone;
+  apart = apart-without id entries holds.apart;
+}
+
 -- the tables fit each other when a channel is closed
-pub closed-kept : (opened : ℕ) (settings : List Setting) (entries : List (ℕ × Channel)) (held given : List (List ℕ)) (session id : ℕ) (lead : List ℕ)
-    → AreKept opened settings entries held → IsOwn settings session id (lookup (eqb id) entries) lead → IsPermutation held (lead ∷ given)
-    → is_held given lead ≡ false → AreKept opened settings (remove_entry (eqb id) entries) given
-closed-kept opened settings entries held given session id lead kept own perm gone = record {
+pub closed-kept : (opened : ℕ) (entries : List (ℕ × Channel)) (held given : List (List ℕ)) (id : ℕ) → AreKept opened entries held
+    → HoldsLeads given (remove_entry (eqb id) entries) → AreKept opened (remove_entry (eqb id) entries) given
+closed-kept opened entries held given id kept holds = record {
   ids = all-without (λ e. e.0 ≤ opened) id entries kept.ids;
-  settings_are = kept.settings_are;
-  classes = all-without (λ e. HasItsClass settings e.0 e.1) id entries kept.classes;
-  leads =
-      given-leads id own.channel entries held given kept.leads kept.apart own.is (subst (λ l. IsPermutation held (l ∷ given)) (sym own.lead_is) perm)
-      (subst (λ l. is_held given l ≡ false) (sym own.lead_is) gone);
-  apart = apart-without id entries kept.apart;
+  classes = all-without (λ e. HasItsClass e.1) id entries kept.classes;
+  holds = holds;
 }

@@ -1,13 +1,11 @@
 -- A channel joins the tables.
-use Rattle.std.proofs.Common.{◌≡◌, ℕ, ◌+◌, ◌≤◌, ◌^◌, Bool, true, false, cond, ◌||◌, not, Option, None, Some, List, zero, suc, [], ◌∷◌, ◌++◌, arith, length, map, refl, ap, subst, sym, ◌∙◌}
-use Rattle.std.proofs.Math.Dec.{eqb}
-use Rattle.std.proofs.lemmas.Bool.{false≢true, ne_eqb}
+use Rattle.std.proofs.Common.{◌≡◌, ℕ, ◌+◌, ◌≤◌, ◌^◌, Bool, true, false, ◌||◌, not, Option, Some, List, zero, suc, [], ◌∷◌, ◌++◌, arith, length, map, refl, ap, subst, sym, ◌∙◌}
+use Rattle.std.proofs.lemmas.Bool.{false≢true}
 use Rattle.std.proofs.lemmas.List.Folds.{list_any-append}
 use Rattle.std.proofs.lemmas.List.Sorted.{list_any-IsPermutation}
 use Rattle.std.proofs.lemmas.Slice.Eq.{bytes_eq-Decides}
 use Rattle.std.specs.Prelude.{IsPermutation}
 use Rattle.std.specs.List.{AllByRecursion, list_any}
-use Rattle.std.specs.Map.{lookup}
 use Rattle.std.specs.Str.{bytes_eq}
 use Rattle.history_laws.specs.Openings.{AreLeadsApart}
 use Rattle.history_laws.proofs.Holding.{bytes_eq-self, first_free-free, or-comm, overlap-comm}
@@ -15,8 +13,7 @@ use Rattle.pool_history.specs.Channels.{last_class}
 use Rattle.pool_history.specs.Spaces.{first_free, is_free, lowest, overlap, string_at}
 use Rattle.prefix_space.specs.HeldLeads.{is_held}
 use Rattle.channels.specs.declared.channel.Channel.{Channel}
-use Rattle.channels.specs.declared.channel.Setting.{Setting}
-use Rattle.channels.specs.Tables.{AreKept, HasItsClass, sets_of, shown_channel}
+use Rattle.channels.specs.Tables.{AreKept, HasItsClass, shown_channel}
 use Rattle.channels.proofs.Closings.{leads_of}
 use Rattle.channels.proofs.Lookups.{shown_all}
 
@@ -86,46 +83,26 @@ pub same-lowest : (len : ℕ) (a b : List (List ℕ)) → ((lead : List ℕ) →
 same-lowest len a b same = same-first len a b same 0 (256 ^ len)
 
 -- the leads that are shown are those that are kept
-pub leads-shown : (settings : List Setting) (entries : List (ℕ × Channel)) → map (λ c. c.lead) (shown_all settings entries) ≡ leads_of entries
-leads-shown settings [] = refl
-leads-shown settings (e ∷ entries) = ap (λ l. e.1.lead ∷ l) (leads-shown settings entries)
-
--- an id that wasn't given yet has no channel, and no class was set for it
-pub later-absent : (opened : ℕ) (entries : List (ℕ × Channel)) → AllByRecursion (λ e. e.0 ≤ opened) entries → lookup (eqb (opened + 1)) entries ≡ None
-later-absent opened [] all = refl
-later-absent opened (e ∷ entries) all =
-    ap (λ t. cond t (Some e.1) (lookup (eqb (opened + 1)) entries)) (ne_eqb (opened + 1) e.0 (λ same. differ same)) ∙ later-absent opened entries all.1 where
-      differ : opened + 1 ≡ e.0 → ⊥
-      differ same = let below : e.0 ≤ opened = all.0 in omega (arith, below, same)
-
-later-sets : (opened : ℕ) (settings : List Setting) → AllByRecursion (λ s. s.channel ≤ opened) settings → sets_of (opened + 1) settings ≡ []
-later-sets opened [] all = refl
-later-sets opened (s ∷ settings) all =
-    ap (λ t. cond t (record { at = s.at; class = s.class } ∷ sets_of (opened + 1) settings) (sets_of (opened + 1) settings)) (ne_eqb s.channel (opened + 1) (λ same. differ same))
-    ∙ later-sets opened settings all.1 where
-      differ : s.channel ≡ opened + 1 → ⊥
-      differ same = let below : s.channel ≤ opened = all.0 in omega (arith, below, same)
+pub leads-shown : (entries : List (ℕ × Channel)) → map (λ c. c.lead) (shown_all entries) ≡ leads_of entries
+leads-shown [] = refl
+leads-shown (e ∷ entries) = ap (λ l. e.1.lead ∷ l) (leads-shown entries)
 
 -- what is shown of one entry more
-pub shown-joined : (opened : ℕ) (settings : List Setting) (entries : List (ℕ × Channel)) (c : Channel) → AllByRecursion (λ s. s.channel ≤ opened) settings
-    → shown_all settings (entries ++ (opened + 1, c) ∷ [])
-    ≡ shown_all settings entries
+pub shown-joined : (opened : ℕ) (entries : List (ℕ × Channel)) (c : Channel) → c.settings.sets ≡ []
+    → shown_all (entries ++ (opened + 1, c) ∷ [])
+    ≡ shown_all entries
     ++ record { id = opened + 1; session = c.session; kind = c.kind; account = c.account; lead = c.lead; opening_class = c.opening_class; sets = [] } ∷ []
-shown-joined opened settings [] c all =
+shown-joined opened [] c none =
     ap (λ sets.
     record { id = opened + 1; session = c.session; kind = c.kind; account = c.account; lead = c.lead; opening_class = c.opening_class; sets = sets } ∷ [])
-    (later-sets opened settings all)
-shown-joined opened settings (e ∷ entries) c all = ap (λ l. shown_channel settings e.0 e.1 ∷ l) (shown-joined opened settings entries c all)
+    none
+shown-joined opened (e ∷ entries) c none = ap (λ l. shown_channel e.0 e.1 ∷ l) (shown-joined opened entries c none)
 
 -- what holds of all, and of one more
 all-joined : (P Q : ℕ × Channel → Type 0) (entries : List (ℕ × Channel)) (e : ℕ × Channel) → ((d : ℕ × Channel) → P d → Q d) → AllByRecursion P entries → Q e
     → AllByRecursion Q (entries ++ e ∷ [])
 all-joined P Q [] e each all last = (last, tt)
 all-joined P Q (d ∷ entries) e each all last = (each d all.0, all-joined P Q entries e each all.1 last)
-
-all-settings : (P Q : Setting → Type 0) (settings : List Setting) → ((s : Setting) → P s → Q s) → AllByRecursion P settings → AllByRecursion Q settings
-all-settings P Q [] each all = tt
-all-settings P Q (s ∷ settings) each all = (each s all.0, all-settings P Q settings each all.1)
 
 leads-joined : (entries : List (ℕ × Channel)) (e : ℕ × Channel) → leads_of (entries ++ e ∷ []) ≡ leads_of entries ++ e.1.lead ∷ []
 leads-joined [] e = refl
@@ -154,25 +131,26 @@ free-none held lead free = by_test (list_any (overlap lead) held) free where
   by_test false free = refl
 
 -- the tables fit each other with one channel more
-pub joined-kept : (opened : ℕ) (settings : List Setting) (entries : List (ℕ × Channel)) (held taken : List (List ℕ)) (c : Channel) → c.class ≡ c.opening_class
-    → is_free (leads_of entries) c.lead ≡ true → IsPermutation (c.lead ∷ held) taken → AreKept opened settings entries held
-    → AreKept (opened + 1) settings (entries ++ (opened + 1, c) ∷ []) taken
-joined-kept opened settings entries held taken c class free perm kept = record {
+pub joined-kept : (opened : ℕ) (entries : List (ℕ × Channel)) (held taken : List (List ℕ)) (c : Channel) → c.class ≡ c.opening_class → c.settings.sets ≡ []
+    → is_free (leads_of entries) c.lead ≡ true → IsPermutation (c.lead ∷ held) taken → AreKept opened entries held
+    → AreKept (opened + 1) (entries ++ (opened + 1, c) ∷ []) taken
+joined-kept opened entries held taken c class none free perm kept = record {
   ids =
       all-joined (λ e. e.0 ≤ opened) (λ e. e.0 ≤ opened + 1) entries (opened + 1, c) (λ e below. omega (arith, below)) kept.ids (omega arith);
-  settings_are = all-settings (λ s. s.channel ≤ opened) (λ s. s.channel ≤ opened + 1) settings (λ s below. omega (arith, below)) kept.settings_are;
   classes =
-      all-joined (λ e. HasItsClass settings e.0 e.1) (λ e. HasItsClass settings e.0 e.1) entries (opened + 1, c) (λ e has. has) kept.classes
-      (record { class_is = class ∙ sym (ap (λ sets. last_class sets c.opening_class) (later-sets opened settings kept.settings_are)) });
-  leads = λ lead.
-      sym (list_any-IsPermutation (λ other. bytes_eq other lead) (c.lead ∷ held) taken perm)
-      ∙ ap (λ b. bytes_eq c.lead lead || b) (kept.leads lead)
-      ∙ or-comm (bytes_eq c.lead lead) (is_held (leads_of entries) lead)
-      ∙ ap (λ b. is_held (leads_of entries) lead || b) (sym (or-false (bytes_eq c.lead lead)))
-      ∙ sym (ap (λ l. is_held l lead) (leads-joined entries (opened + 1, c)) ∙ list_any-append (λ other. bytes_eq other lead) (leads_of entries) (c.lead ∷ []));
-  apart =
-      subst AreLeadsApart (sym (leads-joined entries (opened + 1, c)))
-      (apart-joined (leads_of entries) c.lead (free-none (leads_of entries) c.lead free) kept.apart);
+      all-joined (λ e. HasItsClass e.1) (λ e. HasItsClass e.1) entries (opened + 1, c) (λ e has. has) kept.classes
+      (record { class_is = class ∙ sym (ap (λ sets. last_class sets c.opening_class) none) });
+  holds = record {
+    leads = λ lead.
+        sym (list_any-IsPermutation (λ other. bytes_eq other lead) (c.lead ∷ held) taken perm)
+        ∙ ap (λ b. bytes_eq c.lead lead || b) (kept.holds.leads lead)
+        ∙ or-comm (bytes_eq c.lead lead) (is_held (leads_of entries) lead)
+        ∙ ap (λ b. is_held (leads_of entries) lead || b) (sym (or-false (bytes_eq c.lead lead)))
+        ∙ sym (ap (λ l. is_held l lead) (leads-joined entries (opened + 1, c)) ∙ list_any-append (λ other. bytes_eq other lead) (leads_of entries) (c.lead ∷ []));
+    apart =
+        subst AreLeadsApart (sym (leads-joined entries (opened + 1, c)))
+        (apart-joined (leads_of entries) c.lead (free-none (leads_of entries) c.lead free) kept.holds.apart);
+  };
 } where
   or-false : (b : Bool) → (b || false) ≡ b
   or-false true = refl
@@ -183,6 +161,6 @@ pub lowest-free : (entries : List (ℕ × Channel)) (lead : List ℕ) → lowest
 lowest-free entries lead is = first_free-free (length lead) (leads_of entries) 0 (256 ^ length lead) lead is
 
 -- what a table shows is held
-pub held-lowest : (len : ℕ) (settings : List Setting) (entries : List (ℕ × Channel)) (held : List (List ℕ)) → ((lead : List ℕ) → is_held held lead ≡ is_held (leads_of entries) lead)
-    → lowest len held ≡ lowest len (map (λ c. c.lead) (shown_all settings entries))
-held-lowest len settings entries held same = same-lowest len held (leads_of entries) same ∙ ap (lowest len) (sym (leads-shown settings entries))
+pub held-lowest : (len : ℕ) (entries : List (ℕ × Channel)) (held : List (List ℕ)) → ((lead : List ℕ) → is_held held lead ≡ is_held (leads_of entries) lead)
+    → lowest len held ≡ lowest len (map (λ c. c.lead) (shown_all entries))
+held-lowest len entries held same = same-lowest len held (leads_of entries) same ∙ ap (lowest len) (sym (leads-shown entries))

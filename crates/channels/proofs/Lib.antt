@@ -1,9 +1,11 @@
 pub mod Changing
 pub mod Closings
-pub mod Counting
 pub mod Disjoint
+pub mod Halves
 pub mod Joining
 pub mod Leaving
 pub mod Lookups
 pub mod Offering
+pub mod Ordering
+pub mod OwnChannels
 pub mod Planning

@@ -16,7 +16,6 @@ use Rattle.pool_history.specs.Channels.{ChannelMove, OpenChannel, channel_in, ch
 use Rattle.pool_history.specs.Conditions.{or_code, unless_refusal}
 use Rattle.pool_history.specs.Refusing.{nameable}
 use Rattle.channels.specs.declared.channel.Channel.{Channel}
-use Rattle.channels.specs.declared.channel.Setting.{Setting}
 use Rattle.channels.specs.Tables.{ChannelTable, IsTold, ShowsSameChannels, lead_if_own, shown_channel}
 use Rattle.channels.proofs.Closings.{IsOwn, own-lead, own-none, own-shown, own_in}
 use Rattle.channels.proofs.Lookups.{channel_in-shown, shown_all}
@@ -51,24 +50,24 @@ undone memory e p (Ok x) (inr is) = absurd (ok-err (sym is))
 undone memory e p (Err d) (inr is) = inr (ap completion_of is)
 
 -- the open channel of a session, by what is kept
-pub none-own : (settings : List Setting) (session id : ℕ) (entries : List (ℕ × Channel)) → IsDistinct eqb (keys_of entries)
-    → lead_if_own session (lookup (eqb id) entries) ≡ None → channel_in (channels_in (shown_all settings entries) session) id ≡ None
-none-own settings session id entries apart none =
-    own-shown settings session id entries apart ∙ own-none settings session id (lookup (eqb id) entries) none
+pub none-own : (session id : ℕ) (entries : List (ℕ × Channel)) → IsDistinct eqb (keys_of entries)
+    → lead_if_own session (lookup (eqb id) entries) ≡ None → channel_in (channels_in (shown_all entries) session) id ≡ None
+none-own session id entries apart none =
+    own-shown session id entries apart ∙ own-none session id (lookup (eqb id) entries) none
 
-pub some-own : (settings : List Setting) (session id : ℕ) (entries : List (ℕ × Channel)) (lead : List ℕ) → IsDistinct eqb (keys_of entries)
+pub some-own : (session id : ℕ) (entries : List (ℕ × Channel)) (lead : List ℕ) → IsDistinct eqb (keys_of entries)
     → lead_if_own session (lookup (eqb id) entries) ≡ Some lead
-    → (channel : OpenChannel) × (channel_in (channels_in (shown_all settings entries) session) id ≡ Some channel)
-some-own settings session id entries lead apart some =
-    let own : IsOwn settings session id (lookup (eqb id) entries) lead = own-lead settings session id (lookup (eqb id) entries) lead some in
-    (shown_channel settings id own.channel, own-shown settings session id entries apart ∙ own.own)
+    → (channel : OpenChannel) × (channel_in (channels_in (shown_all entries) session) id ≡ Some channel)
+some-own session id entries lead apart some =
+    let own : IsOwn session id (lookup (eqb id) entries) lead = own-lead session id (lookup (eqb id) entries) lead some in
+    (shown_channel id own.channel, own-shown session id entries apart ∙ own.own)
 
 -- so it is open
-pub own-open : (settings : List Setting) (session id : ℕ) (entries : List (ℕ × Channel)) (lead : List ℕ) → lead_if_own session (lookup (eqb id) entries) ≡ Some lead
-    → is_some (channel_in (shown_all settings entries) id) ≡ true
-own-open settings session id entries lead some =
-    let own : IsOwn settings session id (lookup (eqb id) entries) lead = own-lead settings session id (lookup (eqb id) entries) lead some in
-    ap is_some (channel_in-shown settings entries id ∙ ap (option_map (shown_channel settings id)) own.is)
+pub own-open : (session id : ℕ) (entries : List (ℕ × Channel)) (lead : List ℕ) → lead_if_own session (lookup (eqb id) entries) ≡ Some lead
+    → is_some (channel_in (shown_all entries) id) ≡ true
+own-open session id entries lead some =
+    let own : IsOwn session id (lookup (eqb id) entries) lead = own-lead session id (lookup (eqb id) entries) lead some in
+    ap is_some (channel_in-shown entries id ∙ ap (option_map (shown_channel id)) own.is)
 
 -- why a channel isn't named, by what is kept
 de-morgan : (a b : Bool) → not (not a && not b) ≡ (a || b)
@@ -76,39 +75,39 @@ de-morgan true b = refl
 de-morgan false true = refl
 de-morgan false false = refl
 
-naming : (rules : Rules) (account : List ℕ) (settings : List Setting) (session id : ℕ) (c : Channel)
-    → nameable rules account (own_in settings session id (Some c)) ≡ unless_refusal (naming_refusal rules account session (Some c)) (shown_channel settings id c)
-naming rules account settings session id c = by_session (eqb c.session session) where
+naming : (rules : Rules) (account : List ℕ) (session id : ℕ) (c : Channel)
+    → nameable rules account (own_in session id (Some c)) ≡ unless_refusal (naming_refusal rules account session (Some c)) (shown_channel id c)
+naming rules account session id c = by_session (eqb c.session session) where
   last : Bool → Option NameError
   last b = or_code (is_known rules account) name.UnknownUser (or_code b name.OtherAccount None)
 
-  by_session : (t : Bool) → nameable rules account (cond t (Some (shown_channel settings id c)) None)
-      ≡ unless_refusal (or_code t name.NotOpen (last (is_empty c.account || bytes_eq c.account account))) (shown_channel settings id c)
+  by_session : (t : Bool) → nameable rules account (cond t (Some (shown_channel id c)) None)
+      ≡ unless_refusal (or_code t name.NotOpen (last (is_empty c.account || bytes_eq c.account account))) (shown_channel id c)
   by_session true =
-      ap (λ b. unless_refusal (last b) (shown_channel settings id c)) (de-morgan (is_empty c.account) (bytes_eq c.account account))
+      ap (λ b. unless_refusal (last b) (shown_channel id c)) (de-morgan (is_empty c.account) (bytes_eq c.account account))
   by_session false = refl
 
-pub name-refused : (rules : Rules) (account : List ℕ) (settings : List Setting) (session id : ℕ) (entries : List (ℕ × Channel)) (e : NameError) → IsDistinct eqb (keys_of entries)
+pub name-refused : (rules : Rules) (account : List ℕ) (session id : ℕ) (entries : List (ℕ × Channel)) (e : NameError) → IsDistinct eqb (keys_of entries)
     → naming_refusal rules account session (lookup (eqb id) entries) ≡ Some e
-    → nameable rules account (channel_in (channels_in (shown_all settings entries) session) id) ≡ Err e
-name-refused rules account settings session id entries e apart is =
-    ap (nameable rules account) (own-shown settings session id entries apart) ∙ by_option (lookup (eqb id) entries) is where
-      by_option : (o : Option Channel) → naming_refusal rules account session o ≡ Some e → nameable rules account (own_in settings session id o) ≡ Err e
+    → nameable rules account (channel_in (channels_in (shown_all entries) session) id) ≡ Err e
+name-refused rules account session id entries e apart is =
+    ap (nameable rules account) (own-shown session id entries apart) ∙ by_option (lookup (eqb id) entries) is where
+      by_option : (o : Option Channel) → naming_refusal rules account session o ≡ Some e → nameable rules account (own_in session id o) ≡ Err e
       by_option None is = ap Err (some-same is)
-      by_option (Some c) is = naming rules account settings session id c ∙ ap (λ o. unless_refusal o (shown_channel settings id c)) is
+      by_option (Some c) is = naming rules account session id c ∙ ap (λ o. unless_refusal o (shown_channel id c)) is
 
-pub name-found : (rules : Rules) (account : List ℕ) (settings : List Setting) (session id : ℕ) (entries : List (ℕ × Channel)) → IsDistinct eqb (keys_of entries)
+pub name-found : (rules : Rules) (account : List ℕ) (session id : ℕ) (entries : List (ℕ × Channel)) → IsDistinct eqb (keys_of entries)
     → naming_refusal rules account session (lookup (eqb id) entries) ≡ None
-    → (channel : OpenChannel) × (nameable rules account (channel_in (channels_in (shown_all settings entries) session) id) ≡ Ok channel)
-name-found rules account settings session id entries apart is = by_option (lookup (eqb id) entries) refl is where
+    → (channel : OpenChannel) × (nameable rules account (channel_in (channels_in (shown_all entries) session) id) ≡ Ok channel)
+name-found rules account session id entries apart is = by_option (lookup (eqb id) entries) refl is where
   by_option : (o : Option Channel) → lookup (eqb id) entries ≡ o → naming_refusal rules account session o ≡ None
-      → (channel : OpenChannel) × (nameable rules account (channel_in (channels_in (shown_all settings entries) session) id) ≡ Ok channel)
+      → (channel : OpenChannel) × (nameable rules account (channel_in (channels_in (shown_all entries) session) id) ≡ Ok channel)
   by_option None found is = absurd (some-none is)
   by_option (Some c) found is = (
-    shown_channel settings id c,
-    ap (nameable rules account) (own-shown settings session id entries apart)
-        ∙ ap (λ o. nameable rules account (own_in settings session id o)) found
-        ∙ naming rules account settings session id c ∙ ap (λ o. unless_refusal o (shown_channel settings id c)) is,
+    shown_channel id c,
+    ap (nameable rules account) (own-shown session id entries apart)
+        ∙ ap (λ o. nameable rules account (own_in session id o)) found
+        ∙ naming rules account session id c ∙ ap (λ o. unless_refusal o (shown_channel id c)) is,
   )
 
 -- what was told stays so where nothing changed but room

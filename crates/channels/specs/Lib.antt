@@ -1,3 +1,5 @@
+pub mod ClassSettings
 pub mod Histories
+pub mod Orders
 pub mod Plans
 pub mod Tables

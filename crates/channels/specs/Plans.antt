@@ -1,5 +1,6 @@
 -- Changes of a table that were planned (this project's own).
-use Rattle.std.specs.Prelude.{◌≡◌, ℕ, ◌+◌, ◌≤◌, ◌==◌, ◌||◌, ◌⊎◌, false, Option, None, Some, is_some, Result, Ok, Err, List, [], ◌∷◌, length, map, IsTrue}
+use Rattle.std.specs.Prelude.{◌≡◌, ℕ, ◌+◌, ◌≤◌, ◌==◌, ◌||◌, ◌⊎◌, false, Option, None, Some, is_some, Result, Ok, Err, List, [], ◌∷◌, length, map, nat_eq, IsTrue}
+use Rattle.std.specs.Map.{lookup}
 use Rattle.std.specs.Str.{bytes_eq}
 use Rattle.pool_history.specs.declared.asking.OpenAsk.{OpenAsk}
 use Rattle.pool_history.specs.declared.events.Kind.{Kind}
@@ -18,7 +19,7 @@ use Rattle.pool_history.specs.Spaces.{lowest}
 use Rattle.channels.specs.declared.channel.Channel.{Channel}
 use Rattle.channels.specs.declared.plan.ChannelPlan.{ChannelPlan}
 use Rattle.channels.specs.declared.plan.ChannelPlan.TheVariants as plan
-use Rattle.channels.specs.Tables.{ChannelTable}
+use Rattle.channels.specs.Tables.{ChannelTable, count_kept}
 
 -- the move that a plan makes
 abbrev pub planned_move : ChannelPlan → ChannelMove
@@ -47,11 +48,12 @@ pub record IsNextOpening (table : ChannelTable) (session : ℕ) (kind : Kind) (o
 pub record MayOpenNext (table : ChannelTable) (session : ℕ) (kind : Kind) (opened : Opened)
     : Type 0 where
   pub room : 1 ≤ table.opening_room
+  pub listed : 1 ≤ count_kept (lookup (nat_eq session) table.session_rooms)
   pub opening : IsNextOpening table session kind opened
 
 -- a table may set a class: there is room, and the channel is open
 pub record MaySetClass (table : ChannelTable) (channel : ℕ) : Type 0 where
-  pub room : 1 ≤ table.setting_room
+  pub room : 1 ≤ count_kept (lookup (nat_eq channel) table.setting_rooms)
   pub there : IsTrue (is_some (channel_in table.open_channels channel))
 
 -- a plan can be applied without memory; so it can as long as the table is as when it was made

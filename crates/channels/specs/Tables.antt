@@ -1,23 +1,26 @@
 -- What a table of open channels shows (this project's own).
-use Rattle.std.specs.Prelude.{◌≡◌, ℕ, ◌≤◌, ◌==◌, if◌then◌else◌, Option, None, Some, List, [], ◌∷◌, filter, length, map, nat_eq, not}
+use Rattle.std.specs.Prelude.{◌≡◌, ℕ, ◌-◌, ◌≤◌, ◌==◌, if◌then◌else◌, Option, None, Some, List, [], ◌∷◌, Vec, filter, length, map, nat_eq, not, vec_capacity, vec_len}
 use Rattle.std.specs.List.{AllByRecursion}
-use Rattle.std.specs.Map.{lookup}
+use Rattle.std.specs.Map.{lookup, remove_entry}
 use Rattle.std.specs.Option.{option_map}
+use Rattle.std.specs.declared.alloc.Global.{Global}
 use Rattle.pool_history.specs.declared.events.Kind.{Kind}
-use Rattle.pool_history.specs.Channels.{ChannelMove, ClassSet, OpenChannel, account_or, channel_in, channels_told, last_class, opened, present_class}
+use Rattle.pool_history.specs.Channels.{ChannelMove, OpenChannel, account_or, channel_in, channels_told, last_class, opened, present_class}
 use Rattle.history_laws.specs.Apart.{AreDisjoint}
 use Rattle.history_laws.specs.Openings.{AreLeadsApart}
 use Rattle.prefix_space.specs.HeldLeads.{is_held}
 use Rattle.channels.specs.declared.channel.Channel.{Channel}
-use Rattle.channels.specs.declared.channel.Setting.{Setting}
+use Rattle.channels.specs.ClassSettings.{with_set}
 
 -- the open channels in the order of their ids, and how many were opened
 pub record ChannelTable : Type 0 where
   pub opened : ℕ
   pub open_channels : List OpenChannel
-  -- so many openings, and so many classes that are set, need no memory
+  -- so many openings need no memory where their sessions have room; and so much room sessions have,
+  -- and channels for classes that are set
   pub opening_room : ℕ
-  pub setting_room : ℕ
+  pub session_rooms : List (ℕ × ℕ)
+  pub setting_rooms : List (ℕ × ℕ)
 
 -- nothing changed but the room
 pub record ShowsSameChannels (old new : ChannelTable) : Type 0 where
@@ -62,17 +65,9 @@ kept_channel channel =
       class = present_class channel;
     }
 
--- the classes that were set for a channel, the last first, among those that were set for all
-abbrev pub sets_of : ℕ → List Setting → List ClassSet
-sets_of id [] = []
-sets_of id (setting ∷ older) =
-    if setting.channel == id
-    then record { at = setting.at; class = setting.class } ∷ sets_of id older
-    else sets_of id older
-
--- a channel that is kept under its id, with the classes that were set
-abbrev pub shown_channel : List Setting → ℕ → Channel → OpenChannel
-shown_channel settings id channel =
+-- a channel that is kept under its id
+abbrev pub shown_channel : ℕ → Channel → OpenChannel
+shown_channel id channel =
     record {
       id = id;
       session = channel.session;
@@ -80,36 +75,54 @@ shown_channel settings id channel =
       account = channel.account;
       lead = channel.lead;
       opening_class = channel.opening_class;
-      sets = sets_of id settings;
+      sets = channel.settings.sets;
     }
 
--- a channel whose kept class is its present one
-pub record HasItsClass (settings : List Setting) (id : ℕ) (channel : Channel) : Type 0 where
-  pub class_is : channel.class ≡ last_class (sets_of id settings) channel.opening_class
+-- so many classes may be set for each channel without memory
+abbrev pub rooms_of : List (ℕ × Channel) → List (ℕ × ℕ)
+rooms_of entries = map (λ entry. (entry.0, entry.1.settings.room)) entries
 
--- the tables fit each other: ids and settings are of channels that were opened, classes are the
--- present ones, and the held leads are those of the open channels
-pub record AreKept (opened : ℕ) (settings : List Setting) (entries : List (ℕ × Channel))
-    (held : List (List ℕ)) : Type 0 where
-  pub ids : AllByRecursion (λ entry. entry.0 ≤ opened) entries
-  pub settings_are : AllByRecursion (λ setting. setting.channel ≤ opened) settings
-  pub classes : AllByRecursion (λ entry. HasItsClass settings entry.0 entry.1) entries
+-- a channel whose kept class is its present one
+pub record HasItsClass (channel : Channel) : Type 0 where
+  pub class_is : channel.class ≡ last_class channel.settings.sets channel.opening_class
+
+-- the held leads are those of the entries, and none begins another
+pub record HoldsLeads (held : List (List ℕ)) (entries : List (ℕ × Channel)) : Type 0 where
   pub leads : (lead : List ℕ)
       → is_held held lead ≡ is_held (map (λ entry. entry.1.lead) entries) lead
   pub apart : AreLeadsApart (map (λ entry. entry.1.lead) entries)
+
+-- the tables fit each other: ids are of channels that were opened, classes are the present ones,
+-- and the held leads are those of the open channels
+pub record AreKept (opened : ℕ) (entries : List (ℕ × Channel)) (held : List (List ℕ))
+    : Type 0 where
+  pub ids : AllByRecursion (λ entry. entry.0 ≤ opened) entries
+  pub classes : AllByRecursion (λ entry. HasItsClass entry.1) entries
+  pub holds : HoldsLeads held entries
 
 -- the entries, with the channel of an id changed
 abbrev pub with_changed : (Channel → Channel) → ℕ → List (ℕ × Channel) → List (ℕ × Channel)
 with_changed change id entries =
     map (λ entry. if id == entry.0 then (entry.0, change entry.1) else entry) entries
 
--- a channel as it is kept, with an account where it has none, and with another present class
+-- a channel as it is kept, with an account where it has none, with a class that is set at a place,
+-- and with room for so many classes that are set
 abbrev pub named_channel : List ℕ → Channel → Channel
 named_channel account channel =
     record channel { account = account_or channel.account account }
 
-abbrev pub reclassed_channel : ℕ → Channel → Channel
-reclassed_channel class channel = record channel { class = class }
+abbrev pub reclassed_channel : ℕ → ℕ → Channel → Channel
+reclassed_channel at class channel =
+    record channel { class = class; settings = with_set at class channel.settings }
+
+abbrev pub roomed_channel : ℕ → Channel → Channel
+roomed_channel room channel =
+    record channel { settings = record { sets = channel.settings.sets; room = room } }
+
+-- the entries without those with these ids
+abbrev pub without_ids : List ℕ → List (ℕ × Channel) → List (ℕ × Channel)
+without_ids [] entries = entries
+without_ids (id ∷ ids) entries = remove_entry (nat_eq id) (without_ids ids entries)
 
 -- the entries of other sessions
 abbrev pub without_session : ℕ → List (ℕ × Channel) → List (ℕ × Channel)
@@ -120,11 +133,32 @@ abbrev pub count_kept : Option ℕ → ℕ
 count_kept None = 0
 count_kept (Some count) = count
 
--- the counts are those of the sessions' channels
-abbrev pub CountsChannels : List (ℕ × ℕ) → List (ℕ × Channel) → Type 0
-CountsChannels counts entries =
-    (session : ℕ) → count_kept (lookup (nat_eq session) counts)
-    ≡ length (filter (λ entry. entry.1.session == session) entries)
+-- the ids of a session's entries
+abbrev pub own_ids : ℕ → List (ℕ × Channel) → List ℕ
+own_ids session entries =
+    map (λ entry. entry.0) (filter (λ entry. entry.1.session == session) entries)
+
+-- the ids that are listed for a session, and for how many more there is room
+abbrev pub ids_listed : Option (Vec ℕ Global) → List ℕ
+ids_listed None = []
+ids_listed (Some ids) = ids.items
+
+abbrev pub room_of_list : Vec ℕ Global → ℕ
+room_of_list ids = vec_capacity ids - vec_len ids
+
+abbrev pub room_listed : Option (Vec ℕ Global) → ℕ
+room_listed there = count_kept (option_map room_of_list there)
+
+-- there is room for so many more channels of each session
+abbrev pub list_rooms : List (ℕ × Vec ℕ Global) → List (ℕ × ℕ)
+list_rooms lists = map (λ list. (list.0, room_of_list list.1)) lists
+
+-- the lists are those of the sessions' channels, of which none has too many
+pub record ListsChannels (lists : List (ℕ × Vec ℕ Global)) (entries : List (ℕ × Channel))
+    : Type 0 where
+  pub listed : (session : ℕ)
+      → ids_listed (lookup (nat_eq session) lists) ≡ own_ids session entries
+  pub few : (session : ℕ) → length (own_ids session entries) ≤ 1024
 
 -- what is kept, where it is a session's, and its lead
 abbrev pub channel_if_own : ℕ → Option Channel → Option Channel

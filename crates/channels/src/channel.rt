@@ -3,6 +3,7 @@
 ghost use Rattle.std.specs.Prelude.{◌≡◌, length};
 ghost use Rattle.pool_history.specs.declared.events.Kind.TheVariants.{Standard};
 
+use crate::settings::Settings;
 use pool_history::{Class, Kind, Lead};
 use sv2_types::Str255;
 
@@ -19,13 +20,7 @@ pub struct Channel {
     pub opening_class: Class,
     /// The present one.
     pub class: Class,
+    /// The classes that were set since.
+    pub(crate) settings: Settings,
     pub ghost standard_is_whole: { kind ≡ Standard → length lead ≡ 4 },
-}
-
-/// A class that was set, for which channel, and at which place.
-#[derive(Clone, Copy, Debug)]
-pub(crate) struct Setting {
-    pub channel: u32,
-    pub at: u64,
-    pub class: Class,
 }

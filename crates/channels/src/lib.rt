@@ -4,10 +4,11 @@
 mod accounts;
 mod changes;
 mod channel;
-mod counts;
 mod laws;
+mod listing;
 mod openings;
 mod plan;
+mod settings;
 mod table;
 
 pub use accounts::{account_in, is_known_account};

@@ -1,11 +1,14 @@
 //! The table of open channels.
 
 use crate::accounts::{account_in, is_known_account};
-use crate::changes::{drop_session, give_leads, hold, put_account, put_channel, put_class};
-use crate::channel::{Channel, Setting};
-use crate::counts::{count_closing, count_of, count_opening, forget_count};
+use crate::changes::{
+    close_all, close_kept, hold, put_account, put_channel, put_class, reserve_class,
+};
+use crate::channel::Channel;
+use crate::listing::{count_of, ids_of, list_opening, reserve_listing, take_list, unlist};
 use crate::openings::{class_given, lead_len, opening_account, opening_refusal};
 use crate::plan::ChannelPlan;
+use crate::settings::Settings;
 use indexmap::IndexMap;
 use pool_history::{Class, Kind, Lead, NameError, OpenAsk, OpenError, Opened, Rules};
 use prefix_space::Space;
@@ -28,18 +31,16 @@ pub enum SetError {
     Memory,
 }
 
-/// The open channels, the leads that they hold, and the classes that were set for them. Contracts
-/// see the channels in the order of their ids, how many were opened, and for how many more there is
-/// room.
+/// The open channels, and the leads that they hold. Contracts see the channels in the order of their
+/// ids, how many were opened, and for how many more there is room.
 #[derive(Debug, Drop)]
 pub struct Channels {
     opened: u32,
+    /// In whatever order.
     channels: IndexMap<u32, Channel>,
-    /// In the order in which they were set.
-    settings: Vec<Setting>,
     space: Space,
-    /// How many channels each session has open; a session that isn't there has none.
-    counts: IndexMap<u32, u32>,
+    /// The ids of each session's channels, in rising order; a session that isn't there has none.
+    lists: IndexMap<u32, Vec<u32>>,
 }
 
 impl Model for Channels {
@@ -47,25 +48,28 @@ impl Model for Channels {
 
     ghost Value = { ChannelTable };
 
-    ghost use Rattle.std.specs.Prelude.{◌-◌, map, min, reverse, vec_capacity, vec_len};
+    ghost use Rattle.std.specs.Prelude.{map, min};
     ghost use Rattle.indexmap.specs.IndexMap.{spare};
-    ghost use Rattle.channels.specs.Tables.{AreKept, CountsChannels, shown_channel};
+    ghost use Rattle.channels.specs.Orders.{by_id};
+    ghost use Rattle.channels.specs.Tables.{AreKept, ListsChannels, list_rooms, rooms_of, shown_channel};
 
     ghost view = { λ table. record {
       opened = table.opened;
-      open_channels = map (λ entry. shown_channel (reverse table.settings.items) entry.0 entry.1)
-          table.channels.entries;
-      opening_room = min (spare table.channels) (min (spare table.counts) table.space.spare);
-      setting_room = vec_capacity table.settings - vec_len table.settings;
+      open_channels = map (λ entry. shown_channel entry.0 entry.1)
+          (by_id table.channels.entries);
+      opening_room = min (spare table.channels) table.space.spare;
+      session_rooms = list_rooms table.lists.entries;
+      setting_rooms = rooms_of (by_id table.channels.entries);
     } };
 
-    ghost invariant = { λ table. AreKept table.opened (reverse table.settings.items)
-        table.channels.entries table.space.held
-        × CountsChannels table.counts.entries table.channels.entries };
+    ghost invariant = { λ table.
+        AreKept table.opened (by_id table.channels.entries) table.space.held
+        × ListsChannels table.lists.entries (by_id table.channels.entries) };
 }
 
 impl Channels {
-    ghost use Rattle.std.specs.Prelude.{◌≡◌, ◌↔◌, ◌⊎◌, ℕ, ◌≤◌, None, List, [], ◌∷◌, IfErr, IfOk, IsErr, OnErr, OnOk, map};
+    ghost use Rattle.std.specs.Prelude.{◌≡◌, ◌↔◌, ◌⊎◌, ℕ, ◌≤◌, None, List, [], ◌∷◌, IfErr, IfOk, IsErr, IsTrue, OnErr, OnOk, is_some, map, nat_eq};
+    ghost use Rattle.std.specs.Map.{lookup};
     ghost use Rattle.std.specs.Option.{option_copied, option_map};
     ghost use Rattle.pool_history.specs.Accounts.{account_of};
     ghost use Rattle.pool_history.specs.Answering.{account_for};
@@ -74,7 +78,7 @@ impl Channels {
     ghost use Rattle.pool_history.specs.Conditions.{found};
     ghost use Rattle.channels.specs.declared.plan.ChannelPlan.TheVariants as plan;
     ghost use Rattle.channels.specs.Plans.{CanApply, IsDoneUnless, IsNextOpening, IsUnless, MayOpenNext, MaySetClass, planned_move, opened_by, opening_on, opening_plan, plan_for};
-    ghost use Rattle.channels.specs.Tables.{IsTold, ShowsSameChannels, kept_channel, kept_of};
+    ghost use Rattle.channels.specs.Tables.{IsTold, ShowsSameChannels, count_kept, kept_channel, kept_of};
 
     /// No channel is open, and none was.
     pub fn new(alloc: Global) -> Result<Channels, AllocError>
@@ -84,9 +88,8 @@ impl Channels {
         Ok(Channels {
             opened: 0,
             channels: IndexMap::new(alloc),
-            settings: Vec::new(alloc),
             space,
-            counts: IndexMap::new(alloc),
+            lists: IndexMap::new(alloc),
         })
     }
 
@@ -95,7 +98,7 @@ impl Channels {
         ensures { option_map kept_of (option_copied result)
             ≡ option_map kept_channel (channel_in self.now.open_channels channel) }
     {
-        self.channels.get(&channel)
+        kept_under(&self.channels, channel)
     }
 
     /// A session's open channel; none where it isn't open, or is another session's.
@@ -113,13 +116,8 @@ impl Channels {
             ≡ option_map (λ shown. class_at shown live_at)
             (channel_in self.now.open_channels channel) }
     {
-        match self.channels.get(&channel) {
-            Some(there) => Some(class_at_place(
-                &self.settings,
-                channel,
-                live_at,
-                there.opening_class,
-            )),
+        match kept_under(&self.channels, channel) {
+            Some(there) => Some(there.settings.class_at(live_at, there.opening_class)),
             None => None,
         }
     }
@@ -129,7 +127,7 @@ impl Channels {
         ensures { IfOk result (λ ids. ids.items
             ≡ map (λ shown. shown.id) (channels_in self.now.open_channels session)) }
     {
-        ids_of(*self.settings.allocator(), &self.channels, session)
+        ids_of(&self.lists, session)
     }
 
     /// Closes an open channel of a session, and gives its lead back.
@@ -140,12 +138,11 @@ impl Channels {
             → IsTold self.new (Closes channel ∷ moves)) }
         ensures refused { OnErr result (self.new ≡ self.old) }
     {
-        let Some(lead) = own_lead(&self.channels, session, channel) else {
+        let Some(_lead) = own_lead(&self.channels, session, channel) else {
             return Err(NotOpen);
         };
-        self.channels.shift_remove(&channel);
-        self.space.give(lead);
-        count_closing(&mut self.counts, session);
+        close_kept(&mut self.channels, &mut self.space, channel);
+        unlist(&mut self.lists, session, channel);
         Ok(())
     }
 
@@ -154,9 +151,10 @@ impl Channels {
         ensures { (moves : List ChannelMove) → IsTold self.old moves
             → IsTold self.new (Leaves session ∷ moves) }
     {
-        give_leads(&self.channels, session, &mut self.space);
-        drop_session(&mut self.channels, session);
-        forget_count(&mut self.counts, session);
+        // Says that no id is kept twice.
+        let _count = self.channels.len();
+        let ids = take_list(&mut self.lists, session);
+        close_all(&mut self.channels, &mut self.space, ids);
     }
 
     /// Opens a channel of a session, at a place of the history.
@@ -273,7 +271,7 @@ impl Channels {
         if let Some(refusal) = name_refusal(&self.channels, session, channel, account, rules) {
             return Err(refusal);
         }
-        let Ok(account) = Str255::of(*self.settings.allocator(), account) else {
+        let Ok(account) = Str255::of(*self.channels.allocator(), account) else {
             return Err(NameError::Memory);
         };
         Ok(ChannelPlan::Name { channel, account })
@@ -296,7 +294,7 @@ impl Channels {
         let Some(_lead) = own_lead(&self.channels, session, channel) else {
             return Err(SetError::NotOpen);
         };
-        let Ok(()) = self.settings.reserve(1) else {
+        let Ok(()) = self.make_class_room(channel) else {
             return Err(SetError::Memory);
         };
         Ok(ChannelPlan::Class { at, channel, class })
@@ -334,7 +332,7 @@ impl Channels {
         ensures value { result ≡ opening_on self.now rules.now session ask.now }
         ensures next { IfOk result (λ opened. IsNextOpening self.now session ask.now.kind opened) }
     {
-        let count = count_of(&self.counts, session);
+        let count = count_of(&self.lists, session);
         if let Some(refusal) = opening_refusal(rules, count, self.opened, ask) {
             return Err(refusal);
         }
@@ -369,24 +367,35 @@ impl Channels {
             Ok(opened) => opened,
             Err(refusal) => return Err(refusal),
         };
-        let alloc = *self.settings.allocator();
+        let alloc = *self.channels.allocator();
         let Ok(account) = opening_account(alloc, ask.kind, ask.identity.text()) else {
             return Err(OpenError::Memory);
         };
-        let Ok(()) = self.make_room() else {
+        let Ok(()) = self.make_room(session) else {
             return Err(OpenError::Memory);
         };
         Ok((opened, account))
     }
 
-    /// Room for an opening.
-    fn make_room(&mut self) -> Result<(), AllocError>
+    /// Room for an opening of a session.
+    fn make_room(&mut self, session: u32) -> Result<(), AllocError>
         ensures same { ShowsSameChannels self.old self.new }
         ensures room { OnOk result (1 ≤ self.new.opening_room) }
+        ensures listed { OnOk result
+            (1 ≤ count_kept (lookup (nat_eq session) self.new.session_rooms)) }
     {
         self.channels.reserve(1)?;
-        self.counts.reserve(1)?;
+        reserve_listing(&mut self.lists, session)?;
         self.space.reserve()
+    }
+
+    /// Room for a class that is set for an open channel.
+    fn make_class_room(&mut self, channel: u32) -> Result<(), AllocError>
+        requires { IsTrue (is_some (channel_in self.old.open_channels channel)) }
+        ensures same { ShowsSameChannels self.old self.new }
+        ensures ready { OnOk result (MaySetClass self.new channel) }
+    {
+        reserve_class(&mut self.channels, channel)
     }
 
     /// Opens a channel, for which there is room.
@@ -396,7 +405,8 @@ impl Channels {
         ensures told { (at : ℕ) (moves : List ChannelMove) → IsTold self.old moves
             → IsTold self.new (Opens at session kind account opened.class opened.lead ∷ moves) }
     {
-        count_opening(&mut self.counts, session);
+        let alloc = *self.channels.allocator();
+        list_opening(&mut self.lists, session, opened.channel);
         hold(&mut self.space, opened.lead);
         let channel = Channel {
             session,
@@ -405,6 +415,7 @@ impl Channels {
             lead: opened.lead,
             opening_class: opened.class,
             class: opened.class,
+            settings: Settings::new(alloc),
         };
         put_channel(&mut self.channels, opened.channel, channel);
         self.opened = opened.channel;
@@ -425,8 +436,7 @@ impl Channels {
         ensures { (moves : List ChannelMove) → IsTold self.old moves
             → IsTold self.new (Sets at channel class ∷ moves) }
     {
-        put_class(&mut self.channels, channel, class);
-        self.settings.push_reserved(Setting { channel, at, class });
+        put_class(&mut self.channels, channel, at, class);
     }
 }
 
@@ -440,62 +450,32 @@ pub fn spaces_apart(channels: &Channels, a: u32, b: u32)
 }
 
 ghost use Rattle.std.specs.Option.{option_copied};
-ghost use Rattle.std.specs.Prelude.{◌≡◌, ◌≤◌, ◌==◌, ◌&&◌, None, IfOk, filter, find, length, map, nat_eq, nat_lt, not, reverse};
+ghost use Rattle.std.specs.Prelude.{◌≡◌, ◌≤◌, ◌==◌, ◌&&◌, None, length, nat_eq, not};
 ghost use Rattle.std.specs.Str.{bytes_eq};
 ghost use Rattle.pool_history.specs.Accounts.{is_empty};
 ghost use Rattle.channels.specs.Plans.{naming_refusal};
-ghost use Rattle.pool_history.specs.Channels.{class_before};
-ghost use Rattle.indexmap.specs.IndexMap.{IsUnique, get};
-ghost use Rattle.channels.specs.Tables.{AreSpacesApart, channel_if_own, lead_if_own, sets_of};
+ghost use Rattle.std.specs.List.{IsDistinct};
+ghost use Rattle.std.specs.Map.{keys_of, lookup};
+ghost use Rattle.channels.specs.Orders.{by_id};
+ghost use Rattle.channels.specs.Tables.{AreSpacesApart, channel_if_own, lead_if_own};
 
-/// The last setting of a channel before a place.
-fn last_before(settings: &[Setting], channel: u32, place: u64) -> Option<&Setting>
-    ensures { option_copied result
-        ≡ find (λ setting. setting.channel == channel && nat_lt setting.at place)
-        (reverse settings.now) }
+/// What is kept under an id.
+fn kept_under(channels: &IndexMap<u32, Channel>, id: u32) -> Option<&Channel>
+    ensures value { option_copied result ≡ lookup (nat_eq id) (by_id channels.now.entries) }
+    ensures unique { IsDistinct nat_eq (keys_of (by_id channels.now.entries)) }
 {
-    settings
-        .iter()
-        .rev()
-        .find(|setting| setting.channel == channel && setting.at < place)
-}
-
-/// The last class that was set for a channel before a place, or else that of its opening.
-fn class_at_place(settings: &[Setting], channel: u32, place: u64, opening: Class) -> Class
-    ensures { result ≡ class_before place (sets_of channel (reverse settings.now)) opening }
-{
-    match last_before(settings, channel, place) {
-        Some(setting) => setting.class,
-        None => opening,
-    }
-}
-
-/// The ids of a session's channels.
-fn ids_of(
-    alloc: Global,
-    channels: &IndexMap<u32, Channel>,
-    session: u32,
-) -> Result<Vec<u32>, AllocError>
-    ensures { IfOk result (λ ids. ids.items
-        ≡ map (λ entry. entry.0) (filter (λ entry. entry.1.session == session)
-        channels.now.entries)) }
-{
-    channels
-        .iter()
-        .filter(|(_, channel)| channel.session == session)
-        .map(|(id, _)| *id)
-        .collect(alloc)
+    // Says that no id is kept twice.
+    let _count = channels.len();
+    channels.get(&id)
 }
 
 /// A session's channel; none where the session has no such channel.
 fn own_channel(channels: &IndexMap<u32, Channel>, session: u32, channel: u32) -> Option<&Channel>
     ensures value { option_copied result
-        ≡ channel_if_own session (get nat_eq channels.now channel) }
-    ensures unique { IsUnique nat_eq channels.now }
+        ≡ channel_if_own session (lookup (nat_eq channel) (by_id channels.now.entries)) }
+    ensures unique { IsDistinct nat_eq (keys_of (by_id channels.now.entries)) }
 {
-    // Says that no id is kept twice.
-    let _count = channels.len();
-    match channels.get(&channel) {
+    match kept_under(channels, channel) {
         Some(there) => {
             if there.session == session {
                 Some(there)
@@ -509,8 +489,9 @@ fn own_channel(channels: &IndexMap<u32, Channel>, session: u32, channel: u32) ->
 
 /// The lead of a session's channel; none where the session has no such channel.
 fn own_lead(channels: &IndexMap<u32, Channel>, session: u32, channel: u32) -> Option<Lead>
-    ensures value { result ≡ lead_if_own session (get nat_eq channels.now channel) }
-    ensures unique { IsUnique nat_eq channels.now }
+    ensures value { result
+        ≡ lead_if_own session (lookup (nat_eq channel) (by_id channels.now.entries)) }
+    ensures unique { IsDistinct nat_eq (keys_of (by_id channels.now.entries)) }
 {
     match own_channel(channels, session, channel) {
         Some(there) => Some(there.lead),
@@ -527,13 +508,11 @@ fn name_refusal(
     rules: &Rules,
 ) -> Option<NameError>
     ensures refusal { result ≡ naming_refusal rules.now account.now session
-        (get nat_eq channels.now channel) }
+        (lookup (nat_eq channel) (by_id channels.now.entries)) }
     ensures short { result ≡ None → length account.now ≤ 255 }
-    ensures unique { IsUnique nat_eq channels.now }
+    ensures unique { IsDistinct nat_eq (keys_of (by_id channels.now.entries)) }
 {
-    // Says that no id is kept twice.
-    let _count = channels.len();
-    match channels.get(&channel) {
+    match kept_under(channels, channel) {
         Some(there) => {
             if there.session != session {
                 Some(NameError::NotOpen)

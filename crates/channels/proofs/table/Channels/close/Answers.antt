@@ -1,86 +1,61 @@
-use Rattle.std.proofs.Common.{◌≡◌, ℕ, ◌+◌, arith, cond, true, None, Some, List, reverse, refl, ap, subst, sym, ◌∙◌}
+use Rattle.std.proofs.Common.{◌≡◌, ℕ, None, Some, List, refl, ap, subst, sym, ◌∙◌}
 use Rattle.std.proofs.Math.Dec.{eqb}
 use Rattle.std.proofs.lemmas.Bool.{false≢true}
 use Rattle.std.specs.Prelude.{filter, not}
-use Rattle.std.specs.Map.{lookup, remove_entry}
+use Rattle.std.specs.Map.{lookup}
 use Rattle.history_laws.proofs.Legalities.{some-none}
 use Rattle.pool_history.specs.Channels.{channel_in, channels_in}
-use Rattle.prefix_space.specs.HeldLeads.{is_held}
 use Rattle.channels.specs.declared.channel.Channel.{Channel}
-use Rattle.channels.specs.declared.channel.Setting.{Setting}
-use Rattle.channels.specs.Tables.{CountsChannels, AreKept, count_kept, shown_channel}
-use Rattle.channels.proofs.Closings.{IsOwn, closed-kept, found-held, leads_of, own-lead, own-none, own-session, own-shown, remove-shown}
-use Rattle.channels.proofs.Counting.{closed-counted, count-removed, own_count}
+use Rattle.channels.specs.Orders.{by_id}
+use Rattle.channels.specs.Tables.{AreKept, HoldsLeads, ListsChannels, shown_channel}
+use Rattle.channels.proofs.Closings.{IsOwn, closed-kept, own-lead, own-none, own-session, own-shown, remove-shown}
 use Rattle.channels.proofs.Lookups.{shown_all}
+use Rattle.channels.proofs.OwnChannels.{removed-listed}
 use Rattle.channels.proofs.table.Channels.close.Goals as goal
-use Rattle.channels.proofs.table.Channels.close.Goals.{In_default}
 
 pub returns-in_default-clause-not_open : goal.returns-in_default-clause-not_open
 returns-in_default-clause-not_open c =
-    let settings : List Setting = reverse c.self.inside.settings.items in
-    let entries : List (ℕ × Channel) = c.self.inside.channels.entries in
+    let entries : List (ℕ × Channel) = by_id c.self.inside.channels.entries in
     let none : channel_in (channels_in c.args.self.now.open_channels c.args.session) c.args.channel ≡ None =
     sym (ap (λ table. channel_in (channels_in table.open_channels c.args.session) c.args.channel) c.self.view_is)
-    ∙ own-shown settings c.args.session c.args.channel entries c.own_lead.ensures.unique
-    ∙ own-none settings c.args.session c.args.channel (lookup (eqb c.args.channel) entries) (sym c.own_lead.ensures.value ∙ c.in_default.is) in
+    ∙ own-shown c.args.session c.args.channel entries c.own_lead.ensures.unique
+    ∙ own-none c.args.session c.args.channel (lookup (eqb c.args.channel) entries) (sym c.own_lead.ensures.value ∙ c.in_default.is) in
     (λ failed. none, λ is. refl)
 
-pub give-requires : goal.give-requires
-give-requires c =
-    let entries : List (ℕ × Channel) = c.self.inside.channels.entries in
-    let own : IsOwn (reverse c.self.inside.settings.items) c.args.session c.args.channel (lookup (eqb c.args.channel) entries) c.in-Some.lead =
-    own-lead (reverse c.self.inside.settings.items) c.args.session c.args.channel (lookup (eqb c.args.channel) entries) c.in-Some.lead
-    (sym c.own_lead.ensures.value ∙ c.in-Some.is) in
-    c.self.invariant.0.leads c.in-Some.lead
-    ∙ subst (λ l. is_held (leads_of entries) l ≡ true) own.lead_is (found-held c.args.channel own.channel entries own.is)
-
-pub count_closing-requires : goal.count_closing-requires
-count_closing-requires c =
-    let settings : List Setting = reverse c.self.inside.settings.items in
-    let entries : List (ℕ × Channel) = c.self.inside.channels.entries in
-    let own : IsOwn settings c.args.session c.args.channel (lookup (eqb c.args.channel) entries) c.in-Some.lead =
-    own-lead settings c.args.session c.args.channel (lookup (eqb c.args.channel) entries) c.in-Some.lead
-    (sym c.own_lead.ensures.value ∙ c.in-Some.is) in
-    let removed : own_count c.args.session entries ≡ own_count c.args.session (remove_entry (eqb c.args.channel) entries) + 1 =
-    count-removed c.args.session c.args.channel own.channel entries own.is ∙ ap (λ t. own_count c.args.session (remove_entry (eqb c.args.channel) entries) + cond t 1 0) (own-session own) in
-    let counted : count_kept (lookup (eqb c.args.session) c.self.inside.counts.entries) ≡ own_count c.args.session entries = c.self.invariant.1 c.args.session in
-    omega (arith, removed, counted)
+pub close_kept-requires : goal.close_kept-requires
+close_kept-requires c = c.self.invariant.0.holds
 
 pub invariant_of-self : goal.invariant_of-self
 invariant_of-self c =
-    let settings : List Setting = reverse c.self.inside.settings.items in
-    let entries : List (ℕ × Channel) = c.self.inside.channels.entries in
-    let own : IsOwn settings c.args.session c.args.channel (lookup (eqb c.args.channel) entries) c.in-Some.lead =
-    own-lead settings c.args.session c.args.channel (lookup (eqb c.args.channel) entries) c.in-Some.lead
+    let entries : List (ℕ × Channel) = by_id c.self.inside.channels.entries in
+    let own : IsOwn c.args.session c.args.channel (lookup (eqb c.args.channel) entries) c.in-Some._lead =
+    own-lead c.args.session c.args.channel (lookup (eqb c.args.channel) entries) c.in-Some._lead
     (sym c.own_lead.ensures.value ∙ c.in-Some.is) in
-    subst (λ es. AreKept c.self.inside.opened settings es c.give.new.self.held × CountsChannels c.count_closing.new.counts.entries es) (sym c.shift_remove.ensures.entries) (
-      closed-kept c.self.inside.opened settings entries c.self.inside.space.held c.give.new.self.held c.args.session c.args.channel c.in-Some.lead
-          c.self.invariant.0 own c.give.ensures.held c.give.ensures.gone,
-      λ session.
-          closed-counted session c.args.session c.args.channel own.channel entries (own-session own) own.is
-          (count_kept (lookup (eqb session) c.count_closing.new.counts.entries)) (sym (c.count_closing.ensures session) ∙ c.self.invariant.1 session),
+    subst (λ es. AreKept c.self.inside.opened es c.close_kept.new.space.held × ListsChannels c.unlist.new.lists.entries es) (sym c.close_kept.ensures.closed) (
+      closed-kept c.self.inside.opened entries c.self.inside.space.held c.close_kept.new.space.held c.args.channel c.self.invariant.0
+          (subst (λ es. HoldsLeads c.close_kept.new.space.held es) c.close_kept.ensures.closed c.close_kept.ensures.held),
+      removed-listed c.self.inside.lists.entries c.unlist.new.lists.entries c.args.session c.args.channel own.channel entries c.unlist.ensures
+          c.own_lead.ensures.unique (own-session own) own.is c.self.invariant.1,
     )
 
 pub returns-clause-not_open : goal.returns-clause-not_open
 returns-clause-not_open c =
-    let settings : List Setting = reverse c.self.inside.settings.items in
-    let entries : List (ℕ × Channel) = c.self.inside.channels.entries in
-    let own : IsOwn settings c.args.session c.args.channel (lookup (eqb c.args.channel) entries) c.in-Some.lead =
-    own-lead settings c.args.session c.args.channel (lookup (eqb c.args.channel) entries) c.in-Some.lead
+    let entries : List (ℕ × Channel) = by_id c.self.inside.channels.entries in
+    let own : IsOwn c.args.session c.args.channel (lookup (eqb c.args.channel) entries) c.in-Some._lead =
+    own-lead c.args.session c.args.channel (lookup (eqb c.args.channel) entries) c.in-Some._lead
     (sym c.own_lead.ensures.value ∙ c.in-Some.is) in
-    let there : channel_in (channels_in c.args.self.now.open_channels c.args.session) c.args.channel ≡ Some (shown_channel settings c.args.channel own.channel) =
+    let there : channel_in (channels_in c.args.self.now.open_channels c.args.session) c.args.channel ≡ Some (shown_channel c.args.channel own.channel) =
     sym (ap (λ table. channel_in (channels_in table.open_channels c.args.session) c.args.channel) c.self.view_is)
-    ∙ own-shown settings c.args.session c.args.channel entries c.own_lead.ensures.unique ∙ own.own in
+    ∙ own-shown c.args.session c.args.channel entries c.own_lead.ensures.unique ∙ own.own in
     (λ failed. absurd (false≢true failed), λ none. absurd (some-none (sym there ∙ none)))
 
 pub returns-clause-told : goal.returns-clause-told
 returns-clause-told c moves told =
-    let settings : List Setting = reverse c.self.inside.settings.items in
-    let entries : List (ℕ × Channel) = c.self.inside.channels.entries in
+    let entries : List (ℕ × Channel) = by_id c.self.inside.channels.entries in
     record {
       opened_are = ap (λ table. table.opened) c.self.view_is ∙ told.opened_are;
       channels_are =
-          ap (shown_all settings) c.shift_remove.ensures.entries
-          ∙ remove-shown settings c.args.channel entries c.own_lead.ensures.unique
+          ap (shown_all) c.close_kept.ensures.closed
+          ∙ remove-shown c.args.channel entries c.own_lead.ensures.unique
           ∙ ap (filter (λ channel. not (eqb channel.id c.args.channel))) (ap (λ table. table.open_channels) c.self.view_is ∙ told.channels_are);
     }

@@ -1,30 +1,40 @@
-use Rattle.std.proofs.Common.{List, filter, not, reverse, ap, subst, sym, ◌∙◌, ℕ, cond}
+use Rattle.std.proofs.Common.{◌≡◌, ℕ, List, filter, not, ap, subst, sym, ◌∙◌}
 use Rattle.std.proofs.Math.Dec.{eqb}
 use Rattle.channels.specs.declared.channel.Channel.{Channel}
-use Rattle.channels.specs.declared.channel.Setting.{Setting}
-use Rattle.channels.specs.Tables.{CountsChannels, AreKept}
-use Rattle.channels.proofs.Counting.{count-left}
-use Rattle.channels.proofs.Leaving.{left-kept, shown-left}
+use Rattle.channels.specs.Orders.{by_id}
+use Rattle.channels.specs.Tables.{AreKept, HoldsLeads, ListsChannels, without_ids, without_session}
+use Rattle.channels.proofs.Leaving.{left-kept, shown-left, without-own}
 use Rattle.channels.proofs.Lookups.{shown_all}
+use Rattle.channels.proofs.Ordering.{distinct-rising, rising-by_id}
+use Rattle.channels.proofs.OwnChannels.{left-listed}
 use Rattle.channels.proofs.table.Channels.leave.Goals as goal
+
+pub close_all-requires : goal.close_all-requires
+close_all-requires c = c.self.invariant.0.holds
 
 pub invariant_of-self : goal.invariant_of-self
 invariant_of-self c =
-    let settings : List Setting = reverse c.self.inside.settings.items in
-    let entries : List (ℕ × Channel) = c.self.inside.channels.entries in
-    subst (λ es. AreKept c.self.inside.opened settings es c.give_leads.new.space.held × CountsChannels c.forget_count.new.counts.entries es) (sym c.drop_session.ensures) (
-      left-kept c.self.inside.opened settings entries c.self.inside.space.held c.give_leads.new.space.held c.args.session c.self.invariant.0 c.give_leads.ensures,
-      λ session.
-          c.forget_count.ensures session ∙ ap (λ n. cond (eqb c.args.session session) 0 n) (c.self.invariant.1 session)
-          ∙ sym (count-left session c.args.session entries),
+    let entries : List (ℕ × Channel) = by_id c.self.inside.channels.entries in
+    let left : by_id c.close_all.new.channels.entries ≡ without_session c.args.session entries =
+    c.close_all.ensures.closed
+    ∙ ap (λ ids. without_ids ids entries) (c.take_list-ids.ensures.taken ∙ c.self.invariant.1.listed c.args.session)
+    ∙ without-own c.args.session entries (distinct-rising entries (rising-by_id c.self.inside.channels.entries c.len-count.ensures.unique)) in
+    subst (λ es. AreKept c.self.inside.opened es c.close_all.new.space.held × ListsChannels c.take_list-ids.new.lists.entries es) (sym left) (
+      left-kept c.self.inside.opened entries c.self.inside.space.held c.close_all.new.space.held c.args.session c.self.invariant.0
+          (subst (λ es. HoldsLeads c.close_all.new.space.held es) left c.close_all.ensures.held),
+      left-listed c.self.inside.lists.entries c.take_list-ids.new.lists.entries c.args.session entries c.take_list-ids.ensures.others c.self.invariant.1,
     )
 
 pub returns : goal.returns
 returns c moves told =
-    let settings : List Setting = reverse c.self.inside.settings.items in
+    let entries : List (ℕ × Channel) = by_id c.self.inside.channels.entries in
+    let left : by_id c.close_all.new.channels.entries ≡ without_session c.args.session entries =
+    c.close_all.ensures.closed
+    ∙ ap (λ ids. without_ids ids entries) (c.take_list-ids.ensures.taken ∙ c.self.invariant.1.listed c.args.session)
+    ∙ without-own c.args.session entries (distinct-rising entries (rising-by_id c.self.inside.channels.entries c.len-count.ensures.unique)) in
     record {
       opened_are = ap (λ table. table.opened) c.self.view_is ∙ told.opened_are;
       channels_are =
-          ap (shown_all settings) c.drop_session.ensures ∙ shown-left settings c.args.session c.self.inside.channels.entries
+          ap shown_all left ∙ shown-left c.args.session entries
           ∙ ap (filter (λ channel. not (eqb channel.session c.args.session))) (ap (λ table. table.open_channels) c.self.view_is ∙ told.channels_are);
     }

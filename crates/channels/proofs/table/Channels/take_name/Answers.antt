@@ -1,29 +1,28 @@
-use Rattle.std.proofs.Common.{List, map, reverse, refl, ap, subst, sym, ◌∙◌, ℕ}
+use Rattle.std.proofs.Common.{List, map, refl, ap, subst, sym, ◌∙◌, ℕ}
 use Rattle.pool_history.specs.Channels.{with_name}
 use Rattle.channels.specs.declared.channel.Channel.{Channel}
-use Rattle.channels.specs.declared.channel.Setting.{Setting}
-use Rattle.channels.specs.Tables.{CountsChannels, AreKept, named_channel}
-use Rattle.channels.proofs.Changing.{named-kept, shown-named}
-use Rattle.channels.proofs.Counting.{count-changed}
+use Rattle.channels.specs.Orders.{by_id}
+use Rattle.channels.specs.Tables.{ListsChannels, AreKept, named_channel}
+use Rattle.channels.proofs.Changing.{changed-kept, named-class, shown-named}
+use Rattle.channels.proofs.OwnChannels.{changed-listed}
 use Rattle.channels.proofs.Lookups.{shown_all}
 use Rattle.channels.proofs.table.Channels.take_name.Goals as goal
 
 pub invariant_of-self : goal.invariant_of-self
 invariant_of-self c =
-    let settings : List Setting = reverse c.self.inside.settings.items in
-    let entries : List (ℕ × Channel) = c.self.inside.channels.entries in
-    subst (λ es. AreKept c.self.inside.opened settings es c.self.inside.space.held × CountsChannels c.self.inside.counts.entries es) (sym c.put_account.ensures.entries) (
-      named-kept c.self.inside.opened settings entries c.self.inside.space.held c.args.channel c.args.account c.self.invariant.0,
-      λ session. c.self.invariant.1 session ∙ sym (count-changed (named_channel c.args.account) c.args.channel session (λ kept. refl) entries),
+    let entries : List (ℕ × Channel) = by_id c.self.inside.channels.entries in
+    subst (λ es. AreKept c.self.inside.opened es c.self.inside.space.held × ListsChannels c.self.inside.lists.entries es) (sym c.put_account.ensures) (
+      changed-kept (named_channel c.args.account) c.self.inside.opened c.args.channel entries c.self.inside.space.held (λ kept. refl)
+          (named-class c.args.account) c.self.invariant.0,
+      changed-listed (named_channel c.args.account) c.args.channel c.self.inside.lists.entries entries (λ kept. refl) c.self.invariant.1,
     )
 
 pub returns : goal.returns
 returns c moves told =
-    let settings : List Setting = reverse c.self.inside.settings.items in
     record {
       opened_are = ap (λ table. table.opened) c.self.view_is ∙ told.opened_are;
       channels_are =
-          ap (shown_all settings) c.put_account.ensures.entries
-          ∙ shown-named settings c.args.channel c.args.account c.self.inside.channels.entries
+          ap (shown_all) c.put_account.ensures
+          ∙ shown-named c.args.channel c.args.account (by_id c.self.inside.channels.entries)
           ∙ ap (map (with_name c.args.channel c.args.account)) (ap (λ table. table.open_channels) c.self.view_is ∙ told.channels_are);
     }

@@ -1,42 +1,43 @@
-use Rattle.std.proofs.Common.{◌≡◌, ℕ, ◌+◌, ◌<◌, cond, true, List, [], ◌∷◌, ◌++◌, length, map, reverse, refl, ap, subst, sym, ◌∙◌, arith}
+use Rattle.std.proofs.Common.{◌≡◌, ℕ, ◌+◌, ◌<◌, ◌≤◌, true, List, [], ◌∷◌, ◌++◌, length, map, refl, ap, subst, sym, ◌∙◌, arith}
 use Rattle.std.proofs.Math.Dec.{eqb}
+use Rattle.std.specs.List.{AllByRecursion}
 use Rattle.std.specs.Map.{lookup}
+use Rattle.pool_history.proofs.PlacesOfClasses.{all-weaken}
 use Rattle.pool_history.specs.Channels.{OpenChannel, channels_told}
 use Rattle.pool_history.specs.Spaces.{is_free, lowest}
 use Rattle.channels.specs.declared.channel.Channel.{Channel}
-use Rattle.channels.specs.declared.channel.Setting.{Setting}
 use Rattle.pool_history.specs.Refusing.{has_too_many_among}
-use Rattle.channels.specs.Tables.{CountsChannels, AreKept}
+use Rattle.channels.specs.Orders.{by_id}
+use Rattle.channels.specs.Tables.{AreKept, ListsChannels, count_kept, own_ids, room_of_list}
 use Rattle.channels.proofs.Changing.{same-facts}
-use Rattle.channels.proofs.Counting.{count-joined, few-counted, own_count}
+use Rattle.channels.proofs.Ordering.{lookup-mapped}
+use Rattle.channels.proofs.OwnChannels.{few-shown, joined-listed}
 use Rattle.channels.proofs.Closings.{leads_of}
-use Rattle.channels.proofs.Joining.{held-lowest, joined-kept, later-absent, leads-shown, lowest-free, shown-joined}
+use Rattle.channels.proofs.Joining.{held-lowest, joined-kept, leads-shown, lowest-free, shown-joined}
 use Rattle.channels.proofs.Lookups.{shown_all}
 use Rattle.channels.proofs.table.Channels.take_opening.Goals as goal
 
-pub count_opening-requires-clause-few : goal.count_opening-requires-clause-few
-count_opening-requires-clause-few c =
-    let settings : List Setting = reverse c.self.inside.settings.items in
-    let few : own_count c.args.session c.self.inside.channels.entries < 1024 =
-    few-counted settings c.args.session c.self.inside.opened c.self.inside.channels.entries
-    (ap (λ table. has_too_many_among table.open_channels table.opened c.args.session) c.self.view_is ∙ c.requires.opening.few) in
-    omega (arith, few, c.self.invariant.1 c.args.session)
+pub list_opening-requires : goal.list_opening-requires
+list_opening-requires c =
+    subst (λ n. 1 ≤ n)
+    (ap (λ table. count_kept (lookup (eqb c.args.session) table.session_rooms)) (sym c.self.view_is)
+    ∙ ap count_kept (lookup-mapped room_of_list c.args.session c.self.inside.lists.entries)) c.requires.listed
 
 pub hold-requires-clause-lowest : goal.hold-requires-clause-lowest
 hold-requires-clause-lowest c =
-    let settings : List Setting = reverse c.self.inside.settings.items in
-    held-lowest (length c.args.opened.lead) settings c.self.inside.channels.entries c.self.inside.space.held c.self.invariant.0.leads
+    held-lowest (length c.args.opened.lead) (by_id c.self.inside.channels.entries) c.self.inside.space.held c.self.invariant.0.holds.leads
     ∙ ap (λ table. lowest (length c.args.opened.lead) (map (λ channel. channel.lead) table.open_channels)) c.self.view_is ∙ c.requires.opening.lead_is
 
-pub put_channel-requires-clause-new : goal.put_channel-requires-clause-new
-put_channel-requires-clause-new c =
+pub put_channel-requires-clause-above : goal.put_channel-requires-clause-above
+put_channel-requires-clause-above c =
     let next : c.args.opened.channel ≡ c.self.inside.opened + 1 = c.requires.opening.next ∙ sym (ap (λ table. table.opened + 1) c.self.view_is) in
-    ap (λ id. lookup (eqb id) c.self.inside.channels.entries) next ∙ later-absent c.self.inside.opened c.self.inside.channels.entries c.self.invariant.0.ids
+    subst (λ id. AllByRecursion (λ e. e.0 < id) (by_id c.self.inside.channels.entries)) (sym next)
+    (all-weaken (λ e. e.0 ≤ c.self.inside.opened) (λ e. e.0 < c.self.inside.opened + 1) (λ e below. omega (arith, below)) (by_id c.self.inside.channels.entries)
+    c.self.invariant.0.ids)
 
 pub invariant_of-self : goal.invariant_of-self
 invariant_of-self c =
-    let settings : List Setting = reverse c.self.inside.settings.items in
-    let entries : List (ℕ × Channel) = c.self.inside.channels.entries in
+    let entries : List (ℕ × Channel) = by_id c.self.inside.channels.entries in
     let channel : Channel = record {
       session = c.args.session;
       kind = c.args.kind;
@@ -44,27 +45,30 @@ invariant_of-self c =
       lead = c.args.opened.lead;
       opening_class = c.args.opened.class;
       class = c.args.opened.class;
+      settings = c.new.result;
       standard_is_whole = c.requires.opening.whole;
     } in
-    let put : c.put_channel.new.channels.entries ≡ entries ++ (c.args.opened.channel, channel) ∷ [] =
+    let put : by_id c.put_channel.new.channels.entries ≡ entries ++ (c.args.opened.channel, channel) ∷ [] =
     c.put_channel.ensures ∙ ap (λ k. entries ++ (c.args.opened.channel, k) ∷ []) (sym (same-facts channel _)) in
     let next : c.args.opened.channel ≡ c.self.inside.opened + 1 = c.requires.opening.next ∙ sym (ap (λ table. table.opened + 1) c.self.view_is) in
     let free : is_free (leads_of entries) c.args.opened.lead ≡ true =
     lowest-free entries c.args.opened.lead
-    (ap (lowest (length c.args.opened.lead)) (sym (leads-shown settings entries))
+    (ap (lowest (length c.args.opened.lead)) (sym (leads-shown entries))
     ∙ ap (λ table. lowest (length c.args.opened.lead) (map (λ channel. channel.lead) table.open_channels)) c.self.view_is ∙ c.requires.opening.lead_is) in
-    subst (λ es. AreKept c.args.opened.channel settings es c.hold.new.space.held × CountsChannels c.count_opening.new.counts.entries es) (sym put) (
-      subst (λ id. AreKept id settings (entries ++ (id, channel) ∷ []) c.hold.new.space.held) (sym next)
-          (joined-kept c.self.inside.opened settings entries c.self.inside.space.held c.hold.new.space.held channel refl free c.hold.ensures c.self.invariant.0),
-      λ session.
-          c.count_opening.ensures session ∙ ap (λ n. n + cond (eqb c.args.session session) 1 0) (c.self.invariant.1 session)
-          ∙ sym (count-joined session entries (c.args.opened.channel, channel)),
+    let few : length (own_ids c.args.session entries) < 1024 =
+    few-shown c.args.session c.self.inside.opened entries
+    (ap (λ table. has_too_many_among table.open_channels table.opened c.args.session) c.self.view_is ∙ c.requires.opening.few) in
+    subst (λ es. AreKept c.args.opened.channel es c.hold.new.space.held × ListsChannels c.list_opening.new.lists.entries es) (sym put) (
+      subst (λ id. AreKept id (entries ++ (id, channel) ∷ []) c.hold.new.space.held) (sym next)
+          (joined-kept c.self.inside.opened entries c.self.inside.space.held c.hold.new.space.held channel refl c.new.ensures free c.hold.ensures
+          c.self.invariant.0),
+      joined-listed c.self.inside.lists.entries c.list_opening.new.lists.entries entries (c.args.opened.channel, channel) c.list_opening.ensures few
+          c.self.invariant.1,
     )
 
 pub returns-clause-told : goal.returns-clause-told
 returns-clause-told c at moves told =
-    let settings : List Setting = reverse c.self.inside.settings.items in
-    let entries : List (ℕ × Channel) = c.self.inside.channels.entries in
+    let entries : List (ℕ × Channel) = by_id c.self.inside.channels.entries in
     let channel : Channel = record {
       session = c.args.session;
       kind = c.args.kind;
@@ -72,16 +76,17 @@ returns-clause-told c at moves told =
       lead = c.args.opened.lead;
       opening_class = c.args.opened.class;
       class = c.args.opened.class;
+      settings = c.new.result;
       standard_is_whole = c.requires.opening.whole;
     } in
-    let put : c.put_channel.new.channels.entries ≡ entries ++ (c.args.opened.channel, channel) ∷ [] =
+    let put : by_id c.put_channel.new.channels.entries ≡ entries ++ (c.args.opened.channel, channel) ∷ [] =
     c.put_channel.ensures ∙ ap (λ k. entries ++ (c.args.opened.channel, k) ∷ []) (sym (same-facts channel _)) in
     let next : c.args.opened.channel ≡ c.self.inside.opened + 1 = c.requires.opening.next ∙ sym (ap (λ table. table.opened + 1) c.self.view_is) in
     record {
       opened_are = c.requires.opening.next ∙ ap (λ n. n + 1) told.opened_are;
       channels_are =
-          ap (shown_all settings) put ∙ ap (λ id. shown_all settings (entries ++ (id, channel) ∷ [])) next
-          ∙ shown-joined c.self.inside.opened settings entries channel c.self.invariant.0.settings_are
+          ap (shown_all) put ∙ ap (λ id. shown_all (entries ++ (id, channel) ∷ [])) next
+          ∙ shown-joined c.self.inside.opened entries channel c.new.ensures
           ∙ ap (λ table. table.open_channels ++ shown channel (table.opened + 1) ∷ []) c.self.view_is
           ∙ ap (λ l. l ++ shown channel (c.args.self.now.opened + 1) ∷ []) told.channels_are
           ∙ ap (λ n. channels_told moves ++ shown channel (n + 1) ∷ []) told.opened_are;
