@@ -9,7 +9,7 @@ use std::alloc::Global;
 use std::io::Write;
 
 /// Has a share booked.
-fn credit(book: &mut Book<SureKeeper>, nonce: u32) -> Result<()> {
+pub(crate) fn credit(book: &mut Book<SureKeeper>, nonce: u32) -> Result<()> {
     let sub = share(1, nonce);
     let brief = book.act(0, Request::Brief(sub))?;
     let Some(request) = booking(brief, sub) else {

@@ -12,6 +12,7 @@ mod hash;
 mod jobs;
 mod messages;
 mod openings;
+mod polls;
 mod pushes;
 mod shares;
 mod stream;
@@ -30,17 +31,18 @@ use std::thread::Threads;
 /// What each first word wants behind it.
 const USAGE: &str =
     "want: hash COUNT, bytes LENGTH COUNT, shares SIBLINGS COUNT, channels OPEN COUNT, \
-        payouts WINDOW COUNT, jobs COUNT, book HELD COUNT, desk THREADS COUNT, lock THREADS COUNT, \
-        book-desk THREADS COUNT, book-lock THREADS COUNT, frames, messages or each";
+        payouts WINDOW COUNT, jobs COUNT, book HELD COUNT, polls HELD COUNT, desk THREADS COUNT, \
+        lock THREADS COUNT, book-desk THREADS COUNT, book-lock THREADS COUNT, frames, messages or each";
 
 /// What `each` does of the words with two numbers.
-const SMALL: [(&str, u32, u32); 10] = [
+const SMALL: [(&str, u32, u32); 11] = [
     ("bytes", 98, 3),
     ("shares", 0, 1),
     ("shares", 12, 1000),
     ("payouts", 7, 2500),
     ("channels", 3, 2),
     ("book", 2, 3),
+    ("polls", 3, 2),
     ("desk", 2, 100),
     ("lock", 2, 100),
     ("book-desk", 2, 20),
@@ -127,6 +129,7 @@ fn by_two_numbers<R: Threads + Wait + Sync, W: Write>(
         "payouts" => pushes::report(alloc, first, count),
         "channels" => openings::report(alloc, first, count, output),
         "book" => books::report(alloc, first, count, output),
+        "polls" => polls::report(alloc, first, count, output),
         "desk" => counter::report(rt, alloc, Sharing::Desk, first, count),
         "lock" => counter::report(rt, alloc, Sharing::Lock, first, count),
         "book-desk" => book_turns::report(rt, alloc, Sharing::Desk, first, count, output),

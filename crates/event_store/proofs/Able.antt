@@ -72,7 +72,7 @@ split-at (x ∷ events) (suc at) e is =
       place = ap suc s.place;
     }
 
-past-split : (before : List Event) (e : Event) (after : List Event) → past_of (before ++ e ∷ after) ≡ past_of after ++ e ∷ past_of before
+pub past-split : (before : List Event) (e : Event) (after : List Event) → past_of (before ++ e ∷ after) ≡ past_of after ++ e ∷ past_of before
 past-split before e after =
     past-append before (e ∷ after) ∙ ap (λ l. l ++ past_of before) (past-cons e after) ∙ append_assoc (past_of after) (e ∷ []) (past_of before)
 
@@ -207,7 +207,7 @@ first-told rules events index (event.Start first) session detail None n = refl
 first-told rules events index (event.Start first) session detail (Some r) n = refl
 first-told rules events index e session detail o n = absurd (none-some (sym n))
 
-take-split : (before after : List Event) → take (length before) (before ++ after) ≡ before
+pub take-split : (before after : List Event) → take (length before) (before ++ after) ≡ before
 take-split [] after = refl
 take-split (x ∷ before) after = ap (λ l. x ∷ l) (take-split before after)
 

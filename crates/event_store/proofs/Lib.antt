@@ -2,11 +2,14 @@ pub mod Able
 pub mod Chained
 pub mod Changed
 pub mod Entered
+pub mod Heard
 pub mod Later
 pub mod Listened
 pub mod Owed
 pub mod Polled
 pub mod Pushed
+pub mod Rising
 pub mod Sourced
 pub mod Started
+pub mod Unowed
 pub mod Walked

@@ -342,7 +342,7 @@ opening-later n mark w = record {
   closed = reached-more n mark.closed w.closed;
 }
 
-openings-within : (past : List Event) → AllByRecursion (IsOpeningWithin (length past)) (index_of past).openings
+pub openings-within : (past : List Event) → AllByRecursion (IsOpeningWithin (length past)) (index_of past).openings
 openings-within [] = tt
 openings-within (event.Open session kind account class lead ∷ older) =
     all-end (IsOpeningWithin (suc (length older))) (index_of older).openings _

@@ -64,7 +64,7 @@ news-whole from at events session all = ap (λ h. news from (past_of h) session)
 pub news-fits : (from : ℕ) (events : List Event) (session : ℕ) → Legal events → AllByRecursion NoteFits (news from (past_of events) session)
 news-fits from events session l = news-fit from (past_of events) session l
 
-get-some : {X : Type 0} (xs : List X) (k : ℕ) → k < length xs → (x : X) × (slice_get xs k ≡ Some x)
+pub get-some : {X : Type 0} (xs : List X) (k : ℕ) → k < length xs → (x : X) × (slice_get xs k ≡ Some x)
 get-some [] k less = absurd (omega (arith, less))
 get-some (x ∷ xs) zero less = (x, refl)
 get-some (x ∷ xs) (suc k) less = get-some xs k (omega (arith, less))

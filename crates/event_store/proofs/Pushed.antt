@@ -21,6 +21,7 @@ use Rattle.event_store.specs.Blocks.{is_block_event}
 use Rattle.event_store.specs.Index.{IndexParts, detail_after, details_of, index_after, index_of}
 use Rattle.event_store.specs.Kept.{IsKeptHistory}
 use Rattle.event_store.specs.Marking.{CanMark, CanMarkOpening}
+use Rattle.event_store.specs.Places.{common_place, common_places}
 use Rattle.event_store.proofs.Listened.{openings-length}
 use Rattle.event_store.proofs.Sourced.{jobs-length}
 
@@ -62,11 +63,13 @@ can-mark events (event.Open session k account class lead) l = can-mark-opening e
 can-mark events e l = tt
 
 -- the history with it
-pub kept-more : (events : List Event) (details : List ℕ) (index after : IndexParts) (e : Event) (block : Bool) (detail : ℕ) → IsKeptHistory events details index
+pub kept-more : (events : List Event) (details : List ℕ) (index after : IndexParts) (common listed : List ℕ) (e : Event) (block : Bool) (detail : ℕ)
+    → IsKeptHistory events details index common
     → Legal (events ++ e ∷ []) → length events + 1 < 2 ^ 62 → block ≡ is_block_event (past_of events) e
     → after ≡ index_after (length events) e index → detail ≡ detail_after block e index after
-    → IsKeptHistory (events ++ e ∷ []) (details ++ detail ∷ []) after
-kept-more events details index after e block detail k l few is after_is detail_is =
+    → listed ≡ common ++ common_place block e (length events)
+    → IsKeptHistory (events ++ e ∷ []) (details ++ detail ∷ []) after listed
+kept-more events details index after common listed e block detail k l few is after_is detail_is listed_is =
     let one : length (events ++ e ∷ []) ≡ length events + 1 = length-one events e in
     let marked : after ≡ index_of (e ∷ past_of events) =
     after_is ∙ ap (λ n. index_after n e index) (sym (length-reverse events)) ∙ ap (index_after (length (past_of events)) e) k.marked in
@@ -80,4 +83,9 @@ kept-more events details index after e block detail k l few is after_is detail_i
       detailed =
           ap (λ d. d ++ detail ∷ []) k.detailed ∙ ap (λ d. details_of (past_of events) ++ d ∷ []) detailed ∙ sym (ap details_of (past-one events e));
       marked = marked ∙ sym (ap index_of (past-one events e));
+      listed =
+          listed_is ∙ ap (λ l. l ++ common_place block e (length events)) k.listed
+          ∙ ap (λ b. common_places (past_of events) ++ common_place b e (length events)) is
+          ∙ ap (λ n. common_places (past_of events) ++ common_place (is_block_event (past_of events) e) e n) (sym (length-reverse events))
+          ∙ sym (ap common_places (past-one events e));
     }

@@ -25,6 +25,17 @@ pub record IsLastBefore (session : ℕ) (links : List Link) (end : ℕ) (last : 
   pub own : (at : ℕ) (link : Link) → last ≡ Some at → slice_get links at ≡ Some link
       → link.session ≡ session
 
+-- of all openings, the last of a session is this one
+abbrev pub IsLastOf : ℕ → List OpeningMark → Option ℕ → Type 0
+IsLastOf session openings last =
+    IsLastBefore session (map link_of openings) (length (map link_of openings)) last
+
+-- each leads to the session's before it
+abbrev pub AreLinked : List OpeningMark → Type 0
+AreLinked openings =
+    (at : ℕ) (link : Link) → slice_get (map link_of openings) at ≡ Some link
+    → IsLastBefore link.session (map link_of openings) at link.before
+
 -- each opening leads to the session's before it, and each session to its last
 pub record AreChained (links : List Link) (lasts : ℕ → Option ℕ) : Type 0 where
   pub openings : (at : ℕ) (link : Link) → slice_get links at ≡ Some link

@@ -4,6 +4,7 @@ pub mod Index
 pub mod Kept
 pub mod Listening
 pub mod Marking
+pub mod Places
 pub mod Solving
 pub mod Telling
 pub mod Told

@@ -1,9 +1,10 @@
 //! Whom a session is told for: its open channels at a place, one by one or as a group.
 
-ghost use Rattle.std.specs.Prelude.{◌≡◌, ◌==◌, ◌&&◌, ◌++◌, ◌∷◌, [], ◌^◌, ◌<◌, ℕ, Some, false, not, if◌then◌else◌, IfOk, OnOk, length, map, nat_lt, slice_get};
+ghost use Rattle.std.specs.Prelude.{◌≡◌, ◌==◌, ◌&&◌, ◌++◌, ◌∷◌, [], ◌^◌, ◌<◌, Some, false, not, if◌then◌else◌, IfOk, OnOk, map, nat_lt};
 ghost use Rattle.std.specs.Int.{bit_at};
 ghost use Rattle.pool_history.specs.News.{alone, audience_of};
-ghost use Rattle.event_store.specs.Chains.{IsLastBefore, Link, link_of};
+ghost use Rattle.event_store.specs.Chains.{AreLinked, IsLastOf};
+ghost use Rattle.event_store.specs.Places.{OpeningsRise, if_since, openings_since};
 ghost use Rattle.event_store.specs.Told as told;
 
 use crate::audience::{Heard, StandardChannel};
@@ -57,10 +58,8 @@ pub(crate) fn listeners_at(
     session: u32,
     place: u64,
 ) -> Result<Vec<Listener>, AllocError>
-    requires openings { (at : ℕ) (link : Link) → slice_get (map link_of openings.now) at ≡ Some link
-        → IsLastBefore link.session (map link_of openings.now) at link.before }
-    requires last { IsLastBefore session (map link_of openings.now)
-        (length (map link_of openings.now)) last }
+    requires openings { AreLinked openings.now }
+    requires last { IsLastOf session openings.now last }
     ensures { IfOk result (λ listeners. listeners.items
         ≡ told.listeners_in openings.now session place) }
 {
@@ -89,6 +88,40 @@ fn add_listener(
         listeners.push(mark.listener)?;
     }
     Ok(())
+}
+
+/// The places of a session's openings from one on, by the last of its openings. Of those before
+/// it goes over one alone.
+pub(crate) fn openings_since(
+    alloc: Global,
+    openings: &[OpeningMark],
+    last: Option<u32>,
+    session: u32,
+    from: u64,
+) -> Result<Vec<u64>, AllocError>
+    requires openings { AreLinked openings.now }
+    requires rising { OpeningsRise openings.now }
+    requires last { IsLastOf session openings.now last }
+    ensures { IfOk result (λ places. places.items ≡ openings_since openings.now session from) }
+{
+    let mut places = Vec::new(alloc);
+    let mut next = if_since(openings, last, from);
+    while let Some(at) = next {
+        let mark = &openings[at as usize];
+        places.push(mark.at)?;
+        next = if_since(openings, mark.before, from);
+    }
+    places.reverse();
+    Ok(places)
+}
+
+// The place of an opening's mark, where the opening stands at a place or behind it.
+fn if_since(openings: &[OpeningMark], place: Option<u32>, from: u64) -> Option<u32>
+    ensures { result ≡ if_since from openings.now place }
+{
+    let at = place?;
+    let mark = openings.get(at as usize)?;
+    if from <= mark.at { Some(at) } else { None }
 }
 
 /// Whom a session with these flags is told for, by its open channels.

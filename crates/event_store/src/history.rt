@@ -1,6 +1,7 @@
 //! The kept events.
 
 use crate::index::{Index, put};
+use crate::places::{behind, first_of, list_common, since};
 use crate::telling::Teller;
 use pool_history::{Boxed, Event, Note, Notes, Rules};
 use std::alloc::{AllocError, Global};
@@ -17,6 +18,8 @@ pub struct History {
     /// A number for each event, which says where its marks are.
     details: Vec<u32>,
     index: Index,
+    /// The places of the events that may be news to any session.
+    common: Vec<u64>,
 }
 
 impl Model for History {
@@ -31,11 +34,12 @@ impl Model for History {
       room = min
           (min (vec_capacity history.events - vec_len history.events)
           (vec_capacity history.details - vec_len history.details))
-          (min history.index.room ((2 ^ 62 - 1) - vec_len history.events));
+          (min (vec_capacity history.common - vec_len history.common)
+          (min history.index.room ((2 ^ 62 - 1) - vec_len history.events)));
     } };
 
     ghost invariant = { λ history. IsKeptHistory history.events.items history.details.items
-        history.index.parts };
+        history.index.parts history.common.items };
 }
 
 impl History {
@@ -68,6 +72,7 @@ impl History {
             events,
             details,
             index: Index::new(alloc),
+            common: Vec::new(alloc),
         })
     }
 
@@ -113,6 +118,7 @@ impl History {
             return Err(AllocError);
         }
         self.index.reserve()?;
+        self.common.reserve(1)?;
         self.details.reserve(1)?;
         self.events.reserve(1)?;
         Ok(())
@@ -127,17 +133,24 @@ impl History {
     {
         let at = self.events.len() as u64;
         let detail = self.index.add(at, &event, is_block);
+        list_common(&mut self.common, at, &event, is_block);
         put(&mut self.details, detail);
         put(&mut self.events, event);
     }
 
-    /// What a session is owed for the events from a place on, in their order.
+    /// What a session is owed for the events from a place on, in their order. It reads those that
+    /// may be news to the session, and no other.
     pub fn news(&self, from: u64, session: u32) -> Result<Notes, AllocError>
         ensures { IfOk result (λ notes. notes ≡ news from (past_of self.now.events) session) }
     {
+        let openings = self.index.openings_since(self.alloc, session, from)?;
+        let mut own = openings.as_slice();
+        let mut common = since(&self.common, from);
         let mut notes = Vec::new(self.alloc);
-        for at in from..self.len() {
+        while let Some(at) = first_of(common, own) {
             self.tell(at, session, &mut notes)?;
+            common = behind(common, at);
+            own = behind(own, at);
         }
         Ok(Notes::of(notes))
     }

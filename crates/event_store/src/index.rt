@@ -5,7 +5,7 @@ ghost use Rattle.std.specs.Option.{option_map};
 ghost use Rattle.event_store.specs.Index.{live_number, marked_ntime};
 
 use crate::audience::Heard;
-use crate::hearing::{flags_at, has_left, hear, listeners_at};
+use crate::hearing::{flags_at, has_left, hear, listeners_at, openings_since};
 use crate::marks::{FutureMark, JobMark, JobPlace, Listener, OpeningMark, SessionMark, TipMark};
 use pool_history::{Event, Kind, Lead, TemplateData, TipData};
 use std::alloc::{AllocError, Global};
@@ -59,6 +59,7 @@ impl Index {
     ghost use Rattle.pool_history.specs.Headers.{IsBriefing};
     ghost use Rattle.event_store.specs.Chains.{MarksAreChained};
     ghost use Rattle.event_store.specs.Marking.{CanMark};
+    ghost use Rattle.event_store.specs.Places.{OpeningsRise, openings_since};
     ghost use Rattle.event_store.specs.Telling.{HasFutures};
     ghost use Rattle.event_store.specs.Told.{audience_at, heard_as};
     ghost use Rattle.event_store.specs.Index.{detail_after, empty_index, index_after, live_number, with_brought, with_came, with_closed, with_entered, with_left, with_opened, with_tipped};
@@ -291,6 +292,24 @@ impl Index {
         }
         let listeners = listeners_at(alloc, self.openings(), mark.last, session, place)?;
         hear(alloc, session, flags_at(mark, place), &listeners)
+    }
+
+    /// The places of a session's openings from one on.
+    pub(crate) fn openings_since(
+        &self,
+        alloc: Global,
+        session: u32,
+        from: u64,
+    ) -> Result<Vec<u64>, AllocError>
+        requires chained { MarksAreChained self.now.parts }
+        requires rising { OpeningsRise self.now.parts.openings }
+        ensures { IfOk result (λ places. places.items
+            ≡ openings_since self.now.parts.openings session from) }
+    {
+        let Some(mark) = self.session(session) else {
+            return Ok(Vec::new(alloc));
+        };
+        openings_since(alloc, self.openings(), mark.last, session, from)
     }
 
     fn close(&mut self, at: u64, channel: u32)

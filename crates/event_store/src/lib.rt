@@ -8,6 +8,7 @@ mod history;
 mod index;
 mod marks;
 mod notes;
+mod places;
 mod telling;
 
 pub use history::History;

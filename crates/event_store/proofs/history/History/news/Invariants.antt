@@ -1,7 +1,9 @@
-use Rattle.std.proofs.Common.{◌≡◌, take}
-use Rattle.pool_history.specs.News.{news}
-use Rattle.pool_history.specs.Sessions.{past_of}
+use Rattle.std.proofs.Common.{◌+◌, length}
+use Rattle.event_store.proofs.Heard.{IsPolled}
 use Rattle.event_store.proofs.history.History.news.Given as goal
 
 abbrev pub invariant-loop-at : goal.invariant-loop-at
-invariant-loop-at l = l.notes.items ≡ news l.fn.from (past_of (take l.at l.self.events)) l.session
+invariant-loop-at l = IsPolled l.self.events l.from l.session l.notes.items l.common l.own
+
+abbrev pub decreases-loop-at : goal.decreases-loop-at
+decreases-loop-at l = length l.common + length l.own
