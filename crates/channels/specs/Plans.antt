@@ -86,7 +86,7 @@ opening_plan session at ask (Err refusal) = Err refusal
 opening_plan session at ask (Ok opened) =
     Ok (plan.Open at session ask.kind (account_for ask.kind ask.identity) opened)
 
--- an answer is this, unless memory is wanted
+-- an answer is this, unless memory runs out
 abbrev pub IsUnless : {X E : Type 0} → E → Result X E → Result X E → Type 0
 IsUnless memory result answer = (result ≡ Err memory) ⊎ (result ≡ answer)
 
@@ -95,7 +95,7 @@ abbrev pub completion_of : {X E : Type 0} → Result X E → Result Unit E
 completion_of (Ok x) = Ok tt
 completion_of (Err refusal) = Err refusal
 
--- it is done where something was found, unless memory is wanted
+-- it is done where something was found, unless memory runs out
 abbrev pub IsDoneUnless : {X E : Type 0} → E → Result Unit E → Result X E → Type 0
 IsDoneUnless memory result found = IsUnless memory result (completion_of found)
 

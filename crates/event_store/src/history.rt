@@ -109,7 +109,7 @@ impl History {
     }
 
     /// Takes memory for one event more. Where there are as many as are kept at most, it answers
-    /// that memory is wanted.
+    /// that memory runs out.
     pub fn reserve(&mut self) -> Result<(), AllocError>
         ensures same { self.new.events ≡ self.old.events }
         ensures room { OnOk result (1 ≤ self.new.room) }
