@@ -1,6 +1,6 @@
 -- A test of each byte, and the bits of a row.
 use Rattle.std.proofs.Common.{◌⊎◌, inl, inr, ◌≡◌, ◌≢◌, ℕ, zero, suc, ◌+◌, ◌*◌, ◌/◌, ◌%◌, ◌^◌, ◌<◌, ◌≤◌, Bool, true, false, ◌&&◌, ◌||◌, refl, ap, subst, sym, ◌∙◌, arith, w64}
-use Rattle.std.proofs.lemmas.Bool.{and_parts, cases_lt, false≢true, or_from, or_left, or_right}
+use Rattle.std.proofs.lemmas.Bool.{and_from, and_parts, cases_lt, false_from_ne_true, false≢true, or_from, or_left, or_right}
 use Rattle.std.proofs.lemmas.Nat.Bits.{bit_at-trailing_zeros, bit_at-zero}
 use Rattle.std.specs.Prelude.{nat_eq, slice_index}
 use Rattle.std.specs.Int.{bit_at, trailing_zeros}
@@ -8,14 +8,10 @@ use Rattle.std.specs.List.{list_all, list_any, range_with_len}
 use Rattle.prefix_space.specs.declared.rows.Row.{Row}
 use Rattle.prefix_space.specs.Rows.{all_bytes, any_byte, has_bit}
 
-both-true : (a b : Bool) → a ≡ true → b ≡ true → a && b ≡ true
-both-true true b is h = h
-both-true false b is h = absurd (false≢true is)
-
 all-from : (f : ℕ → Bool) (a n : ℕ) → ((b : ℕ) → a ≤ b → b < a + n → f b ≡ true) → list_all f (range_with_len a n) ≡ true
 all-from f a zero h = refl
 all-from f a (suc n) h =
-    both-true (f a) (list_all f (range_with_len (a + 1) n)) (h a (omega arith) (omega arith))
+    and_from (f a) (list_all f (range_with_len (a + 1) n)) (h a (omega arith) (omega arith))
     (all-from f (a + 1) n (λ b from until. h b (omega (arith, from)) (omega (arith, until))))
 
 all-at : (f : ℕ → Bool) (a n b : ℕ) → list_all f (range_with_len a n) ≡ true → a ≤ b → b < a + n → f b ≡ true
@@ -60,10 +56,8 @@ unfolding all_bytes
 all-bytes-at f b all below = all-at f 0 256 b all (omega arith) below
 
 pub all-bytes-fail : (f : ℕ → Bool) (b : ℕ) → f b ≡ false → b < 256 → all_bytes f ≡ false
-all-bytes-fail f b fails below = by_test (all_bytes f) refl where
-  by_test : (t : Bool) → all_bytes f ≡ t → all_bytes f ≡ false
-  by_test false is = is
-  by_test true is = absurd (false≢true (sym fails ∙ all-bytes-at f b is below))
+all-bytes-fail f b fails below =
+    false_from_ne_true (all_bytes f) (λ all. false≢true (sym fails ∙ all-bytes-at f b all below))
 
 pub all-bytes-same : (f g : ℕ → Bool) → ((b : ℕ) → b < 256 → f b ≡ g b) → all_bytes f ≡ all_bytes g
 unfolding all_bytes
@@ -79,10 +73,7 @@ unfolding any_byte
 no-byte f h = none-from f 0 256 (λ b from until. h b until)
 
 pub no-byte-at : (f : ℕ → Bool) (b : ℕ) → any_byte f ≡ false → b < 256 → f b ≡ false
-no-byte-at f b none below = by_test (f b) refl where
-  by_test : (t : Bool) → f b ≡ t → f b ≡ false
-  by_test false is = is
-  by_test true is = absurd (false≢true (sym none ∙ any-byte f b is below))
+no-byte-at f b none below = false_from_ne_true (f b) (λ is. false≢true (sym none ∙ any-byte f b is below))
 
 -- the bits of a row, word by word
 pub row-bit : (row : Row) (at bit n : ℕ) → bit < 64 → bit_at (slice_index row.words at) bit ≡ n → has_bit row (at * 64 + bit) ≡ nat_eq n 1

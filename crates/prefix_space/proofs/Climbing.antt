@@ -1,7 +1,7 @@
 -- The tree is brought up to date along the way to a lead.
 use Rattle.std.proofs.Common.{◌⊎◌, inl, inr, ◌≡◌, ℕ, zero, suc, ◌+◌, ◌<◌, ◌≤◌, Bool, true, false, cond, ◌||◌, Option, None, Some, List, [], ◌∷◌, ◌++◌, length, take, get_or, refl, ap, subst, sym, ◌∙◌, arith}
 use Rattle.std.proofs.Math.Dec.{eqb}
-use Rattle.std.proofs.lemmas.Bool.{cases_lt, eq-eqb, eqb-true, false≢true, ne_eqb, or_from, or_left, or_parts, or_right}
+use Rattle.std.proofs.lemmas.Bool.{cases_lt, eq-eqb, eqb-true, false_from_ne_true, false≢true, ne_eqb, or_from, or_left, or_parts, or_right}
 use Rattle.std.proofs.lemmas.List.{length-take-le}
 use Rattle.std.proofs.lemmas.Slice.Eq.{bytes_eq-Decides}
 use Rattle.std.specs.Prelude.{MatchOption, is_some, nat_eq, slice_index}
@@ -30,10 +30,8 @@ some-node o x is = ap is_some is
 
 -- the string is on the way, or not
 pub way-off : (l p : List ℕ) → (IsOnWay l (length l) p → ⊥) → is_longer p l ≡ false
-way-off l p off = by_test (is_longer p l) refl where
-  by_test : (b : Bool) → is_longer p l ≡ b → is_longer p l ≡ false
-  by_test false is = is
-  by_test true is = absurd (off (record { above = longer-long p l is; front = longer-take p l is }))
+way-off l p off =
+    false_from_ne_true (is_longer p l) (λ is. off (record { above = longer-long p l is; front = longer-take p l is }))
 
 pub way-longer : (l p : List ℕ) → IsOnWay l (length l) p → is_longer p l ≡ true
 way-longer l p on = subst (λ s. is_longer s l ≡ true) (sym on.front) (take-longer (length p) l on.above)
@@ -464,62 +462,46 @@ way-step l j old now new empty some below most each is_empty puts adds = record 
       ∙ adds.absent p prefix none (λ h on. let above : length p < j = on.above in off h (record { above = omega (arith, above); front = on.front }))
 
 -- a node is put in its place, or goes
+abbrev LeavesNode : List ℕ → List Bool → Node → Option Node → Type 0
+LeavesNode p told renewed left = MatchOption left
+    ((is_root p ≡ false) × (any_byte (bit renewed (length p)) ≡ false) × ((at : ℕ) → get_or told at false ≡ false))
+    (λ node. (node ≡ renewed) × (is_root p || any_byte (bit renewed (length p)) ≡ true) × TellsMarks renewed (length p) told)
+
+renewed-with : (p : List ℕ) (byte : ℕ) (marks told : List Bool) (old new : Nodes) (node renewed : Node) (left : Option Node) → IsPrefix p → old p ≡ Some node
+    → IsMarked node byte marks renewed → ((q : List ℕ) → new q ≡ cond (nat_eq (node_key p) (node_key q)) left (old q)) → LeavesNode p told renewed left
+    → IsRenewed p byte marks old new told
+renewed-with p byte marks told old new node renewed left prefix is marked puts leaves = record { others = others; here = here } where
+  others : (q : List ℕ) → IsPrefix q → (q ≡ p → ⊥) → new q ≡ old q
+  others q prefix' other =
+      puts q ∙ ap (λ b. cond b left (old q)) (ne_eqb (node_key p) (node_key q) (λ same. other (sym (same-prefix p q prefix prefix' same))))
+
+  now : new p ≡ left
+  now = puts p ∙ ap (λ b. cond b left (old p)) (eq-eqb (node_key p) (node_key p) refl)
+
+  here : (n : Node) → old p ≡ Some n → (renewed : Node) × IsMarked n byte marks renewed × LeavesNode p told renewed (new p)
+  here n was = (
+    renewed,
+    subst (λ m. IsMarked m byte marks renewed) (some-same (sym is ∙ was)) marked,
+    subst (LeavesNode p told renewed) (sym now) leaves,
+  )
+
+root-is : (s : List ℕ) → nat_eq (length s) 0 ≡ is_root s
+root-is [] = refl
+root-is (x ∷ s) = ne_eqb (length (x ∷ s)) 0 (λ same. omega (arith, same))
+
 pub renewed-kept : (p : List ℕ) (byte : ℕ) (marks told : List Bool) (old new : Nodes) (node renewed : Node) → IsPrefix p → old p ≡ Some node
     → IsMarked node byte marks renewed → ((q : List ℕ) → new q ≡ cond (nat_eq (node_key p) (node_key q)) (Some renewed) (old q))
     → nat_eq (length p) 0 || any_byte (bit renewed (length p)) ≡ true → TellsMarks renewed (length p) told → IsRenewed p byte marks old new told
-renewed-kept p byte marks told old new node renewed prefix is marked puts stays tells = record { others = others; here = here } where
-  others : (q : List ℕ) → IsPrefix q → (q ≡ p → ⊥) → new q ≡ old q
-  others q prefix' other =
-      puts q ∙ ap (λ b. cond b (Some renewed) (old q)) (ne_eqb (node_key p) (node_key q) (λ same. other (sym (same-prefix p q prefix prefix' same))))
-
-  now : new p ≡ Some renewed
-  now = puts p ∙ ap (λ b. cond b (Some renewed) (old p)) (eq-eqb (node_key p) (node_key p) refl)
-
-  root_is : (s : List ℕ) → nat_eq (length s) 0 ≡ is_root s
-  root_is [] = refl
-  root_is (x ∷ s) = ne_eqb (length (x ∷ s)) 0 (λ same. omega (arith, same))
-
-  here : (n : Node) → old p ≡ Some n → (renewed : Node) × IsMarked n byte marks renewed × MatchOption (new p)
-      ((is_root p ≡ false) × (any_byte (bit renewed (length p)) ≡ false) × ((at : ℕ) → get_or told at false ≡ false))
-      (λ left. (left ≡ renewed) × (is_root p || any_byte (bit renewed (length p)) ≡ true) × TellsMarks renewed (length p) told)
-  here n was =
-      let same : node ≡ n = some-same (sym is ∙ was) in (
-        renewed,
-        subst (λ m. IsMarked m byte marks renewed) same marked,
-        subst (λ o. MatchOption o ((is_root p ≡ false) × (any_byte (bit renewed (length p)) ≡ false) × ((at : ℕ) → get_or told at false ≡ false))
-            (λ left. (left ≡ renewed) × (is_root p || any_byte (bit renewed (length p)) ≡ true) × TellsMarks renewed (length p) told)) (sym now)
-            (refl, ap (λ e. e || any_byte (bit renewed (length p))) (sym (root_is p)) ∙ stays, tells),
-      )
+renewed-kept p byte marks told old new node renewed prefix is marked puts stays tells =
+    renewed-with p byte marks told old new node renewed (Some renewed) prefix is marked puts
+    (refl, ap (λ e. e || any_byte (bit renewed (length p))) (sym (root-is p)) ∙ stays, tells)
 
 pub renewed-gone : (p : List ℕ) (byte : ℕ) (marks told : List Bool) (old new : Nodes) (node renewed : Node) → IsPrefix p → old p ≡ Some node
     → IsMarked node byte marks renewed → ((q : List ℕ) → new q ≡ cond (nat_eq (node_key p) (node_key q)) None (old q))
     → nat_eq (length p) 0 || any_byte (bit renewed (length p)) ≡ false → ((at : ℕ) → get_or told at false ≡ false) → IsRenewed p byte marks old new told
-renewed-gone p byte marks told old new node renewed prefix is marked puts goes tells = record { others = others; here = here } where
-  others : (q : List ℕ) → IsPrefix q → (q ≡ p → ⊥) → new q ≡ old q
-  others q prefix' other =
-      puts q ∙ ap (λ b. cond b None (old q)) (ne_eqb (node_key p) (node_key q) (λ same. other (sym (same-prefix p q prefix prefix' same))))
-
-  now : new p ≡ None
-  now = puts p ∙ ap (λ b. cond b None (old p)) (eq-eqb (node_key p) (node_key p) refl)
-
-  parts : (nat_eq (length p) 0 ≡ false) × (any_byte (bit renewed (length p)) ≡ false)
-  parts = or_parts (nat_eq (length p) 0) (any_byte (bit renewed (length p))) goes
-
-  root_is : (s : List ℕ) → nat_eq (length s) 0 ≡ is_root s
-  root_is [] = refl
-  root_is (x ∷ s) = ne_eqb (length (x ∷ s)) 0 (λ same. omega (arith, same))
-
-  here : (n : Node) → old p ≡ Some n → (renewed : Node) × IsMarked n byte marks renewed × MatchOption (new p)
-      ((is_root p ≡ false) × (any_byte (bit renewed (length p)) ≡ false) × ((at : ℕ) → get_or told at false ≡ false))
-      (λ left. (left ≡ renewed) × (is_root p || any_byte (bit renewed (length p)) ≡ true) × TellsMarks renewed (length p) told)
-  here n was =
-      let same : node ≡ n = some-same (sym is ∙ was) in (
-        renewed,
-        subst (λ m. IsMarked m byte marks renewed) same marked,
-        subst (λ o. MatchOption o ((is_root p ≡ false) × (any_byte (bit renewed (length p)) ≡ false) × ((at : ℕ) → get_or told at false ≡ false))
-            (λ left. (left ≡ renewed) × (is_root p || any_byte (bit renewed (length p)) ≡ true) × TellsMarks renewed (length p) told)) (sym now)
-            (sym (root_is p) ∙ parts.0, parts.1, tells),
-      )
+renewed-gone p byte marks told old new node renewed prefix is marked puts goes tells =
+    let parts : (nat_eq (length p) 0 ≡ false) × (any_byte (bit renewed (length p)) ≡ false) = or_parts (nat_eq (length p) 0) (any_byte (bit renewed (length p))) goes in
+    renewed-with p byte marks told old new node renewed None prefix is marked puts (sym (root-is p) ∙ parts.0, parts.1, tells)
 
 pub none-told : (at : ℕ) → get_or (false ∷ false ∷ false ∷ false ∷ []) at false ≡ false
 none-told zero = refl

@@ -1,6 +1,6 @@
 -- Going down by first zeros finds the lowest free lead.
 use Rattle.std.proofs.Common.{◌⊎◌, inl, inr, ◌≡◌, ℕ, zero, suc, ◌+◌, ◌-◌, ◌<◌, ◌≤◌, Bool, true, false, not, None, Some, List, [], ◌∷◌, ◌++◌, length, take, drop, refl, ap, subst, sym, ◌∙◌, arith, length-append}
-use Rattle.std.proofs.lemmas.Bool.{false≢true, or_parts}
+use Rattle.std.proofs.lemmas.Bool.{false_from_ne_true, false≢true, or_parts}
 use Rattle.std.proofs.lemmas.List.{length-drop, length-replicate}
 use Rattle.std.specs.Prelude.{is_some, replicate, slice_index}
 use Rattle.std.specs.List.{AllByRecursion, list_any}
@@ -153,24 +153,19 @@ find-done len held path each short opens none =
 pub find-leaf : (len : ℕ) (held : List (List ℕ)) (path : List ℕ) → AllByRecursion (λ byte. byte < 256) path → length path ≡ len → 1 ≤ len → IsOpen len held path
     → Some (path ++ replicate (len - length path) 0) ≡ lowest len held
 find-leaf len held path each long some opens =
-    find-done len held path each (omega (arith, long)) opens (by_any (list_any (overlap path) held) refl) where
+    find-done len held path each (omega (arith, long)) opens
+    (false_from_ne_true (list_any (overlap path) held)
+    (λ any. false≢true (sym (opens.room 0 (omega (arith, long)) (not_root path (omega (arith, long, some)))) ∙ full-here path held true any))) where
       not_root : (p : List ℕ) → 1 ≤ length p → is_root p ≡ false
       not_root [] h = absurd (omega (arith, h))
       not_root (x ∷ p) h = refl
 
-      by_any : (b : Bool) → list_any (overlap path) held ≡ b → list_any (overlap path) held ≡ false
-      by_any false is = is
-      by_any true is =
-          absurd (false≢true (sym (opens.room 0 (omega (arith, long)) (not_root path (omega (arith, long, some)))) ∙ full-here path held true is))
-
 pub find-missing : (len : ℕ) (held : List (List ℕ)) (nodes : Nodes) (path : List ℕ) → FitsTree held nodes → IsPrefix path → nodes path ≡ None → length path ≤ len
     → IsOpen len held path → Some (path ++ replicate (len - length path) 0) ≡ lowest len held
 find-missing len held nodes path fits prefix none short opens =
-    find-done len held path prefix.each short opens (none-overlaps path held absent.1 (by_front (list_any (λ m. is_front m path) held) refl)) where
+    find-done len held path prefix.each short opens
+    (none-overlaps path held absent.1
+    (false_from_ne_true (list_any (λ m. is_front m path) held)
+    (λ front. false≢true (sym (opens.room (len - length path) (omega (arith, short)) absent.0) ∙ full-inside (len - length path) path held front)))) where
       absent : (is_root path ≡ false) × (list_any (is_longer path) held ≡ false)
       absent = or_parts (is_root path) (list_any (is_longer path) held) (sym (fits.there path prefix) ∙ ap is_some none)
-
-      by_front : (b : Bool) → list_any (λ m. is_front m path) held ≡ b → list_any (λ m. is_front m path) held ≡ false
-      by_front false is = is
-      by_front true is =
-          absurd (false≢true (sym (opens.room (len - length path) (omega (arith, short)) absent.0) ∙ full-inside (len - length path) path held is))

@@ -1,7 +1,7 @@
 -- Strings that overlap: one begins the other.
 use Rattle.std.proofs.Common.{◌≡◌, ℕ, zero, suc, ◌<◌, ◌≤◌, Bool, true, false, ◌&&◌, ◌||◌, List, [], ◌∷◌, ◌++◌, length, take, drop, refl, ap, subst, sym, ◌∙◌, arith}
 use Rattle.std.proofs.Math.Dec.{eqb}
-use Rattle.std.proofs.lemmas.Bool.{and_from, and_parts, eq-eqb, eqb-true, false≢true, ne_eqb, or_from, or_left, or_parts, or_right}
+use Rattle.std.proofs.lemmas.Bool.{and_from, and_parts, eq-eqb, eqb-false, eqb-true, false_from_ne_true, false≢true, ne_eqb, or_from, or_left, or_parts, or_right}
 use Rattle.std.proofs.lemmas.List.{take-append-drop}
 use Rattle.std.specs.Prelude.{nat_eq}
 use Rattle.std.specs.List.{AllByRecursion, list_any, starts_with}
@@ -20,9 +20,6 @@ pub overlap-other : (x y : ℕ) (a b : List ℕ) → ¬ (x ≡ y) → overlap (x
 overlap-other x y a b other =
     ap (λ e. (e && starts_with nat_eq a b) || (eqb x y && starts_with nat_eq b a)) (ne_eqb y x (λ same. other (sym same)))
     ∙ ap (λ e. e && starts_with nat_eq b a) (ne_eqb x y other)
-
-pub eqb-false : (x y : ℕ) → eqb x y ≡ false → ¬ (x ≡ y)
-eqb-false x y is same = false≢true (sym is ∙ eq-eqb x y same)
 
 pub overlap-nothing : (l : List ℕ) → overlap [] l ≡ true
 overlap-nothing l = or_right (starts_with nat_eq [] l) (starts_with nat_eq l []) refl
@@ -60,10 +57,8 @@ overlap-shorter (x ∷ s) t (y ∷ l) h = by_test (eqb x y) refl (λ g. overlap-
   by_test false is rest = absurd (false≢true (sym (overlap-other x y (s ++ t) l (eqb-false x y is)) ∙ h))
 
 pub apart-more : (s t l : List ℕ) → overlap s l ≡ false → overlap (s ++ t) l ≡ false
-apart-more s t l apart = by_test (overlap (s ++ t) l) refl where
-  by_test : (b : Bool) → overlap (s ++ t) l ≡ b → overlap (s ++ t) l ≡ false
-  by_test false is = is
-  by_test true is = absurd (false≢true (sym apart ∙ overlap-shorter s t l is))
+apart-more s t l apart =
+    false_from_ne_true (overlap (s ++ t) l) (λ is. false≢true (sym apart ∙ overlap-shorter s t l is))
 
 -- what begins a string begins it with more behind it
 pub front-more : (l s t : List ℕ) → is_front l s ≡ true → is_front l (s ++ t) ≡ true
@@ -88,10 +83,8 @@ front-short (x ∷ l) (y ∷ s) h =
     omega (arith, rest)
 
 pub not-front : (l s : List ℕ) → length s < length l → is_front l s ≡ false
-not-front l s longer = by_test (is_front l s) refl where
-  by_test : (b : Bool) → is_front l s ≡ b → is_front l s ≡ false
-  by_test false is = is
-  by_test true is = let short : length l ≤ length s = front-short l s is in absurd (omega (arith, short, longer))
+not-front l s longer =
+    false_from_ne_true (is_front l s) (λ is. let short : length l ≤ length s = front-short l s is in omega (arith, short, longer))
 
 -- a lead behind a string that another begins overlaps that one
 pub longer-front : (l p m : List ℕ) → is_front l p ≡ true → is_longer p m ≡ true → overlap l m ≡ true
@@ -149,10 +142,8 @@ step-longer (x ∷ p) (y ∷ m) c front h = by_test (eqb x y) refl (λ f g. step
   by_test false is rest = absurd (false≢true (sym (overlap-other x y (p ++ c ∷ []) m (eqb-false x y is)) ∙ h))
 
 pub step-apart : (p m : List ℕ) (c : ℕ) → is_front m p ≡ false → is_longer p m ≡ false → overlap (p ++ c ∷ []) m ≡ false
-step-apart p m c front longer = by_test (overlap (p ++ c ∷ []) m) refl where
-  by_test : (b : Bool) → overlap (p ++ c ∷ []) m ≡ b → overlap (p ++ c ∷ []) m ≡ false
-  by_test false is = is
-  by_test true is = absurd (false≢true (sym longer ∙ step-longer p m c front is))
+step-apart p m c front longer =
+    false_from_ne_true (overlap (p ++ c ∷ []) m) (λ is. false≢true (sym longer ∙ step-longer p m c front is))
 
 -- a byte behind a prefix is off a lead's way
 pub off-way : (p l : List ℕ) (byte : ℕ) → is_front l p ≡ false → (length p < length l → p ++ byte ∷ [] ≡ take (suc (length p)) l → ⊥) → overlap (p ++ byte ∷ []) l ≡ false
@@ -182,10 +173,8 @@ any-weaken f g h (x ∷ xs) any = by_test (f x) refl any (λ later. any-weaken f
   by_test false is any' rest = or_right (g x) (list_any g xs) (rest (sym (ap (λ e. e || list_any f xs) is) ∙ any'))
 
 pub none-weaken : {X : Type 0} (f g : X → Bool) → ((x : X) → g x ≡ true → f x ≡ true) → (xs : List X) → list_any f xs ≡ false → list_any g xs ≡ false
-none-weaken f g h xs none = by_test (list_any g xs) refl where
-  by_test : (b : Bool) → list_any g xs ≡ b → list_any g xs ≡ false
-  by_test false is = is
-  by_test true is = absurd (false≢true (sym none ∙ any-weaken g f h xs is))
+none-weaken f g h xs none =
+    false_from_ne_true (list_any g xs) (λ is. false≢true (sym none ∙ any-weaken g f h xs is))
 
 pub none-more : (s t : List ℕ) (held : List (List ℕ)) → list_any (overlap s) held ≡ false → list_any (overlap (s ++ t)) held ≡ false
 none-more s t held none = none-weaken (overlap s) (overlap (s ++ t)) (λ m h. overlap-shorter s t m h) held none
@@ -224,15 +213,11 @@ clear-front l k held none = none-weaken (overlap l) (λ m. is_front m (take k l)
 
 -- a prefix that a lead goes on from isn't inside a lead that the others don't overlap
 pub node-off : (l p : List ℕ) (held : List (List ℕ)) → 1 ≤ length l → list_any (overlap l) held ≡ false → list_any (is_longer p) (l ∷ held) ≡ true → is_front l p ≡ false
-node-off l p held some none any = by_test (is_front l p) refl where
-  by_own : is_front l p ≡ true → (b : Bool) → is_longer p l ≡ b → is_front l p ≡ false
+node-off l p held some none any = false_from_ne_true (is_front l p) (λ is. by_own is (is_longer p l) refl) where
+  by_own : is_front l p ≡ true → (b : Bool) → is_longer p l ≡ b → ⊥
   by_own is true own =
       let short : length l ≤ length p = front-short l p is in
       let long : length p < length l = longer-long p l own in
-      absurd (omega (arith, short, long))
+      omega (arith, short, long)
   by_own is false own =
-      absurd (false≢true (sym none ∙ any-weaken (is_longer p) (overlap l) (λ m h. longer-front l p m is h) held (sym (ap (λ e. e || list_any (is_longer p) held) own) ∙ any)))
-
-  by_test : (b : Bool) → is_front l p ≡ b → is_front l p ≡ false
-  by_test false is = is
-  by_test true is = by_own is (is_longer p l) refl
+      false≢true (sym none ∙ any-weaken (is_longer p) (overlap l) (λ m h. longer-front l p m is h) held (sym (ap (λ e. e || list_any (is_longer p) held) own) ∙ any))
