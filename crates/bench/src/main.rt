@@ -32,7 +32,8 @@ use std::thread::Threads;
 const USAGE: &str =
     "want: hash COUNT, bytes LENGTH COUNT, shares SIBLINGS COUNT, channels OPEN COUNT, \
         payouts WINDOW COUNT, jobs COUNT, book HELD COUNT, polls HELD COUNT, desk THREADS COUNT, \
-        lock THREADS COUNT, book-desk THREADS COUNT, book-lock THREADS COUNT, frames, messages or each";
+        lock THREADS COUNT, book-desk THREADS COUNT, book-lock THREADS COUNT, frames, messages \
+        or each";
 
 /// What `each` does of the words with two numbers.
 const SMALL: [(&str, u32, u32); 11] = [
