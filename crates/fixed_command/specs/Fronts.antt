@@ -1,11 +1,16 @@
--- The first 64 bytes of a header, hashed (this project's own).
-use Rattle.std.specs.Prelude.{ℕ, List, ◌++◌, take}
+-- The front of a header, hashed (this project's own).
+use Rattle.std.specs.Prelude.{ℕ, List, ◌++◌}
 use Rattle.std.specs.Int.{w32, to_le_bytes}
 use Rattle.sha2.specs.declared.Sha256.{Sha256}
 use Rattle.sha2.specs.Hashers.{Holds256}
 use Rattle.fixed_command.specs.declared.judge.Job.{Job}
 
--- the hash has taken the version, the hash of the block before and 28 bytes of the merkle root
+-- a version, and the job whose headers have it
+pub record HeaderFront : Type 0 where
+  pub version : ℕ
+  pub job : Job
+
+-- the hash has taken the version, the hash of the block before and the merkle root
 abbrev pub HoldsFront : ℕ → Job → Sha256 → Type 0
 HoldsFront version job state =
-    Holds256 state (to_le_bytes w32 version ++ job.prev_hash ++ take 28 job.root)
+    Holds256 state (to_le_bytes w32 version ++ job.prev_hash ++ job.root)

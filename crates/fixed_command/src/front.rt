@@ -3,20 +3,34 @@
 ghost use Rattle.std.specs.Prelude.{◌≡◌};
 ghost use Rattle.block_header.specs.Hash.{dsha};
 ghost use Rattle.block_header.specs.Layout.{header_bytes};
-ghost use Rattle.fixed_command.specs.Fronts.{HoldsFront};
 
 use crate::judge::Job;
 use sha2::{Digest, Sha256};
+use std::marker::Model;
 
-/// A version, and the hash's state behind the first 64 bytes of its headers: the version, the hash
-/// of the block before and 28 bytes of the merkle root are the first block of SHA-256 (FIPS 180-4,
-/// 5.2.1), and time and nonce are behind them.
+/// A version, and the hash's state behind the first 68 bytes of its headers: the version, the hash
+/// of the block before and the merkle root. The first 64 of them are a block of SHA-256 (FIPS 180-4,
+/// 5.2.1), and time and nonce come behind it.
 #[derive(Drop)]
 pub struct Front {
-    pub version: u32,
-    pub job: Job,
+    version: u32,
+    job: Job,
     state: Sha256,
-    ghost front: { HoldsFront version job state },
+}
+
+impl Model for Front {
+    ghost use Rattle.fixed_command.specs.Fronts.{HeaderFront};
+
+    ghost Value = { HeaderFront };
+
+    ghost use Rattle.fixed_command.specs.Fronts.{HoldsFront};
+
+    ghost view = { λ front. record {
+      version = front.version;
+      job = front.job;
+    } };
+
+    ghost invariant = { λ front. HoldsFront front.version front.job front.state };
 }
 
 impl Front {
@@ -27,12 +41,18 @@ impl Front {
         let mut state = Sha256::new();
         state.update(version.to_le_bytes());
         state.update(&job.prev_hash);
-        state.update(&job.root[..28]);
+        state.update(&job.root);
         Front {
             version,
             job: *job,
             state,
         }
+    }
+
+    pub fn version(&self) -> u32
+        ensures { result ≡ self.now.version }
+    {
+        self.version
     }
 
     /// The double hash of the header with this time and nonce.
@@ -41,9 +61,8 @@ impl Front {
             self.now.job.root ntime self.now.job.nbits nonce) }
     {
         let Ok(mut state) = self.state.clone() else {
-            unreachable!()
+            unreachable!();
         };
-        state.update(&self.job.root[28..]);
         state.update(ntime.to_le_bytes());
         state.update(self.job.nbits.to_le_bytes());
         state.update(nonce.to_le_bytes());

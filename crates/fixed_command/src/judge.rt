@@ -82,10 +82,14 @@ impl Judge {
 
     /// Has the front of this version's headers in hand.
     fn turn_to(&mut self, version: u32)
-        ensures same { self.new ≡ record self.old { front = self.new.front } }
+        ensures class { self.new.class ≡ self.old.class }
+        ensures job { self.new.job ≡ self.old.job }
+        ensures credited { self.new.credited ≡ self.old.credited }
+        ensures remembers { (earlier : List _) → RemembersCredits self.old earlier
+            → RemembersCredits self.new earlier }
         ensures version { self.new.front.version ≡ version }
     {
-        if self.front.version != version {
+        if self.front.version() != version {
             self.front = Front::new(version, &self.job);
         }
     }

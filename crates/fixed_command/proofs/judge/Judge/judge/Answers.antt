@@ -6,6 +6,8 @@ use Rattle.fixed_command.proofs.judge.Judge.judge.Goals as goal
 
 pub returns-else-is_none-clause-remembers : goal.returns-else-is_none-clause-remembers
 returns-else-is_none-clause-remembers c = λ earlier remembers r strong.
-    let refused : is_some (first_refusal c.args.self.now.class c.args.self.now.job earlier c.args.share.now) ≡ true =
-    ap is_some (sym (c.first_refusal-refusal.ensures earlier remembers)) ∙ c.if-is_none.ensures in
-    remembers r strong ∙ sym (refused_more c.args.self.now.class c.args.self.now.job earlier c.args.share.now r strong refused)
+    let judge = c.turn_to.new.self in
+    let now = c.turn_to.ensures.remembers earlier remembers in
+    let refused : is_some (first_refusal judge.class judge.job earlier c.args.share.now) ≡ true =
+    ap is_some (sym (c.first_refusal-refusal.ensures earlier now)) ∙ c.if-is_none.ensures in
+    now r strong ∙ sym (refused_more judge.class judge.job earlier c.args.share.now r strong refused)
