@@ -1,7 +1,7 @@
 //! A machine that many threads call: it keeps numbers, and answers how many it had. So what is timed
 //! is the taking of turns.
 
-ghost use Rattle.std.specs.Prelude.{◌≡◌, ◌+◌, ◌<◌, ◌^◌, [], ◌∷◌, length, true};
+ghost use Rattle.std.specs.Prelude.{◌≡◌, ◌+◌, ◌<◌, ◌^◌, [], ◌∷◌, length, false, true};
 
 use crate::turns::{Asked, Sharing, call_in_threads};
 use anyhow::{Result, bail};

@@ -1,6 +1,6 @@
 //! A machine that adds numbers up, and fails at the calls that were listed.
 
-ghost use Rattle.std.specs.Prelude.{◌≡◌, ◌+◌, ◌<◌, ◌^◌, [], ◌∷◌, length, sum};
+ghost use Rattle.std.specs.Prelude.{◌≡◌, ◌+◌, ◌<◌, ◌^◌, [], ◌∷◌, false, length, sum};
 
 use desk::Machine;
 
