@@ -7,7 +7,6 @@ mod jobs;
 mod leads;
 mod openings;
 mod plain;
-mod plain_leads;
 mod printed;
 mod records;
 mod sessions;
