@@ -1,7 +1,7 @@
 #!/bin/sh
 # Openings of channels a second beside few and beside many open ones, each closed again, in one run
 # on one machine, and the bytes that an open channel takes. An opening finds its lead in as many steps
-# whatever is open, and the channel that is closed is the last one, behind which none has to move.
+# whatever is open, and closing a channel moves no more than the last one into its place.
 set -eu
 cd "$(dirname "$0")/.."
 few=${1:-1000}

@@ -171,6 +171,23 @@ class Block:
         return self.reward - self.paid()
 
 
+class NotThere(Exception):
+    """An event is about something that no event before it made."""
+
+
+def there(item):
+    if item is None:
+        raise NotThere
+    return item
+
+
+def numbered(items, number):
+    """The item with a number, from 1."""
+    if number == 0:
+        raise NotThere
+    return items[number - 1]
+
+
 class History:
     """What the events say together."""
 
@@ -187,8 +204,17 @@ class History:
         self.events = 0
 
     def tell(self, number, event, said):
-        getattr(self, f"tell_{event.lower()}")(number, said)
+        try:
+            getattr(self, f"tell_{event.lower()}")(number, said)
+        except (ArithmeticError, LookupError, NotThere, ValueError) as reason:
+            raise ledgers.Defect(f"illegal event {number}: it can't follow those before it") from reason
         self.events += 1
+
+    def channel(self, said):
+        return numbered(self.channels, said["channel"])
+
+    def script(self):
+        return content_of(there(self.rules)["pool_script"])
 
     def tell_start(self, _, said):
         self.rules = said
@@ -208,16 +234,16 @@ class History:
         self.sessions[said["session"]].channels.append(self.channels[-1])
 
     def tell_name(self, _, said):
-        self.channels[said["channel"] - 1].account = json.loads(said["account"])
+        self.channel(said).account = json.loads(said["account"])
 
     def tell_class(self, number, said):
-        self.channels[said["channel"] - 1].classes.append((number, said["class"]))
+        self.channel(said).classes.append((number, said["class"]))
 
     def tell_close(self, number, said):
-        self.channels[said["channel"] - 1].closed = number
+        self.channel(said).closed = number
 
     def tell_template(self, number, said):
-        job = Job(said, number, content_of(self.rules["pool_script"]))
+        job = Job(said, number, self.script())
         self.jobs.append(job)
         if said["future"] == "yes":
             self.future[said["template_id"]] = job
@@ -233,11 +259,11 @@ class History:
         pass
 
     def tell_custom(self, number, said):
-        self.jobs.append(Job(said, number, content_of(self.rules["pool_script"])))
+        self.jobs.append(Job(said, number, self.script()))
 
     def tell_credit(self, number, said):
-        channel = self.channels[said["channel"] - 1]
-        job = self.jobs[said["job"] - 1]
+        channel = self.channel(said)
+        job = numbered(self.jobs, said["job"])
         work = 1 << channel.class_at(job)
         credit = Credit(number, channel.account, work, said["ntime"])
         self.credits.append(credit)
@@ -251,12 +277,13 @@ class History:
             self.settle(Block(credit, job.reward))
 
     def is_block(self, said, root):
+        tip = there(self.tip)
         header = (
-            bytes.fromhex(said["version"])[::-1] + bytes.fromhex(self.tip["prev_hash"]) + root
-            + said["ntime"].to_bytes(4, "little") + bytes.fromhex(self.tip["nbits"])[::-1]
+            bytes.fromhex(said["version"])[::-1] + bytes.fromhex(tip["prev_hash"]) + root
+            + said["ntime"].to_bytes(4, "little") + bytes.fromhex(tip["nbits"])[::-1]
             + said["nonce"].to_bytes(4, "little")
         )
-        target = bytes.fromhex(self.tip["target"])
+        target = bytes.fromhex(tip["target"])
         return sha256(sha256(header))[::-1] <= target[::-1]
 
     def weights(self):
