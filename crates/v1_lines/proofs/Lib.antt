@@ -1,0 +1,4 @@
+pub mod Digits
+pub mod Floats
+pub mod Swaps
+pub mod Values

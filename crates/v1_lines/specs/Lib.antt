@@ -1,0 +1,5 @@
+pub mod Errors
+pub mod HexNumbers
+pub mod Jobs
+pub mod Replies
+pub mod Requests

@@ -1,0 +1,15 @@
+//! Lines of Stratum V1 as JSON: what a line asks, and how replies and notices are written. It knows
+//! no session, and judges nothing.
+#![tactic(auto)]
+
+mod errors;
+mod hex_numbers;
+mod notices;
+mod replies;
+mod requests;
+
+pub use errors::V1Error;
+pub use hex_numbers::{hex_number, hex_word, number_text, word_text};
+pub use notices::{NotifiedJob, notice_value, notify_value, set_difficulty_value};
+pub use replies::{answer_value, error_reply, put_line, refusal_reply, reply_value};
+pub use requests::{MethodCall, answer_id, call_in, is_blank_line, line_value};
