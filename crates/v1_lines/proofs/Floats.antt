@@ -1,5 +1,5 @@
 -- No float is written.
-use Rattle.std.proofs.Common.{◌≡◌, ℕ, Option, None, Some, Result, Ok, Err, IfOk, List, [], ◌∷◌, ◌++◌, false, codes, map, refl, ap, ◌∙◌}
+use Rattle.std.proofs.Common.{◌≡◌, ℕ, Option, None, Some, Result, Ok, Err, IfOk, List, [], ◌∷◌, false, codes, map, refl, ap, ◌∙◌}
 use Rattle.serde_json.specs.Data.{Data, array}
 use Rattle.serde_json.specs.View.{items_of, view}
 use Rattle.serde_json.specs.Written.{has_float, items_have_float}
@@ -7,7 +7,7 @@ use Rattle.serde_json.specs.declared.value.Value.{Value}
 use Rattle.v1_lines.specs.declared.errors.V1Error.{V1Error}
 use Rattle.v1_lines.specs.Errors.{error_for_code}
 use Rattle.v1_lines.specs.Jobs.{NotifyJob, hex_value, notify_params, notify_value}
-use Rattle.v1_lines.specs.Replies.{error_reply, notice_value, refusal_by, refusal_reply}
+use Rattle.v1_lines.specs.Replies.{notice_value, refusal_by, refusal_reply}
 
 texts_without_floats : (hashes : List (List ℕ)) → items_have_float (items_of (map hex_value hashes)) ≡ false
 texts_without_floats [] = refl

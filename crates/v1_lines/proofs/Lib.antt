@@ -1,4 +1,3 @@
 pub mod Digits
 pub mod Floats
-pub mod Swaps
 pub mod Values

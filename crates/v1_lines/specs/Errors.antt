@@ -1,5 +1,5 @@
 -- The errors of Stratum V1, and those that Stratum V2 error codes become (this project's own table).
-use Rattle.std.specs.Prelude.{ℕ, ◌||◌, if◌then◌else◌, Option, None, Some, List, codes}
+use Rattle.std.specs.Prelude.{ℕ, if◌then◌else◌, Option, None, Some, List, codes}
 use Rattle.std.specs.Str.{bytes_eq}
 use Rattle.v1_lines.specs.declared.errors.V1Error.{V1Error}
 use Rattle.v1_lines.specs.declared.errors.V1Error.TheVariants.{MalformedRequest, UnknownMethod, AlreadySubscribed, JobNotFound, DuplicateShare, LowDifficultyShare, UnauthorizedWorker, NotSubscribed}

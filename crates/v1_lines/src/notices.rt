@@ -12,6 +12,7 @@ use serde_json::{Map, Value, json, put};
 use std::alloc::{AllocError, Global};
 
 /// A job, as `mining.notify` tells it.
+#[derive(Drop)]
 pub struct NotifiedJob<'a> {
     pub job_id: u32,
     /// The hash of the block before it, as a header has it.

@@ -10,6 +10,7 @@ use serde_json::Value;
 use std::alloc::{AllocError, Global};
 
 /// A request: the method that it names, and its parameters.
+#[derive(Drop)]
 pub struct MethodCall<'a> {
     pub method: &'a str,
     pub params: &'a [Value],
