@@ -1,0 +1,9 @@
+mod FeedStanding
+mod Fitting
+mod Heard
+mod Judged
+mod Meant
+mod ScriptRead
+mod Sharing
+mod Standing
+mod Tried

@@ -1,0 +1,16 @@
+pub mod Courses
+pub mod FeedHearing
+pub mod FeedStates
+pub mod Feeds
+pub mod Hearings
+pub mod Laws
+pub mod Miners
+pub mod Notices
+pub mod Partners
+pub mod Saying
+pub mod ScriptReading
+pub mod ScriptValues
+pub mod Scripts
+pub mod Solutions
+pub mod States
+pub mod Trying
