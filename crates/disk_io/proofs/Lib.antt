@@ -1,0 +1,3 @@
+pub mod Crashes
+mod Rooms
+mod LeftBehind
