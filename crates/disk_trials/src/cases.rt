@@ -70,7 +70,9 @@ pub(crate) fn pick(words: &str) -> Result<u64> {
     let count = words.split_whitespace().count();
     let mut pick = [0; 8];
     for (at, byte) in pick.iter_mut().enumerate() {
-        let word = words.split_whitespace().nth(at.checked_rem(count).unwrap_or(0));
+        let word = words
+            .split_whitespace()
+            .nth(at.checked_rem(count).unwrap_or(0));
         *byte = word.context("a number is missing")?.parse()?;
     }
     Ok(u64::from_le_bytes(pick))
