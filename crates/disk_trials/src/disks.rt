@@ -43,7 +43,7 @@ fn put_call(alloc: Global, text: &mut String, disk: &mut MemDisk, call: &str) ->
             let answer = disk.length();
             write!(text, "{answer:?}; ")?;
         }
-        "read" if size >= 2 && at <= size - 2 => put_read(alloc, text, disk, at)?,
+        "read" => put_read(alloc, text, disk, at)?,
         _ => bail!("no call is {call}"),
     }
     Ok(())
@@ -51,6 +51,10 @@ fn put_call(alloc: Global, text: &mut String, disk: &mut MemDisk, call: &str) ->
 
 /// What a disk answers to a read of two bytes.
 fn put_read(alloc: Global, text: &mut String, disk: &mut MemDisk, at: u64) -> Result<()> {
+    let size = disk.content().len() as u64;
+    if size < 2 || at > size - 2 {
+        bail!("two bytes aren't there");
+    }
     let mut buffer = [0; 2];
     match disk.read_at(at, &mut buffer) {
         Ok(()) => {
