@@ -44,7 +44,7 @@ pub(crate) fn shown(alloc: Global, bytes: &[u8]) -> Result<String, AllocError> {
     }
 }
 
-/// A disk of these bytes that fails: `3 part 1` at its third call, of which one byte is done, and
+/// A disk of these bytes that fails: `3 5 part 1` at its calls 3 and 5, of which one byte is done, and
 /// `from 3 part 0` from then on. Without words it never does.
 pub(crate) fn disk(alloc: Global, content: &str, failing: &str) -> Result<MemDisk> {
     let disk = MemDisk::new(alloc, bytes(alloc, content)?);
@@ -56,7 +56,9 @@ pub(crate) fn disk(alloc: Global, content: &str, failing: &str) -> Result<MemDis
             match calls.trim().strip_prefix("from") {
                 Some(from) => (from.trim().parse()?, part),
                 None => {
-                    listed.push(calls.trim().parse()?)?;
+                    for call in calls.split_whitespace() {
+                        listed.push(call.parse()?)?;
+                    }
                     (u64::MAX, part)
                 }
             }

@@ -1,0 +1,7 @@
+mod Moments
+mod Putting
+mod Finding
+mod Shutting
+mod Adding
+mod Telling
+mod Making
