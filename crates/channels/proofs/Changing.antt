@@ -10,13 +10,17 @@ use Rattle.history_laws.proofs.Entrances.{none-some, some-same}
 use Rattle.history_laws.proofs.Legalities.{some-none}
 use Rattle.history_laws.specs.Openings.{AreLeadsApart}
 use Rattle.pool_history.specs.declared.events.Kind.TheVariants.{Standard}
-use Rattle.pool_history.specs.Channels.{OpenChannel, account_or, channel_in, with_class, with_name}
+use Rattle.pool_history.specs.declared.spans.LiveSpan.{LiveSpan}
+use Rattle.pool_history.specs.Channels.{OpenChannel, account_or, channel_in, with_name}
 use Rattle.prefix_space.specs.HeldLeads.{is_held}
 use Rattle.channels.specs.ClassSettings.{ClassSettings}
+use Rattle.channels.specs.Cuts.{cut_sets}
 use Rattle.channels.specs.Orders.{by_id}
 use Rattle.channels.specs.declared.channel.Channel.{Channel}
 use Rattle.channels.specs.Tables.{AreKept, HasItsClass, named_channel, reclassed_channel, roomed_channel, rooms_of, shown_channel, with_changed}
 use Rattle.channels.proofs.Closings.{leads_of}
+use Rattle.channels.proofs.Cuts.{last-cut}
+use Rattle.channels.specs.Cuts.{with_cut}
 use Rattle.channels.proofs.Lookups.{channel_in-shown, eqb-flip, shown_all}
 use Rattle.channels.proofs.Ordering.{lookup-mapped, mapped-by_id}
 
@@ -82,18 +86,19 @@ shown-named id account (e ∷ entries) =
       by_test true = refl
       by_test false = refl
 
--- a class is set for what is shown
-pub shown-set : (at id class : ℕ) (entries : List (ℕ × Channel))
-    → shown_all (with_changed (reclassed_channel at class) id entries) ≡ map (with_class at id class) (shown_all entries)
-shown-set at id class [] = refl
-shown-set at id class (e ∷ entries) =
-    ap (λ c. c ∷ shown_all (with_changed (reclassed_channel at class) id entries)) (by_test (eqb id e.0) ∙ ap set (eqb-flip id e.0))
-    ∙ ap (λ l. with_class at id class (shown_channel e.0 e.1) ∷ l) (shown-set at id class entries) where
+-- a class is set for what is shown, and the older ones are cut
+pub shown-set : (room at id class : ℕ) (span : LiveSpan) (entries : List (ℕ × Channel))
+    → shown_all (with_changed (reclassed_channel room at class span) id entries) ≡ map (with_cut at id class span) (shown_all entries)
+shown-set room at id class span [] = refl
+shown-set room at id class span (e ∷ entries) =
+    ap (λ c. c ∷ shown_all (with_changed (reclassed_channel room at class span) id entries)) (by_test (eqb id e.0) ∙ ap set (eqb-flip id e.0))
+    ∙ ap (λ l. with_cut at id class span (shown_channel e.0 e.1) ∷ l) (shown-set room at id class span entries) where
       set : Bool → OpenChannel
       set t =
-          cond t (record (shown_channel e.0 e.1) { sets = record { at = at; class = class } ∷ e.1.settings.sets }) (shown_channel e.0 e.1)
+          cond t (record (shown_channel e.0 e.1) { sets = cut_sets at class span e.1.settings.sets }) (shown_channel e.0 e.1)
 
-      by_test : (t : Bool) → shown_channel (cond t (e.0, reclassed_channel at class e.1) e).0 (cond t (e.0, reclassed_channel at class e.1) e).1 ≡ set t
+      by_test : (t : Bool)
+          → shown_channel (cond t (e.0, reclassed_channel room at class span e.1) e).0 (cond t (e.0, reclassed_channel room at class span e.1) e).1 ≡ set t
       by_test true = refl
       by_test false = refl
 
@@ -152,8 +157,8 @@ changed-kept f opened id entries held leads classes kept =
 pub named-class : (account : List ℕ) (c : Channel) → HasItsClass c → HasItsClass (named_channel account c)
 named-class account c has = record { class_is = has.class_is }
 
-pub set-class : (at class : ℕ) (c : Channel) → HasItsClass c → HasItsClass (reclassed_channel at class c)
-set-class at class c has = record { class_is = refl }
+pub set-class : (room at class : ℕ) (span : LiveSpan) (c : Channel) → HasItsClass c → HasItsClass (reclassed_channel room at class span c)
+set-class room at class span c has = record { class_is = sym (last-cut at class c.opening_class span c.settings.sets) }
 
 pub roomed-class : (room : ℕ) (c : Channel) → HasItsClass c → HasItsClass (roomed_channel room c)
 roomed-class room c has = record { class_is = has.class_is }

@@ -28,7 +28,7 @@ class-last : (place opening : ℕ) (sets : List ClassSet) (first : ClassSet)
 class-last place opening [] first = refl
 class-last place opening (set ∷ sets) first = ap (λ n. cond (nat_lt set.at place) set.class n) (class-last place opening sets first)
 
-sets-first : (s : Setting) (later : List Setting) → sets_of (s ∷ later) ≡ sets_of later ++ class_set s ∷ []
+pub sets-first : (s : Setting) (later : List Setting) → sets_of (s ∷ later) ≡ sets_of later ++ class_set s ∷ []
 sets-first s later = ap (map class_set) (reverse-append (s ∷ []) later) ∙ map-append class_set (reverse later) (s ∷ [])
 
 class-first : (place opening : ℕ) (s : Setting) (later : List Setting) (t : Bool) → nat_lt s.at place ≡ t

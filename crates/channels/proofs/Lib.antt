@@ -1,6 +1,8 @@
 pub mod Changing
 pub mod Closings
+pub mod Cuts
 pub mod Disjoint
+pub mod Forgetting
 pub mod Halves
 pub mod Joining
 pub mod Leaving

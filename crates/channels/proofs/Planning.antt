@@ -12,12 +12,13 @@ use Rattle.pool_history.specs.declared.refusals.NameError.{NameError}
 use Rattle.pool_history.specs.declared.refusals.NameError.TheVariants as name
 use Rattle.pool_history.specs.declared.settings.Rules.{Rules}
 use Rattle.pool_history.specs.Accounts.{is_empty, is_known}
-use Rattle.pool_history.specs.Channels.{ChannelMove, OpenChannel, channel_in, channels_in}
+use Rattle.pool_history.specs.Channels.{ChannelMove, OpenChannel, channel_in, channels_in, channels_told}
 use Rattle.pool_history.specs.Conditions.{or_code, unless_refusal}
 use Rattle.pool_history.specs.Refusing.{nameable}
 use Rattle.channels.specs.declared.channel.Channel.{Channel}
 use Rattle.channels.specs.Tables.{ChannelTable, IsTold, ShowsSameChannels, lead_if_own, shown_channel}
 use Rattle.channels.proofs.Closings.{IsOwn, own-lead, own-none, own-shown, own_in}
+use Rattle.channels.proofs.Cuts.{all-as}
 use Rattle.channels.proofs.Lookups.{channel_in-shown, shown_all}
 use Rattle.channels.specs.declared.plan.ChannelPlan.{ChannelPlan}
 use Rattle.channels.specs.Plans.{IsDoneUnless, IsUnless, naming_refusal, completion_of, plan_for}
@@ -111,8 +112,8 @@ name-found rules account session id entries apart is = by_option (lookup (eqb id
   )
 
 -- what was told stays so where nothing changed but room
-pub told-same : (old new : ChannelTable) (moves : List ChannelMove) → ShowsSameChannels old new → IsTold old moves → IsTold new moves
-told-same old new moves same told = record {
+pub told-same : (is_asked : ℕ → Bool) (old new : ChannelTable) (moves : List ChannelMove) → ShowsSameChannels old new → IsTold is_asked old moves → IsTold is_asked new moves
+told-same is_asked old new moves same told = record {
   opened_are = same.opened_stays ∙ told.opened_are;
-  channels_are = same.channels_stay ∙ told.channels_are;
+  channels_are = all-as is_asked new.open_channels old.open_channels (channels_told moves) same.channels_stay told.channels_are;
 }

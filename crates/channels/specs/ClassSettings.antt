@@ -1,9 +1,9 @@
 -- What is kept of the classes that were set for one channel (this project's own).
-use Rattle.std.specs.Prelude.{ℕ, ◌-◌, List, ◌∷◌, map, reverse}
+use Rattle.std.specs.Prelude.{ℕ, List, map, reverse}
 use Rattle.pool_history.specs.Channels.{ClassSet}
 use Rattle.channels.specs.declared.settings.Setting.{Setting}
 
--- the classes that were set, the last first
+-- the settings that are kept, the last first
 pub record ClassSettings : Type 0 where
   pub sets : List ClassSet
   -- so many more need no memory
@@ -16,11 +16,3 @@ class_set setting = record { at = setting.at; class = setting.class }
 -- the last of the settings stands first
 abbrev pub sets_of : List Setting → List ClassSet
 sets_of settings = map class_set (reverse settings)
-
--- one more is set, where there is room
-abbrev pub with_set : ℕ → ℕ → ClassSettings → ClassSettings
-with_set at class settings =
-    record {
-      sets = record { at = at; class = class } ∷ settings.sets;
-      room = settings.room - 1;
-    }

@@ -1,4 +1,5 @@
 pub mod ClassSettings
+pub mod Cuts
 pub mod Histories
 pub mod Orders
 pub mod Plans

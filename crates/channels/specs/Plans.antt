@@ -1,5 +1,5 @@
 -- Changes of a table that were planned (this project's own).
-use Rattle.std.specs.Prelude.{◌≡◌, ℕ, ◌+◌, ◌≤◌, ◌==◌, ◌||◌, ◌⊎◌, false, Option, None, Some, is_some, Result, Ok, Err, List, [], ◌∷◌, length, map, nat_eq, IsTrue}
+use Rattle.std.specs.Prelude.{◌≡◌, ℕ, ◌+◌, ◌≤◌, ◌==◌, ◌||◌, ◌⊎◌, Bool, false, Option, None, Some, is_some, Result, Ok, Err, List, [], ◌∷◌, length, map, nat_eq, IsTrue}
 use Rattle.std.specs.Map.{lookup}
 use Rattle.std.specs.Str.{bytes_eq}
 use Rattle.pool_history.specs.declared.asking.OpenAsk.{OpenAsk}
@@ -19,6 +19,7 @@ use Rattle.pool_history.specs.Spaces.{lowest}
 use Rattle.channels.specs.declared.channel.Channel.{Channel}
 use Rattle.channels.specs.declared.plan.ChannelPlan.{ChannelPlan}
 use Rattle.channels.specs.declared.plan.ChannelPlan.TheVariants as plan
+use Rattle.channels.specs.Cuts.{IsAskedWithin, with_cut}
 use Rattle.channels.specs.Tables.{ChannelTable, count_kept}
 
 -- the move that a plan makes
@@ -26,13 +27,13 @@ abbrev pub planned_move : ChannelPlan → ChannelMove
 planned_move (plan.Open at session kind account opened) =
     Opens at session kind account opened.class opened.lead
 planned_move (plan.Name channel account) = Names channel account
-planned_move (plan.Class at channel class) = Sets at channel class
+planned_move (plan.Class at channel class span) = Sets at channel class
 
 -- what a plan opens
 abbrev pub opened_by : ChannelPlan → Option Opened
 opened_by (plan.Open at session kind account opened) = Some opened
 opened_by (plan.Name channel account) = None
-opened_by (plan.Class at channel class) = None
+opened_by (plan.Class at channel class span) = None
 
 -- what is opened next for a session: it may open one more, the id and the lead are the next, and a
 -- standard channel's lead has four bytes
@@ -60,7 +61,20 @@ pub record MaySetClass (table : ChannelTable) (channel : ℕ) : Type 0 where
 abbrev pub CanApply : ChannelTable → ChannelPlan → Type 0
 CanApply table (plan.Open at session kind account opened) = MayOpenNext table session kind opened
 CanApply table (plan.Name channel account) = Unit {0}
-CanApply table (plan.Class at channel class) = MaySetClass table channel
+CanApply table (plan.Class at channel class span) = MaySetClass table channel
+
+-- classes are asked for as it was planned: where one is set, within the span of the plan
+abbrev pub IsAskedAsPlanned : (ℕ → Bool) → ChannelPlan → Type 0
+IsAskedAsPlanned is_asked (plan.Open at session kind account opened) = Unit {0}
+IsAskedAsPlanned is_asked (plan.Name channel account) = Unit {0}
+IsAskedAsPlanned is_asked (plan.Class at channel class span) = IsAskedWithin is_asked span at
+
+-- a class that is set forgets those that no one asks for within the plan's bounds
+abbrev pub CutsAsPlanned : ChannelPlan → ChannelTable → ChannelTable → Type 0
+CutsAsPlanned (plan.Open at session kind account opened) old new = Unit {0}
+CutsAsPlanned (plan.Name channel account) old new = Unit {0}
+CutsAsPlanned (plan.Class at channel class span) old new =
+    new.open_channels ≡ map (with_cut at channel class span) old.open_channels
 
 -- a plan where something was found, or why not
 abbrev pub plan_for : {X E : Type 0} → ChannelPlan → Result X E → Result ChannelPlan E

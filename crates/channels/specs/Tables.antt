@@ -1,16 +1,17 @@
 -- What a table of open channels shows (this project's own).
-use Rattle.std.specs.Prelude.{◌≡◌, ℕ, ◌-◌, ◌≤◌, ◌==◌, if◌then◌else◌, Option, None, Some, List, [], ◌∷◌, Vec, filter, length, map, nat_eq, not, vec_capacity, vec_len}
+use Rattle.std.specs.Prelude.{◌≡◌, ℕ, ◌-◌, ◌≤◌, ◌==◌, Bool, true, if◌then◌else◌, Option, None, Some, List, [], ◌∷◌, Vec, filter, length, map, nat_eq, not, vec_capacity, vec_len}
 use Rattle.std.specs.List.{AllByRecursion}
 use Rattle.std.specs.Map.{lookup, remove_entry}
 use Rattle.std.specs.Option.{option_map}
 use Rattle.std.specs.declared.alloc.Global.{Global}
 use Rattle.pool_history.specs.declared.events.Kind.{Kind}
-use Rattle.pool_history.specs.Channels.{ChannelMove, OpenChannel, account_or, channel_in, channels_told, last_class, opened, present_class}
+use Rattle.pool_history.specs.declared.spans.LiveSpan.{LiveSpan}
+use Rattle.pool_history.specs.Channels.{ChannelMove, OpenChannel, account_or, channel_in, channels_told, class_at, last_class, opened, present_class}
 use Rattle.history_laws.specs.Apart.{AreDisjoint}
 use Rattle.history_laws.specs.Openings.{AreLeadsApart}
 use Rattle.prefix_space.specs.HeldLeads.{is_held}
 use Rattle.channels.specs.declared.channel.Channel.{Channel}
-use Rattle.channels.specs.ClassSettings.{with_set}
+use Rattle.channels.specs.Cuts.{cut_sets}
 
 -- the open channels in the order of their ids, and how many were opened
 pub record ChannelTable : Type 0 where
@@ -26,11 +27,6 @@ pub record ChannelTable : Type 0 where
 pub record ShowsSameChannels (old new : ChannelTable) : Type 0 where
   pub opened_stays : new.opened ≡ old.opened
   pub channels_stay : new.open_channels ≡ old.open_channels
-
--- a table was told these moves
-pub record IsTold (table : ChannelTable) (moves : List ChannelMove) : Type 0 where
-  pub opened_are : table.opened ≡ opened moves
-  pub channels_are : table.open_channels ≡ channels_told moves
 
 -- what is kept of an open channel
 pub record KeptChannel : Type 0 where
@@ -64,6 +60,27 @@ kept_channel channel =
       opening_class = channel.opening_class;
       class = present_class channel;
     }
+
+-- a channel that is kept answers for one of a history: both are the same but for the classes that
+-- were set, of which the present one is the same, and that at each place that may be asked for
+pub record AnswersFor (is_asked : ℕ → Bool) (kept told : OpenChannel) : Type 0 where
+  pub id_is : kept.id ≡ told.id
+  pub kept_is : kept_channel kept ≡ kept_channel told
+  pub class_is : (place : ℕ) → is_asked place ≡ true → class_at kept place ≡ class_at told place
+
+-- so do channels, one by one
+abbrev pub AllAnswerFor : (ℕ → Bool) → List OpenChannel → List OpenChannel → Type 0
+AllAnswerFor is_asked [] [] = Unit {0}
+AllAnswerFor is_asked [] (told ∷ later) = ⊥
+AllAnswerFor is_asked (kept ∷ others) [] = ⊥
+AllAnswerFor is_asked (kept ∷ others) (told ∷ later) =
+    AnswersFor is_asked kept told × AllAnswerFor is_asked others later
+
+-- a table was told these moves, where classes may be asked for at these places
+pub record IsTold (is_asked : ℕ → Bool) (table : ChannelTable) (moves : List ChannelMove)
+    : Type 0 where
+  pub opened_are : table.opened ≡ opened moves
+  pub channels_are : AllAnswerFor is_asked table.open_channels (channels_told moves)
 
 -- a channel that is kept under its id
 abbrev pub shown_channel : ℕ → Channel → OpenChannel
@@ -105,15 +122,18 @@ abbrev pub with_changed : (Channel → Channel) → ℕ → List (ℕ × Channel
 with_changed change id entries =
     map (λ entry. if id == entry.0 then (entry.0, change entry.1) else entry) entries
 
--- a channel as it is kept, with an account where it has none, with a class that is set at a place,
--- and with room for so many classes that are set
+-- a channel as it is kept, with an account where it has none, with a class that is set at a place
+-- while jobs are live within a span, and with room for so many classes that are set
 abbrev pub named_channel : List ℕ → Channel → Channel
 named_channel account channel =
     record channel { account = account_or channel.account account }
 
-abbrev pub reclassed_channel : ℕ → ℕ → Channel → Channel
-reclassed_channel at class channel =
-    record channel { class = class; settings = with_set at class channel.settings }
+abbrev pub reclassed_channel : ℕ → ℕ → ℕ → LiveSpan → Channel → Channel
+reclassed_channel room at class span channel =
+    record channel {
+      class = class;
+      settings = record { sets = cut_sets at class span channel.settings.sets; room = room };
+    }
 
 abbrev pub roomed_channel : ℕ → Channel → Channel
 roomed_channel room channel =

@@ -10,7 +10,7 @@ ghost use Rattle.channels.specs.Tables.{HoldsLeads, count_kept, named_channel, r
 
 use crate::channel::Channel;
 use indexmap::IndexMap;
-use pool_history::{Class, Lead};
+use pool_history::{Class, Lead, LiveSpan};
 use prefix_space::Space;
 use std::alloc::AllocError;
 use sv2_types::Str255;
@@ -62,15 +62,22 @@ pub(crate) fn reserve_class(
     }
 }
 
-/// Sets the class of a channel at a place, for which there is room.
-pub(crate) fn put_class(channels: &mut IndexMap<u32, Channel>, id: u32, at: u64, class: Class)
+/// Sets the class of a channel at a place, for which there is room, while jobs are live within a
+/// span.
+pub(crate) fn put_class(
+    channels: &mut IndexMap<u32, Channel>,
+    id: u32,
+    at: u64,
+    class: Class,
+    span: LiveSpan,
+)
     requires { 1 ≤ count_kept (lookup (nat_eq id) (rooms_of (by_id channels.old.entries))) }
-    ensures { by_id channels.new.entries
-        ≡ with_changed (reclassed_channel at class) id (by_id channels.old.entries) }
+    ensures { (room : ℕ) × (by_id channels.new.entries
+        ≡ with_changed (reclassed_channel room at class span) id (by_id channels.old.entries)) }
 {
     if let Some(there) = channels.get_mut(&id) {
         there.class = class;
-        there.settings.set(at, class);
+        there.settings.set(at, class, span);
     }
 }
 

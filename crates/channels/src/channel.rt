@@ -20,7 +20,7 @@ pub struct Channel {
     pub opening_class: Class,
     /// The present one.
     pub class: Class,
-    /// The classes that were set since.
+    /// What is kept of the classes that were set since.
     pub(crate) settings: Settings,
     pub ghost standard_is_whole: { kind ≡ Standard → length lead ≡ 4 },
 }

@@ -1,4 +1,5 @@
-//! The open channels of a pool, exact to the moves that they were told of.
+//! The open channels of a pool, exact to the moves that they were told of, but for classes that no
+//! job can ask for.
 #![tactic(auto)]
 
 mod accounts;

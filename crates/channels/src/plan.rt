@@ -3,7 +3,7 @@
 ghost use Rattle.std.specs.Prelude.{◌≡◌};
 ghost use Rattle.channels.specs.Plans.{opened_by};
 
-use pool_history::{Class, Kind, Opened};
+use pool_history::{Class, Kind, LiveSpan, Opened};
 use sv2_types::Str255;
 
 /// A change of a table that was planned, with the memory that it needs.
@@ -22,11 +22,12 @@ pub enum ChannelPlan {
         channel: u32,
         account: Str255,
     },
-    /// A channel's class is set, at a place of the history.
+    /// A channel's class is set, at a place of the history, while jobs are live within a span.
     Class {
         at: u64,
         channel: u32,
         class: Class,
+        span: LiveSpan,
     },
 }
 

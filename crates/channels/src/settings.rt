@@ -1,6 +1,6 @@
-//! The classes that were set for one channel. It knows no other.
+//! What is kept of the classes that were set for one channel. It knows no other.
 
-use pool_history::Class;
+use pool_history::{Class, LiveSpan};
 use std::alloc::{AllocError, Global};
 use std::marker::Model;
 
@@ -11,8 +11,8 @@ pub(crate) struct Setting {
     pub class: Class,
 }
 
-/// The classes that were set for a channel. Contracts see them with the last one first, and for
-/// how many more there is room.
+/// What is kept of the classes that were set for a channel. Contracts see it with the last one first,
+/// and for how many more there is room.
 #[derive(Debug, Drop)]
 pub struct Settings {
     /// In the order in which they were set.
@@ -42,7 +42,7 @@ impl Model for Settings {
 impl Settings {
     ghost use Rattle.std.specs.Prelude.{◌≡◌, ◌≤◌, [], OnOk};
     ghost use Rattle.pool_history.specs.Channels.{class_before};
-    ghost use Rattle.channels.specs.ClassSettings.{with_set};
+    ghost use Rattle.channels.specs.Cuts.{cut_sets};
 
     /// None was set.
     pub(crate) fn new(alloc: Global) -> Settings
@@ -62,16 +62,19 @@ impl Settings {
         self.settings.reserve(1)
     }
 
-    /// Sets a class at a place, for which there is room.
-    pub(crate) fn set(&mut self, at: u64, class: Class)
+    /// Sets a class at a place, for which there is room, while jobs are live within a span, and
+    /// forgets the classes that neither they nor later jobs ask for.
+    pub(crate) fn set(&mut self, at: u64, class: Class, span: LiveSpan)
         requires { 1 ≤ self.old.room }
-        ensures { self.new ≡ with_set at class self.old }
+        ensures { self.new.sets ≡ cut_sets at class span self.old.sets }
     {
+        forget_last(&mut self.settings, span.newest);
         self.rising = self.rising && is_behind(&self.settings, at);
         self.settings.push_reserved(Setting { at, class });
+        forget_first(&mut self.settings, span.oldest);
     }
 
-    /// The last class that was set before a place, or else that of the opening.
+    /// The last kept class that was set before a place, or else that of the opening.
     pub(crate) fn class_at(&self, place: u64, opening: Class) -> Class
         ensures { result ≡ class_before place self.now.sets opening }
     {
@@ -84,10 +87,11 @@ impl Settings {
 }
 
 ghost use Rattle.std.specs.Option.{option_copied};
-ghost use Rattle.std.specs.Prelude.{◌≡◌, ◌-◌, ◌<◌, ◌≤◌, IsTrue, true, false, find, length, nat_lt, reverse, slice_index_or};
+ghost use Rattle.std.specs.Prelude.{◌≡◌, ◌-◌, ◌<◌, ◌≤◌, IsTrue, true, false, drop, find, length, nat_lt, reverse, slice_index_or, take, vec_capacity, vec_len};
 ghost use Rattle.std.specs.List.Sorted.{IsNonDecreasingBy, IsPartitionPoint};
 ghost use Rattle.pool_history.specs.Channels.{class_before};
 ghost use Rattle.channels.specs.ClassSettings.{sets_of};
+ghost use Rattle.channels.specs.Cuts.{asked_since, without_unasked};
 ghost use Rattle.channels.specs.declared.settings.Setting.{Setting};
 
 /// Whether a place isn't below that of the last setting.
@@ -99,6 +103,56 @@ fn is_behind(settings: &[Setting], at: u64) -> bool
         Some(setting) => setting.at <= at,
         None => true,
     }
+}
+
+/// Forgets the last setting where no live job is behind its place; the newest is live since a place.
+fn forget_last(settings: &mut Vec<Setting>, newest: u64)
+    ensures sets { sets_of settings.new.items
+        ≡ without_unasked newest (sets_of settings.old.items) }
+    ensures rising { IsNonDecreasingBy (λ setting. setting.at) settings.old.items
+        → IsNonDecreasingBy (λ setting. setting.at) settings.new.items }
+    ensures room { vec_capacity settings.old - vec_len settings.old
+        ≤ vec_capacity settings.new - vec_len settings.new }
+{
+    let count = count_asked(settings, newest);
+    settings.truncate(count);
+}
+
+/// How many settings stay where the last may be forgotten.
+fn count_asked(settings: &[Setting], newest: u64) -> usize
+    ensures { sets_of (take result settings.now) ≡ without_unasked newest (sets_of settings.now) }
+{
+    let count = settings.len();
+    if 0 < count && newest <= settings[count - 1].at {
+        return count - 1;
+    }
+    count
+}
+
+/// Forgets the settings before the last one that stands before a place: the oldest job that is live
+/// asks for none of them.
+fn forget_first(settings: &mut Vec<Setting>, oldest: u64)
+    ensures sets { sets_of settings.new.items ≡ asked_since oldest (sets_of settings.old.items) }
+    ensures rising { IsNonDecreasingBy (λ setting. setting.at) settings.old.items
+        → IsNonDecreasingBy (λ setting. setting.at) settings.new.items }
+{
+    let count = count_unasked(settings, oldest);
+    settings.drain(..count);
+}
+
+/// How many settings stand before the last one that stands before a place.
+fn count_unasked(settings: &[Setting], oldest: u64) -> usize
+    ensures within { result ≤ length settings.now }
+    ensures sets { sets_of (drop result settings.now) ≡ asked_since oldest (sets_of settings.now) }
+{
+    let mut count = settings.len();
+    while 0 < count {
+        count -= 1;
+        if settings[count].at < oldest {
+            return count;
+        }
+    }
+    0
 }
 
 /// How many settings have a place before this one, where the places rise.

@@ -10,7 +10,7 @@ use crate::openings::{class_given, lead_len, opening_account, opening_refusal};
 use crate::plan::ChannelPlan;
 use crate::settings::Settings;
 use indexmap::IndexMap;
-use pool_history::{Class, Kind, Lead, NameError, OpenAsk, OpenError, Opened, Rules};
+use pool_history::{Class, Kind, Lead, LiveSpan, NameError, OpenAsk, OpenError, Opened, Rules};
 use prefix_space::Space;
 use std::alloc::{AllocError, Global};
 use std::marker::Model;
@@ -68,7 +68,7 @@ impl Model for Channels {
 }
 
 impl Channels {
-    ghost use Rattle.std.specs.Prelude.{◌≡◌, ◌↔◌, ◌⊎◌, ℕ, ◌≤◌, None, List, [], ◌∷◌, IfErr, IfOk, IsErr, IsTrue, OnErr, OnOk, is_some, map, nat_eq};
+    ghost use Rattle.std.specs.Prelude.{◌≡◌, ◌↔◌, ◌⊎◌, ℕ, ◌≤◌, Bool, None, List, [], ◌∷◌, IfErr, IfOk, IsErr, IsTrue, OnErr, OnOk, is_some, map, nat_eq};
     ghost use Rattle.std.specs.Map.{lookup};
     ghost use Rattle.std.specs.Option.{option_copied, option_map};
     ghost use Rattle.pool_history.specs.Accounts.{account_of};
@@ -77,12 +77,13 @@ impl Channels {
     ghost use Rattle.pool_history.specs.Refusing.{nameable};
     ghost use Rattle.pool_history.specs.Conditions.{found};
     ghost use Rattle.channels.specs.declared.plan.ChannelPlan.TheVariants as plan;
-    ghost use Rattle.channels.specs.Plans.{CanApply, IsDoneUnless, IsNextOpening, IsUnless, MayOpenNext, MaySetClass, planned_move, opened_by, opening_on, opening_plan, plan_for};
+    ghost use Rattle.channels.specs.Cuts.{IsAskedWithin, with_cut};
+    ghost use Rattle.channels.specs.Plans.{CanApply, CutsAsPlanned, IsAskedAsPlanned, IsDoneUnless, IsNextOpening, IsUnless, MayOpenNext, MaySetClass, opened_by, opening_on, opening_plan, plan_for, planned_move};
     ghost use Rattle.channels.specs.Tables.{IsTold, ShowsSameChannels, count_kept, kept_channel, kept_of};
 
     /// No channel is open, and none was.
     pub fn new(alloc: Global) -> Result<Channels, AllocError>
-        ensures { IfOk result (λ table. IsTold table []) }
+        ensures { IfOk result (λ table. (is_asked : ℕ → Bool) → IsTold is_asked table []) }
     {
         let space = Space::new(alloc)?;
         Ok(Channels {
@@ -109,8 +110,9 @@ impl Channels {
         own_channel(&self.channels, session, channel)
     }
 
-    /// The class of an open channel at a job that is live since a place: the last that was set
-    /// before that place. None where the channel isn't open.
+    /// The class of an open channel at a job that is live since a place: the last kept one that was
+    /// set before that place, which is the history's wherever it may be asked for. None where the
+    /// channel isn't open.
     pub fn class_at(&self, channel: u32, live_at: u64) -> Option<Class>
         ensures { result
             ≡ option_map (λ shown. class_at shown live_at)
@@ -134,8 +136,9 @@ impl Channels {
     pub fn close(&mut self, session: u32, channel: u32) -> Result<(), NotOpen>
         ensures not_open { IsErr result
             ↔ (channel_in (channels_in self.old.open_channels session) channel ≡ None) }
-        ensures told { OnOk result ((moves : List ChannelMove) → IsTold self.old moves
-            → IsTold self.new (Closes channel ∷ moves)) }
+        ensures told { OnOk result ((is_asked : ℕ → Bool) (moves : List ChannelMove)
+            → IsTold is_asked self.old moves
+            → IsTold is_asked self.new (Closes channel ∷ moves)) }
         ensures refused { OnErr result (self.new ≡ self.old) }
     {
         let Some(_lead) = own_lead(&self.channels, session, channel) else {
@@ -148,8 +151,9 @@ impl Channels {
 
     /// Closes all open channels of a session, and gives their leads back. It takes no memory.
     pub fn leave(&mut self, session: u32)
-        ensures { (moves : List ChannelMove) → IsTold self.old moves
-            → IsTold self.new (Leaves session ∷ moves) }
+        ensures { (is_asked : ℕ → Bool) (moves : List ChannelMove)
+            → IsTold is_asked self.old moves
+            → IsTold is_asked self.new (Leaves session ∷ moves) }
     {
         // Says that no id is kept twice.
         let _count = self.channels.len();
@@ -168,8 +172,9 @@ impl Channels {
         requires { rules.now.least_class ≤ 60 }
         ensures answer { IsUnless OpenError.Memory result
             (opening_on self.old rules.now session ask.now) }
-        ensures told { IfOk result (λ opened. (moves : List ChannelMove) → IsTold self.old moves
-            → IsTold self.new (Opens at session ask.now.kind
+        ensures told { IfOk result (λ opened. (is_asked : ℕ → Bool) (moves : List ChannelMove)
+            → IsTold is_asked self.old moves
+            → IsTold is_asked self.new (Opens at session ask.now.kind
             (account_for ask.now.kind ask.now.identity) opened.class opened.lead ∷ moves)) }
         ensures refused { OnErr result (ShowsSameChannels self.old self.new) }
     {
@@ -190,8 +195,9 @@ impl Channels {
         ensures answer { IsDoneUnless NameError.Memory result (nameable rules.now
             (account_of identity.now)
             (channel_in (channels_in self.old.open_channels session) channel)) }
-        ensures told { OnOk result ((moves : List ChannelMove) → IsTold self.old moves
-            → IsTold self.new (Names channel (account_of identity.now) ∷ moves)) }
+        ensures told { OnOk result ((is_asked : ℕ → Bool) (moves : List ChannelMove)
+            → IsTold is_asked self.old moves
+            → IsTold is_asked self.new (Names channel (account_of identity.now) ∷ moves)) }
         ensures refused { OnErr result (ShowsSameChannels self.old self.new) }
     {
         match self.plan_name(session, channel, identity, rules) {
@@ -203,21 +209,26 @@ impl Channels {
         }
     }
 
-    /// Sets the class of an open channel of a session, at a place of the history.
+    /// Sets the class of an open channel of a session, at a place of the history, while jobs are
+    /// live within a span. It forgets what neither they nor later jobs ask for.
     pub fn set_class(
         &mut self,
         session: u32,
         channel: u32,
         at: u64,
         class: Class,
+        span: LiveSpan,
     ) -> Result<(), SetError>
         ensures answer { IsDoneUnless SetError.Memory result (found SetError.NotOpen
             (channel_in (channels_in self.old.open_channels session) channel)) }
-        ensures told { OnOk result ((moves : List ChannelMove) → IsTold self.old moves
-            → IsTold self.new (Sets at channel class ∷ moves)) }
+        ensures told { OnOk result ((is_asked : ℕ → Bool) (moves : List ChannelMove)
+            → IsAskedWithin is_asked span at → IsTold is_asked self.old moves
+            → IsTold is_asked self.new (Sets at channel class ∷ moves)) }
+        ensures cut { OnOk result (self.new.open_channels
+            ≡ map (with_cut at channel class span) self.old.open_channels) }
         ensures refused { OnErr result (ShowsSameChannels self.old self.new) }
     {
-        match self.plan_class(session, channel, at, class) {
+        match self.plan_class(session, channel, at, class, span) {
             Ok(plan) => {
                 self.apply(plan);
                 Ok(())
@@ -284,9 +295,10 @@ impl Channels {
         channel: u32,
         at: u64,
         class: Class,
+        span: LiveSpan,
     ) -> Result<ChannelPlan, SetError>
-        ensures answer { IsUnless SetError.Memory result (plan_for (plan.Class at channel class)
-            (found SetError.NotOpen
+        ensures answer { IsUnless SetError.Memory result
+            (plan_for (plan.Class at channel class span) (found SetError.NotOpen
             (channel_in (channels_in self.old.open_channels session) channel))) }
         ensures ready { IfOk result (CanApply self.new) }
         ensures same { ShowsSameChannels self.old self.new }
@@ -297,15 +309,22 @@ impl Channels {
         let Ok(()) = self.make_class_room(channel) else {
             return Err(SetError::Memory);
         };
-        Ok(ChannelPlan::Class { at, channel, class })
+        Ok(ChannelPlan::Class {
+            at,
+            channel,
+            class,
+            span,
+        })
     }
 
     /// Does what was planned, on the table as it was then. It takes no memory.
     pub fn apply(&mut self, plan: ChannelPlan) -> Option<Opened>
         requires { CanApply self.old plan }
         ensures opened { result ≡ opened_by plan }
-        ensures told { (moves : List ChannelMove) → IsTold self.old moves
-            → IsTold self.new (planned_move plan ∷ moves) }
+        ensures told { (is_asked : ℕ → Bool) (moves : List ChannelMove)
+            → IsAskedAsPlanned is_asked plan → IsTold is_asked self.old moves
+            → IsTold is_asked self.new (planned_move plan ∷ moves) }
+        ensures cut { CutsAsPlanned plan self.old self.new }
     {
         match plan {
             ChannelPlan::Open {
@@ -319,8 +338,13 @@ impl Channels {
                 self.take_name(channel, account);
                 None
             }
-            ChannelPlan::Class { at, channel, class } => {
-                self.take_class(at, channel, class);
+            ChannelPlan::Class {
+                at,
+                channel,
+                class,
+                span,
+            } => {
+                self.take_class(at, channel, class, span);
                 None
             }
         }
@@ -402,8 +426,9 @@ impl Channels {
     fn take_opening(&mut self, session: u32, kind: Kind, account: Str255, opened: Opened) -> Opened
         requires { MayOpenNext self.old session kind opened }
         ensures value { result ≡ opened }
-        ensures told { (at : ℕ) (moves : List ChannelMove) → IsTold self.old moves
-            → IsTold self.new (Opens at session kind account opened.class opened.lead ∷ moves) }
+        ensures told { (at : ℕ) (is_asked : ℕ → Bool) (moves : List ChannelMove)
+            → IsTold is_asked self.old moves → IsTold is_asked self.new
+            (Opens at session kind account opened.class opened.lead ∷ moves) }
     {
         let alloc = *self.channels.allocator();
         list_opening(&mut self.lists, session, opened.channel);
@@ -424,19 +449,23 @@ impl Channels {
 
     /// Gives a channel an account, where it has none.
     fn take_name(&mut self, channel: u32, account: Str255)
-        ensures { (moves : List ChannelMove) → IsTold self.old moves
-            → IsTold self.new (Names channel account ∷ moves) }
+        ensures { (is_asked : ℕ → Bool) (moves : List ChannelMove)
+            → IsTold is_asked self.old moves
+            → IsTold is_asked self.new (Names channel account ∷ moves) }
     {
         put_account(&mut self.channels, channel, account);
     }
 
     /// Sets the class of an open channel, for which there is room.
-    fn take_class(&mut self, at: u64, channel: u32, class: Class)
+    fn take_class(&mut self, at: u64, channel: u32, class: Class, span: LiveSpan)
         requires { MaySetClass self.old channel }
-        ensures { (moves : List ChannelMove) → IsTold self.old moves
-            → IsTold self.new (Sets at channel class ∷ moves) }
+        ensures told { (is_asked : ℕ → Bool) (moves : List ChannelMove)
+            → IsAskedWithin is_asked span at → IsTold is_asked self.old moves
+            → IsTold is_asked self.new (Sets at channel class ∷ moves) }
+        ensures cut { self.new.open_channels
+            ≡ map (with_cut at channel class span) self.old.open_channels }
     {
-        put_class(&mut self.channels, channel, at, class);
+        put_class(&mut self.channels, channel, at, class, span);
     }
 }
 

@@ -98,7 +98,7 @@ impl Assembly {
         let paid = paid_outputs(alloc, recipe, script)?;
         let count = 1 + recipe.outputs_count as usize;
         let suffix = suffix_of(alloc, recipe.sequence, count, &paid, recipe.lock_time)?;
-        let assembly = joined(prefix, suffix, has_commitment(&outputs));
+        let assembly = Assembly::of_parts(prefix, suffix, has_commitment(&outputs));
         let length = assembly.whole_len();
         if length > 65_535 {
             return Err(AssemblyError::TooLong(length));
@@ -134,8 +134,25 @@ impl Assembly {
             recipe.outputs,
             recipe.lock_time,
         )?;
-        let assembly = joined(prefix, suffix, has_commitment(&outputs));
+        let assembly = Assembly::of_parts(prefix, suffix, has_commitment(&outputs));
         Ok((assembly, reward as u64))
+    }
+
+    /// A coinbase that is cut round its extranonce: `prefix` begins with the version, and `suffix`
+    /// ends with the lock time. `witness` says whether its whole form has a witness.
+    pub fn of_parts(prefix: Vec<u8>, suffix: Vec<u8>, witness: bool) -> Assembly
+        requires version { 4 ≤ length prefix.items }
+        requires lock_time { 4 ≤ length suffix.items }
+        ensures { result
+            ≡ record { prefix = prefix.items; suffix = suffix.items; witness = witness } }
+    {
+        let state = Sha256::new_with_prefix(&prefix);
+        Assembly {
+            prefix,
+            suffix,
+            witness,
+            state,
+        }
     }
 
     /// What stands before the extranonce.
@@ -197,21 +214,6 @@ impl Assembly {
     {
         let witness = if self.witness { 36 } else { 0 };
         self.prefix.len() + 12 + self.suffix.len() + witness
-    }
-}
-
-// An assembly of its parts.
-fn joined(prefix: Vec<u8>, suffix: Vec<u8>, witness: bool) -> Assembly
-    requires version { 4 ≤ length prefix.items }
-    requires lock_time { 4 ≤ length suffix.items }
-    ensures { result ≡ record { prefix = prefix.items; suffix = suffix.items; witness = witness } }
-{
-    let state = Sha256::new_with_prefix(&prefix);
-    Assembly {
-        prefix,
-        suffix,
-        witness,
-        state,
     }
 }
 

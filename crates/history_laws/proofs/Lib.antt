@@ -1,5 +1,6 @@
 pub mod Allowed
 pub mod Answering
+pub mod AskedPlaces
 pub mod BriefsRoll
 pub mod Called
 pub mod CallsServed

@@ -1,5 +1,6 @@
 pub mod Answered
 pub mod Apart
+pub mod AskedPlaces
 pub mod Credited
 pub mod Fitting
 pub mod KeptJobs

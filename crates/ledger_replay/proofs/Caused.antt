@@ -1,12 +1,21 @@
 -- The causes of events by the rules, and by the sessions that they name.
 use Rattle.std.proofs.Common.{◌≡◌, ℕ, ◌+◌, Bool, true, false, Option, None, Some, List, [], ◌∷◌, length, arith, refl, ap, sym, ◌∙◌}
+use Rattle.std.specs.Prelude.{nat_lt}
 use Rattle.pool_history.specs.declared.causes.Cause.{Cause}
 use Rattle.pool_history.specs.declared.causes.Cause.TheVariants as cause
 use Rattle.pool_history.specs.declared.events.Event.{Event}
+use Rattle.pool_history.specs.declared.events.Event.TheVariants as event
+use Rattle.pool_history.specs.declared.events.Role.{Role}
 use Rattle.pool_history.specs.declared.settings.Rules.{Rules}
 use Rattle.pool_history.specs.Conditions.{or_code}
-use Rattle.pool_history.specs.Legal.{cause_by, cause_in, cause_of, entered_with, within}
-use Rattle.pool_history.specs.Sessions.{Entrance, entrance, is_present, rules_of}
+use Rattle.pool_history.specs.Legal.{are_acceptable, cause_by, cause_in, cause_of, entered_with, within}
+use Rattle.pool_history.specs.Refusing.{most_enters}
+use Rattle.pool_history.specs.Sessions.{Entrance, enters, entrance, is_present, rules_of}
+use Rattle.pool_history.specs.Channels.{channel_moves}
+use Rattle.history_laws.proofs.AskedPlaces.{asked-before}
+use Rattle.history_laws.specs.AskedPlaces.{is_asked_after}
+use Rattle.channels.proofs.Cuts.{told-weaker}
+use Rattle.channels.specs.Tables.{IsTold}
 use Rattle.ledger_replay.specs.Replays.{HasCause, ReplayTables, WereReplayed}
 
 pub some-none : {X : Type 0} {x : X} → ◌≡◌ {A = Option X} (Some x) None → ⊥
@@ -48,3 +57,14 @@ by_own t past event may session own was same is = cause-known past event t.rules
 -- one event more
 pub one-longer : (events : ℕ) (event : Event) (past : List Event) → events ≡ length past → events + 1 ≡ length (event ∷ past)
 one-longer events event past are = omega (arith, are)
+
+-- after one more event classes are asked for at fewer places
+pub fewer-told : (t : ReplayTables) (past : List Event) (one : Event) → WereReplayed t past
+    → IsTold (is_asked_after (one ∷ past)) t.channels (channel_moves past)
+fewer-told t past one was = told-weaker (is_asked_after past) (is_asked_after (one ∷ past)) t.channels (channel_moves past) (asked-before one past) was.channels_are
+
+-- an Enter that the rules allow
+pub enter-allowed : (rules : Rules) (past : List Event) (worker : ℕ) (role : Role) (flags : ℕ) → nat_lt (enters past) most_enters ≡ true
+    → are_acceptable rules flags ≡ true → cause_by rules past (event.Enter worker role flags) ≡ None
+enter-allowed rules past worker role flags few right =
+    ap (λ b. or_code b cause.PoolFull (or_code (are_acceptable rules flags) cause.BadFlags None)) few ∙ ap (λ b. or_code b cause.BadFlags None) right

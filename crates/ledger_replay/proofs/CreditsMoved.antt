@@ -13,7 +13,7 @@ use Rattle.ledger_replay.specs.declared.share_events.Unbooked.{Unbooked}
 use Rattle.ledger_replay.specs.declared.share_events.Unbooked.TheVariants as unbooked
 use Rattle.ledger_replay.specs.Replays.{IsJudged, ReplayTables, WereReplayed}
 use Rattle.ledger_replay.specs.Shares.{BooksShare, WereBookedBy, credit_event, share_after, share_error_of}
-use Rattle.ledger_replay.proofs.Caused.{by_own, one-longer}
+use Rattle.ledger_replay.proofs.Caused.{by_own, fewer-told, one-longer}
 
 -- a credit's cause is its share's first condition that fails
 credit-caused : (t : ReplayTables) (past : List Event) (session : ℕ) (share : Credited) → WereReplayed t past → None ≡ within may_mine past session None
@@ -44,7 +44,7 @@ credit-taken t tally set past session share other_sessions other_grants was may 
   rules_are = was.rules_are;
   events_are = one-longer t.events one past was.events_are;
   sessions_are = other_sessions t.sessions past one refl was.sessions_are;
-  channels_are = was.channels_are;
+  channels_are = fewer-told t past one was;
   jobs_are = was.jobs_are;
   coinbases = was.coinbases;
   grants_are = other_grants t.grants past one refl was.grants_are;

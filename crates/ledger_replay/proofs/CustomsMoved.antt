@@ -21,19 +21,21 @@ use Rattle.pool_history.specs.declared.events.Event.{Event}
 use Rattle.pool_history.specs.declared.events.Event.TheVariants as event
 use Rattle.pool_history.specs.declared.refusals.CustomError.{CustomError}
 use Rattle.pool_history.specs.declared.templates.CustomData.{CustomData}
-use Rattle.pool_history.specs.Channels.{OpenChannel, channel_in, channels_in}
+use Rattle.pool_history.specs.Channels.{channel_in, channels_in, channels_of}
 use Rattle.pool_history.specs.Jobs.{Brought, job_moves, jobs_of}
 use Rattle.pool_history.specs.Judging.{custom_terms}
 use Rattle.pool_history.specs.Legal.{cause_of, custom_cause, may_select_work, within}
-use Rattle.pool_history.specs.Refusing.{custom_refusal, on_channel, outputs_refusal, own_channel}
+use Rattle.pool_history.specs.Refusing.{custom_refusal, outputs_refusal, own_channel}
 use Rattle.session_table.specs.Tables.{OtherEventsLeaveSessions}
 use Rattle.template_jobs.proofs.OwnCounted.{own-counted}
 use Rattle.template_jobs.specs.HeldJobs.{HasCoinbase}
 use Rattle.template_jobs.specs.Tables.{IsSameButRoom, JobTable, TakesMove, held_jobs}
 use Rattle.template_jobs.specs.Told.{MovesAreTold, WasTold}
+use Rattle.channels.proofs.Cuts.{kept-same, own-answers}
+use Rattle.history_laws.specs.AskedPlaces.{is_asked_after}
 use Rattle.ledger_replay.specs.declared.error.ReplayError.{ReplayError}
 use Rattle.ledger_replay.specs.Replays.{HasCause, IsJudged, ReplayTables, WereReplayed, coinbase_error_of}
-use Rattle.ledger_replay.proofs.Caused.{by_own, one-longer}
+use Rattle.ledger_replay.proofs.Caused.{by_own, fewer-told, one-longer}
 use Rattle.ledger_replay.proofs.JobsMoved.{jobs-same}
 
 module _ (t : ReplayTables) (past : List Event) (session : ℕ) (custom : CustomData) (was : WereReplayed t past)
@@ -45,10 +47,14 @@ module _ (t : ReplayTables) (past : List Event) (session : ℕ) (custom : Custom
   own-caused : cause_of past one ≡ custom_cause (custom_refusal t.rules.pool_script past session custom)
   own-caused = by_own t past one may_select_work session _ was refl may
 
-  own-shown : own_channel past session custom.channel_id ≡ channel_in (channels_in t.channels.open_channels session) custom.channel_id
-  own-shown =
-      ap (λ (l : List OpenChannel). channel_in (channels_in l session) custom.channel_id)
-      (sym (shown t.channels past was.channels_are).channels_are)
+  own-kept : (there : Option Channel)
+      → option_map kept_of there ≡ option_map kept_channel (channel_in (channels_in t.channels.open_channels session) custom.channel_id)
+      → option_map kept_of there ≡ option_map kept_channel (own_channel past session custom.channel_id)
+  own-kept there same =
+      same ∙ kept-same (is_asked_after past) (channel_in (channels_in t.channels.open_channels session) custom.channel_id)
+      (own_channel past session custom.channel_id)
+      (own-answers (is_asked_after past) t.channels.open_channels (channels_of past) session custom.channel_id
+      (shown (is_asked_after past) t.channels past was.channels_are).channels_are)
 
   tip-same : t.jobs.tip ≡ (jobs_of past).tip
   tip-same = ap (λ (kept : KeptJobs). kept.tip) was.jobs_are
@@ -59,8 +65,7 @@ module _ (t : ReplayTables) (past : List Event) (session : ℕ) (custom : Custom
       → Some refusal ≡ refusal_before_coinbase there t.grants t.jobs.tip custom → Some code ≡ custom_cause (Some refusal)
       → HasCause past one code × WereReplayed t past
   own-refused there refusal code same told coded = (
-    own-caused ∙ ap custom_cause (ap (on_channel t.rules.pool_script past custom) own-shown
-        ∙ channel-some t.grants past was.grants_are t.rules.pool_script t.jobs.tip tip-same custom _ there refusal same (sym told)) ∙ sym coded,
+    own-caused ∙ ap custom_cause (channel-some t.grants past was.grants_are t.rules.pool_script t.jobs.tip tip-same custom _ there refusal (own-kept there same) (sym told)) ∙ sym coded,
     was,
   )
 
@@ -70,8 +75,7 @@ module _ (t : ReplayTables) (past : List Event) (session : ℕ) (custom : Custom
       → None ≡ refusal_before_coinbase there t.grants t.jobs.tip custom
       → cause_of past one ≡ custom_cause (outputs_refusal (custom_assembly (custom_terms custom) t.rules.pool_script))
   after-token there same told =
-      own-caused ∙ ap custom_cause (ap (on_channel t.rules.pool_script past custom) own-shown
-      ∙ channel-none t.grants past was.grants_are t.rules.pool_script t.jobs.tip tip-same custom _ there same (sym told))
+      own-caused ∙ ap custom_cause (channel-none t.grants past was.grants_are t.rules.pool_script t.jobs.tip tip-same custom _ there (own-kept there same) (sym told))
 
   -- fewer jobs of miners' own were brought than tokens can be granted
   pub own-few : HasOneToSpend t.grants → length t.jobs.own < 2 ^ 18
@@ -97,7 +101,7 @@ module _ (t : ReplayTables) (past : List Event) (session : ℕ) (custom : Custom
     rules_are = was.rules_are;
     events_are = one-longer t.events one past was.events_are;
     sessions_are = other_sessions t.sessions past one refl was.sessions_are;
-    channels_are = was.channels_are;
+    channels_are = fewer-told t past one was;
     jobs_are = subst (λ at. WasTold jobs (Brought at custom ∷ job_moves past)) was.events_are
         (moves script (Brought t.events custom) (job_moves past) t.jobs jobs takes was.jobs_are);
     coinbases = subst (λ s. AllByRecursion (HasCoinbase s) (held_jobs jobs)) scripted

@@ -21,7 +21,7 @@ use Rattle.template_jobs.specs.Tables.{IsSameButRoom, JobTable, TakesMove, held_
 use Rattle.template_jobs.specs.Told.{HistoriesAreRead, MovesAreTold, ReadsJobs, WasTold}
 use Rattle.ledger_replay.specs.declared.error.ReplayError.{ReplayError}
 use Rattle.ledger_replay.specs.Replays.{HasCause, IsJudged, ReplayTables, WereReplayed, template_error_of}
-use Rattle.ledger_replay.proofs.Caused.{by_own, one-longer}
+use Rattle.ledger_replay.proofs.Caused.{by_own, fewer-told, one-longer}
 
 -- what is read of the jobs is read of any past that they were told
 pub reads : HistoriesAreRead → (past : List Event) (jobs : JobTable) → WasTold jobs (job_moves past) → ReadsJobs past jobs
@@ -45,7 +45,7 @@ template-taken t new past session template script other_sessions other_grants mo
   rules_are = was.rules_are;
   events_are = one-longer t.events one past was.events_are;
   sessions_are = other_sessions t.sessions past one refl was.sessions_are;
-  channels_are = was.channels_are;
+  channels_are = fewer-told t past one was;
   jobs_are = subst (λ at. WasTold new (Came at session template ∷ job_moves past)) was.events_are
       (moves script (Came t.events session template) (job_moves past) t.jobs new takes was.jobs_are);
   coinbases = subst (λ s. AllByRecursion (HasCoinbase s) (held_jobs new)) is
@@ -127,7 +127,7 @@ tip-taken t new past session number tip other_sessions other_grants moves was ma
   rules_are = was.rules_are;
   events_are = one-longer t.events one past was.events_are;
   sessions_are = other_sessions t.sessions past one refl was.sessions_are;
-  channels_are = was.channels_are;
+  channels_are = fewer-told t past one was;
   jobs_are = subst (λ at. WasTold new (Tipped at tip ∷ job_moves past)) was.events_are
       (moves t.rules.pool_script (Tipped t.events tip) (job_moves past) t.jobs new (takes t.rules.pool_script) was.jobs_are);
   coinbases = (takes t.rules.pool_script).coinbases was.coinbases;

@@ -20,10 +20,12 @@ use Rattle.pool_history.specs.Legal.{cause_of, is_class, is_just, is_lead_length
 use Rattle.pool_history.specs.Refusing.{count_among, has_too_many, has_too_many_among, held_leads, lead_unless}
 use Rattle.pool_history.specs.Spaces.{lowest}
 use Rattle.session_table.specs.Tables.{OtherEventsLeaveSessions}
+use Rattle.channels.proofs.Cuts.{full-same, leads-same}
+use Rattle.history_laws.specs.AskedPlaces.{is_asked_after}
 use Rattle.ledger_replay.specs.Openings.{is_full_for, is_said_lead, next_lead_on}
 use Rattle.ledger_replay.specs.declared.error.ReplayError.{ReplayError}
 use Rattle.ledger_replay.specs.Replays.{HasCause, IsJudged, ReplayTables, WereReplayed, opening_error_of}
-use Rattle.ledger_replay.proofs.Caused.{by_own, one-longer}
+use Rattle.ledger_replay.proofs.Caused.{by_own, fewer-told, one-longer}
 use Rattle.ledger_replay.proofs.ChannelsMoved.{channels-same}
 
 -- what was checked of an opening
@@ -47,11 +49,12 @@ opening-caused t past session kind account class lead c =
 
 full-told : (t : ReplayTables) (past : List Event) (session : ℕ) → WereReplayed t past → is_full_for t.channels session ≡ has_too_many past session
 full-told t past session was =
-    ap (λ channels. has_too_many_among channels t.channels.opened session) was.channels_are.channels_are
+    full-same (is_asked_after past) t.channels.open_channels (channels_of past) t.channels.opened session was.channels_are.channels_are
     ∙ ap (λ n. has_too_many_among (channels_of past) n session) (was.channels_are.opened_are ∙ opened-opens past)
 
 leads-told : (t : ReplayTables) (past : List Event) (len : ℕ) → WereReplayed t past → lowest len (map (λ channel. channel.lead) t.channels.open_channels) ≡ lowest len (held_leads past)
-leads-told t past len was = ap (λ channels. lowest len (map (λ channel. channel.lead) channels)) was.channels_are.channels_are
+leads-told t past len was =
+    ap (lowest len) (leads-same (is_asked_after past) t.channels.open_channels (channels_of past) was.channels_are.channels_are)
 
 -- the next lead by whether a session is full, and by the lowest free lead
 abbrev pub lead_by : OpenError → Bool → Option (List ℕ) → Result (List ℕ) OpenError
@@ -164,7 +167,7 @@ pub open-taken : (t : ReplayTables) (same new : ChannelTable) (past : List Event
     → OtherEventsLeaveSessions → OtherEventsLeaveGrants → IsChecked t past session kind account class
     → (is_lead_length kind (length said) ≡ true → len ≡ length said) → next_lead_on t.channels session len ≡ Ok lead → is_said_lead kind said lead ≡ true
     → given ≡ class → ShowsSameChannels t.channels same
-    → (IsTold same (channel_moves past) → IsTold new (Opens t.events session kind account given lead ∷ channel_moves past))
+    → ((asked : ℕ → Bool) → IsTold asked same (channel_moves past) → IsTold asked new (Opens t.events session kind account given lead ∷ channel_moves past))
     → WereReplayed (record t { channels = new; events = t.events + 1 }) (event.Open session kind account class said ∷ past)
 open-taken t same new past session kind account class said len lead given other_sessions other_grants c length_is is said_is class_is stays told = record {
   legal = (
@@ -174,10 +177,11 @@ open-taken t same new past session kind account class said len lead given other_
   rules_are = c.was.rules_are;
   events_are = one-longer t.events one past c.was.events_are;
   sessions_are = other_sessions t.sessions past one refl c.was.sessions_are;
-  channels_are = subst (λ at. IsTold new (Opens at session kind account class said ∷ channel_moves past)) c.was.events_are
-      (subst (λ l. IsTold new (Opens t.events session kind account class l ∷ channel_moves past)) (said-lead kind said lead said_is)
-      (subst (λ n. IsTold new (Opens t.events session kind account n lead ∷ channel_moves past)) class_is
-      (told (channels-same t same past c.was stays).channels_are)));
+  channels_are = subst (λ at. IsTold (is_asked_after (one ∷ past)) new (Opens at session kind account class said ∷ channel_moves past)) c.was.events_are
+      (subst (λ l. IsTold (is_asked_after (one ∷ past)) new (Opens t.events session kind account class l ∷ channel_moves past)) (said-lead kind said lead said_is)
+      (subst (λ n. IsTold (is_asked_after (one ∷ past)) new (Opens t.events session kind account n lead ∷ channel_moves past)) class_is
+      (told (is_asked_after (one ∷ past))
+      (fewer-told (record t { channels = same }) past one (channels-same t same past c.was stays)))));
   jobs_are = c.was.jobs_are;
   coinbases = c.was.coinbases;
   grants_are = other_grants t.grants past one refl c.was.grants_are;

@@ -2,7 +2,7 @@
 use Rattle.std.proofs.Common.{◌≡◌, ℕ, ◌+◌, ◌<◌, ◌≤◌, ◌^◌, Bool, true, cond, None, Some, Option, Result, Ok, Err, List, ◌∷◌, refl, ap, sym, subst, ◌∙◌, arith}
 use Rattle.std.specs.Option.{option_map}
 use Rattle.channels.specs.Histories.{TablesShowHistories}
-use Rattle.channels.specs.Tables.{kept_channel}
+use Rattle.channels.specs.Tables.{AllAnswerFor, kept_channel}
 use Rattle.history_laws.proofs.Crediting.{Adds, IsGood, IsGoodCredit, credit-adds, credits-counted, good_by}
 use Rattle.pool_history.specs.declared.events.Event.{Event}
 use Rattle.pool_history.specs.declared.refusals.Failed.{Failed}
@@ -23,6 +23,8 @@ use Rattle.share_judging.specs.declared.passing.Passed.{Passed}
 use Rattle.payouts.specs.Tallies.{Weighing}
 use Rattle.template_jobs.specs.Tables.{HasCoinbases, JobTable}
 use Rattle.channels.specs.Tables.{ChannelTable}
+use Rattle.channels.proofs.Cuts.{in-answers, kept-same}
+use Rattle.history_laws.specs.AskedPlaces.{is_asked_after}
 use Rattle.ledger_replay.specs.declared.share_events.Credited.{Credited}
 use Rattle.ledger_replay.specs.Kept.{is_standard_kept}
 use Rattle.ledger_replay.specs.Replays.{ReplayTables, WereReplayed}
@@ -35,7 +37,7 @@ judges-after t past shown was = record {
   legal = was.legal;
   rules_are = was.rules_are;
   shown = record {
-    channels_are = (shown t.channels past was.channels_are).channels_are;
+    channels_are = (shown (is_asked_after past) t.channels past was.channels_are).channels_are;
     jobs_are = was.jobs_are;
     coinbases = subst (λ (s : List ℕ). HasCoinbases s t.jobs) (sym (ap script_in was.rules_are)) was.coinbases;
   };
@@ -92,11 +94,12 @@ standard-kept None = refl
 standard-kept (Some channel) = refl
 
 pub standard-shown : (channels : ChannelTable) (past : List Event) (channel : ℕ) (b : Bool) (o : Option Rattle.channels.specs.Tables.KeptChannel)
-    → channels.open_channels ≡ channels_of past → b ≡ is_standard_kept o → o ≡ option_map kept_channel (channel_in channels.open_channels channel)
+    → AllAnswerFor (is_asked_after past) channels.open_channels (channels_of past) → b ≡ is_standard_kept o → o ≡ option_map kept_channel (channel_in channels.open_channels channel)
     → b ≡ is_standard_in (channel_in (channels_of past) channel)
 standard-shown channels past channel b o shown is same =
-    is ∙ ap is_standard_kept same ∙ standard-kept (channel_in channels.open_channels channel)
-    ∙ ap (λ (l : List OpenChannel). is_standard_in (channel_in l channel)) shown
+    is ∙ ap is_standard_kept (same ∙ kept-same (is_asked_after past) (channel_in channels.open_channels channel) (channel_in (channels_of past) channel)
+    (in-answers (is_asked_after past) channels.open_channels (channels_of past) channel shown))
+    ∙ standard-kept (channel_in (channels_of past) channel)
 
 -- a share that passed has room for its credit in a tally
 pub few-pushes : (rules : Rules) (pushes count : ℕ) → Rattle.pool_history.specs.Accounts.are_in_range rules ≡ true → count ≡ pushes

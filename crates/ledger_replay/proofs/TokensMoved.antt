@@ -8,7 +8,7 @@ use Rattle.pool_history.specs.declared.refusals.GrantError.{GrantError}
 use Rattle.pool_history.specs.Legal.{cause_of, grant_cause, may_select_work, within}
 use Rattle.session_table.specs.Tables.{OtherEventsLeaveSessions}
 use Rattle.ledger_replay.specs.Replays.{HasCause, ReplayTables, WereReplayed}
-use Rattle.ledger_replay.proofs.Caused.{by_own, one-longer}
+use Rattle.ledger_replay.proofs.Caused.{by_own, fewer-told, one-longer}
 
 -- a grant's cause is that of its refusal
 grant-caused : (t : ReplayTables) (past : List Event) (session count : ℕ) (account : List ℕ) (fixed : Bool) (path : List (List ℕ)) (refusal : Option GrantError)
@@ -35,7 +35,7 @@ grant-taken t new past session count account fixed path other_sessions was may c
   rules_are = was.rules_are;
   events_are = one-longer t.events (event.Grant session account fixed path) past was.events_are;
   sessions_are = other_sessions t.sessions past (event.Grant session account fixed path) refl was.sessions_are;
-  channels_are = was.channels_are;
+  channels_are = fewer-told t past (event.Grant session account fixed path) was;
   jobs_are = was.jobs_are;
   coinbases = was.coinbases;
   grants_are = shown;

@@ -1,5 +1,6 @@
 -- What a replay was told, and what it answers (this project's own).
 use Rattle.std.specs.Prelude.{◌≡◌, ℕ, true, None, Some, Result, Ok, Err, List, [], ◌∷◌, length}
+use Rattle.history_laws.specs.AskedPlaces.{is_asked_after}
 use Rattle.channels.specs.Tables.{ChannelTable, IsTold}
 use Rattle.grant_table.specs.Tables.{GrantTable, ShowsGrants}
 use Rattle.coinbase.specs.declared.error.OutputsError.{OutputsError}
@@ -58,7 +59,7 @@ pub record WereReplayed (tables : ReplayTables) (past : List Event) : Type 0 whe
   pub rules_are : rules_of past ≡ Some tables.rules
   pub events_are : tables.events ≡ length past
   pub sessions_are : ShowsSessions tables.sessions past
-  pub channels_are : IsTold tables.channels (channel_moves past)
+  pub channels_are : IsTold (is_asked_after past) tables.channels (channel_moves past)
   pub jobs_are : WasTold tables.jobs (job_moves past)
   pub coinbases : HasCoinbases tables.rules.pool_script tables.jobs
   pub grants_are : ShowsGrants tables.grants past

@@ -54,9 +54,10 @@ impl Replay {
         if !may_change_to(self.channels.own(session, channel), class) {
             return Err(ReplayError::Illegal(Cause::BadClass));
         }
+        let span = self.jobs.live_span();
         match self
             .channels
-            .set_class(session, channel, self.events, class)
+            .set_class(session, channel, self.events, class, span)
         {
             Ok(()) => {
                 self.events += 1;

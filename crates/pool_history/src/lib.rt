@@ -14,6 +14,7 @@ mod refusals;
 mod replies;
 mod settings;
 mod shares;
+mod spans;
 mod telling;
 mod templates;
 
@@ -29,6 +30,7 @@ pub use refusals::{
 };
 pub use replies::{Class, Opened, Reply, Script, SessionNumber};
 pub use settings::{Rules, Users};
-pub use shares::{Brief, Checked, Submission};
+pub use shares::{Brief, Checked, RootSource, Submission};
+pub use spans::LiveSpan;
 pub use telling::{Note, Notes};
 pub use templates::{CustomData, TemplateData, TipData};

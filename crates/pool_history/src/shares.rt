@@ -6,8 +6,11 @@ ghost use Rattle.pool_history.specs.Headers.{header_by};
 
 use crate::events::Kind;
 use crate::leads::Lead;
+use coinbase::Assembly;
+use std::alloc::Global;
 use std::marker::Model;
-use sv2_types::{Blob, Hashes};
+use std::sync::Arc;
+use sv2_types::Hashes;
 
 /// A share as it was submitted (Stratum V2, "SubmitSharesStandard" and "SubmitSharesExtended").
 #[derive(Clone, Copy, Debug)]
@@ -27,12 +30,19 @@ pub struct Submission {
     ghost extranonce_fits: { extranonce_len ≤ 32 },
 }
 
+/// What a job gives to the merkle root of a header: its coinbase, which lacks its extranonce, and its
+/// merkle path.
+#[derive(Debug, Drop)]
+pub struct RootSource {
+    pub coinbase: Assembly,
+    pub path: Hashes,
+}
+
 /// What an open channel and a live job give to a header. Contracts see it as a record of these.
 #[derive(Debug, Drop)]
 pub struct Brief {
-    pub prefix: Blob,
-    pub suffix: Blob,
-    pub path: Hashes,
+    /// Shared with the job.
+    pub root: Arc<RootSource, Global>,
     pub prev_hash: [u8; 32],
     pub nbits: u32,
     pub lead: Lead,
@@ -45,9 +55,9 @@ impl Model for Brief {
     ghost Value = { Briefing };
 
     ghost view = { λ brief. record {
-      prefix = brief.prefix;
-      suffix = brief.suffix;
-      path = brief.path;
+      prefix = brief.root.value.coinbase.prefix;
+      suffix = brief.root.value.coinbase.suffix;
+      path = brief.root.value.path;
       prev_hash = brief.prev_hash;
       nbits = brief.nbits;
       lead = brief.lead;

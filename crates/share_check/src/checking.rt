@@ -29,7 +29,7 @@ pub fn check(brief: Brief, sub: Submission) -> Checked
 }
 
 /// What `header_of` gives for the submission by these parts. Nothing is hashed where the brief that
-/// it was checked by is a copy of them. It takes no memory.
+/// it was checked by has them. It takes no memory.
 pub fn header_by_parts(checked: &Checked, parts: &Parts<'_>) -> ([u8; 80], [u8; 32])
     requires { checked.now.sub.extranonce_len ≡ rolled_length parts.now.kind parts.now.lead }
     ensures header { result.0 ≡ submitted_header parts.now checked.now.sub }

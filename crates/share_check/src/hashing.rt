@@ -3,13 +3,12 @@
 ghost use Rattle.std.specs.Prelude.{◌≡◌, ◌++◌, length};
 ghost use Rattle.block_header.specs.Hash as hash;
 ghost use Rattle.pool_history.specs.declared.events.Kind.TheVariants.{Standard};
-ghost use Rattle.pool_history.specs.Headers.{coinbase_by, extranonce_prefix, rolled_length};
+ghost use Rattle.pool_history.specs.Headers.{extranonce_prefix, rolled_length};
 ghost use Rattle.share_check.specs.Submitted.{submitted_header};
 
 use crate::parts::Parts;
 use block_header::{Header, dsha, root_of};
 use pool_history::{Kind, Lead, Submission};
-use sha2::{Digest, Sha256};
 
 /// The 80 bytes of the header that a submission stands for by these parts, and their double hash.
 /// It takes no memory.
@@ -19,10 +18,12 @@ pub fn header_of(parts: &Parts<'_>, sub: &Submission) -> ([u8; 80], [u8; 32])
     ensures hash { result.1 ≡ hash.dsha result.0 }
 {
     let sent = &sub.extranonce[..usize::from(sub.extranonce_len)];
+    let extranonce = whole_extranonce(parts.kind, &parts.lead, sent);
+    let txid = parts.root.coinbase.txid_with(&extranonce);
     let header = Header {
         version: sub.version,
         prev_hash: parts.prev_hash,
-        root: root_of(&txid_of(parts, sent), parts.path),
+        root: root_of(&txid, parts.root.path.items()),
         ntime: sub.ntime,
         nbits: parts.nbits,
         nonce: sub.nonce,
@@ -55,16 +56,4 @@ pub fn whole_extranonce(kind: Kind, lead: &Lead, sent: &[u8]) -> [u8; 12]
         extranonce[length..].copy_from_slice(sent);
     }
     extranonce
-}
-
-// The id of the coinbase with the extranonce that was sent.
-fn txid_of(parts: &Parts<'_>, sent: &[u8]) -> [u8; 32]
-    requires { length sent.now ≡ rolled_length parts.now.kind parts.now.lead }
-    ensures { result ≡ hash.dsha (coinbase_by parts.now sent.now) }
-{
-    let mut hasher = Sha256::new();
-    hasher.update(parts.prefix);
-    hasher.update(&whole_extranonce(parts.kind, &parts.lead, sent));
-    hasher.update(parts.suffix);
-    Sha256::digest(hasher.finalize())
 }

@@ -1,5 +1,5 @@
-//! The header of a share and its hash, which need no history. It judges nothing, and takes no
-//! memory but for a copy of what a channel and a job give to a header.
+//! The header of a share and its hash, which need no history. It judges nothing, and copies no
+//! coinbase and no path.
 #![tactic(auto)]
 
 mod briefs;

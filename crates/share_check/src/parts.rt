@@ -1,18 +1,16 @@
 //! What a channel and a job give to a header, borrowed.
 
-use pool_history::{Kind, Lead};
+use pool_history::{Kind, Lead, RootSource};
+use std::alloc::Global;
 use std::marker::Model;
+use std::sync::Arc;
 
-/// What one open channel and one live job give to a header. A standard channel's lead has four
+/// What one open channel, one live job and the last tip give to a header. A standard channel's lead has four
 /// bytes. Contracts see it as they see a `Brief`.
 #[derive(Debug, Drop)]
 pub struct Parts<'a> {
-    /// The coinbase as far as the extranonce.
-    pub prefix: &'a [u8],
-    /// The coinbase from behind the extranonce on.
-    pub suffix: &'a [u8],
-    /// The merkle path, as its hashes stand in a header.
-    pub path: &'a [[u8; 32]],
+    /// The job's own.
+    pub root: &'a Arc<RootSource, Global>,
     /// As it stands in a header.
     pub prev_hash: [u8; 32],
     pub nbits: u32,
@@ -26,9 +24,9 @@ impl<'a> Model for Parts<'a> {
     ghost Value = { Briefing };
 
     ghost view = { λ parts. record {
-      prefix = parts.prefix.now;
-      suffix = parts.suffix.now;
-      path = parts.path.now;
+      prefix = parts.root.now.value.coinbase.prefix;
+      suffix = parts.root.now.value.coinbase.suffix;
+      path = parts.root.now.value.path;
       prev_hash = parts.prev_hash;
       nbits = parts.nbits;
       lead = parts.lead;

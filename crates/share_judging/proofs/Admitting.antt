@@ -15,15 +15,18 @@ use Rattle.pool_history.specs.Headers.{rolled_length}
 use Rattle.pool_history.specs.Jobs.{Job, Source, Standing, jobs_of, live_job}
 use Rattle.pool_history.specs.Judging.{Admitted, Share, admission, is_in_time, is_known_job, is_version, serves}
 use Rattle.pool_history.specs.Sessions.{past_of, script_of}
+use Rattle.history_laws.specs.AskedPlaces.{is_asked_after}
 use Rattle.history_laws.specs.KeptJobs.{KeptJobs, ReadsTheKept}
 use Rattle.history_laws.specs.KeptJobs as keeping
 use Rattle.history_laws.proofs.Crediting.{with_all}
 use Rattle.history_laws.proofs.JobsKept.{kept-suffice}
 use Rattle.channels.specs.declared.channel.Channel.{Channel}
-use Rattle.channels.specs.Tables.{ChannelTable, kept_channel, kept_of}
+use Rattle.channels.proofs.Cuts.{in-answers}
+use Rattle.channels.specs.Tables.{AnswersFor, ChannelTable, kept_channel, kept_of}
 use Rattle.template_jobs.specs.HeldJobs.{HasCoinbase, HeldJob, as_job}
 use Rattle.template_jobs.specs.Tables.{JobTable, kept_jobs}
 use Rattle.share_judging.specs.Admission.{IsAdmittedAs, Mined, ShowsShares, admitted_on, channel_for, mined_by, mined_for, mined_on, rolled_for}
+use Rattle.share_judging.proofs.Shown.{AgreesOn, IsFoundAs, agrees-on, found-both, mined-asked, refused-both}
 
 -- a live job in one
 abbrev mined_of : Job → ℕ → TipData → Mined
@@ -210,9 +213,10 @@ channel_for-some session share (Some there) c e =
 -- what the steps by the tables find
 module _ (channels : ChannelTable) (jobs : JobTable) (past : List Event) (shows : ShowsShares channels jobs past)
     (rules : Rules) (session : ℕ) (share : Share) where
-  by-channel : (r : Result OpenChannel Failed) → channel_for session share (channel_in channels.open_channels share.channel) ≡ r
-      → channel_for session share (channel_in (channels_of past) share.channel) ≡ r
-  by-channel r e = ap (λ (l : List OpenChannel). channel_for session share (channel_in l share.channel)) (sym shows.channels_are) ∙ e
+  agrees : AgreesOn (is_asked_after past) (channel_for session share (channel_in channels.open_channels share.channel))
+      (channel_for session share (channel_in (channels_of past) share.channel))
+  agrees = agrees-on (is_asked_after past) session share _ _
+      (in-answers (is_asked_after past) channels.open_channels (channels_of past) share.channel shows.channels_are)
 
   by-mined : (r : Result Mined Failed) → mined_by (kept_jobs jobs) share ≡ r → mined_for (jobs_of past) share ≡ r
   by-mined r e = mined-past past share ∙ ap (λ (kept : KeptJobs). mined_by kept share) (sym shows.jobs_are) ∙ e
@@ -222,54 +226,64 @@ module _ (channels : ChannelTable) (jobs : JobTable) (past : List Event) (shows 
   refused-channel code e =
       admission-stepped rules past session share
       ∙ ap (λ (r : Result OpenChannel Failed). r >>= (λ channel. mined_for (jobs_of past) share
-      >>= (λ mined. rolled_for rules share mined >>= (λ m. Ok (admitted_on channel m))))) (by-channel (Err code) e)
+      >>= (λ mined. rolled_for rules share mined >>= (λ m. Ok (admitted_on channel m)))))
+      (refused-both (is_asked_after past) _ _ code agrees e)
 
-  found-channel : (shown : OpenChannel) → channel_for session share (channel_in channels.open_channels share.channel) ≡ Ok shown
+  -- the history's channel that the one which is kept answers for
+  pub told-for : (shown : OpenChannel) → channel_for session share (channel_in channels.open_channels share.channel) ≡ Ok shown
+      → IsFoundAs (is_asked_after past) shown (channel_for session share (channel_in (channels_of past) share.channel))
+  told-for shown e = found-both (is_asked_after past) _ _ shown agrees e
+
+  found-channel : (told : OpenChannel) → channel_for session share (channel_in (channels_of past) share.channel) ≡ Ok told
       → admission rules past session share
-      ≡ (mined_for (jobs_of past) share >>= (λ mined. rolled_for rules share mined >>= (λ m. Ok (admitted_on shown m))))
-  found-channel shown e =
+      ≡ (mined_for (jobs_of past) share >>= (λ mined. rolled_for rules share mined >>= (λ m. Ok (admitted_on told m))))
+  found-channel told e =
       admission-stepped rules past session share
       ∙ ap (λ (r : Result OpenChannel Failed). r >>= (λ channel. mined_for (jobs_of past) share
-      >>= (λ mined. rolled_for rules share mined >>= (λ m. Ok (admitted_on channel m))))) (by-channel (Ok shown) e)
+      >>= (λ mined. rolled_for rules share mined >>= (λ m. Ok (admitted_on channel m))))) e
 
-  found-mined : (shown : OpenChannel) (r : Result Mined Failed) → channel_for session share (channel_in channels.open_channels share.channel) ≡ Ok shown
+  found-mined : (told : OpenChannel) (r : Result Mined Failed) → channel_for session share (channel_in (channels_of past) share.channel) ≡ Ok told
       → mined_by (kept_jobs jobs) share ≡ r
-      → admission rules past session share ≡ (r >>= (λ mined. rolled_for rules share mined >>= (λ m. Ok (admitted_on shown m))))
-  found-mined shown r e f =
-      found-channel shown e
-      ∙ ap (λ (r' : Result Mined Failed). r' >>= (λ mined. rolled_for rules share mined >>= (λ m. Ok (admitted_on shown m)))) (by-mined r f)
+      → admission rules past session share ≡ (r >>= (λ mined. rolled_for rules share mined >>= (λ m. Ok (admitted_on told m))))
+  found-mined told r e f =
+      found-channel told e
+      ∙ ap (λ (r' : Result Mined Failed). r' >>= (λ mined. rolled_for rules share mined >>= (λ m. Ok (admitted_on told m)))) (by-mined r f)
 
   pub refused-mined : (shown : OpenChannel) (code : Failed) → channel_for session share (channel_in channels.open_channels share.channel) ≡ Ok shown
       → mined_by (kept_jobs jobs) share ≡ Err code → admission rules past session share ≡ Err code
-  refused-mined shown code e f = found-mined shown (Err code) e f
+  refused-mined shown code e f = let found = told-for shown e in found-mined found.told (Err code) found.is f
 
   pub refused-rolled : (shown : OpenChannel) (mined : Mined) (code : Failed)
       → channel_for session share (channel_in channels.open_channels share.channel) ≡ Ok shown
       → mined_by (kept_jobs jobs) share ≡ Ok mined → rolled_for rules share mined ≡ Err code → admission rules past session share ≡ Err code
   refused-rolled shown mined code e f g =
-      found-mined shown (Ok mined) e f ∙ ap (λ (r : Result Mined Failed). r >>= (λ m. Ok (admitted_on shown m))) g
+      let found = told-for shown e in
+      found-mined found.told (Ok mined) found.is f
+      ∙ ap (λ (r : Result Mined Failed). r >>= (λ m. Ok (admitted_on found.told m))) g
 
-  pub admitted : (shown : OpenChannel) (mined : Mined)
-      → channel_for session share (channel_in channels.open_channels share.channel) ≡ Ok shown
+  pub admitted : (told : OpenChannel) (mined : Mined)
+      → channel_for session share (channel_in (channels_of past) share.channel) ≡ Ok told
       → mined_by (kept_jobs jobs) share ≡ Ok mined → rolled_for rules share mined ≡ Ok mined
-      → admission rules past session share ≡ Ok (admitted_on shown mined)
-  admitted shown mined e f g =
-      found-mined shown (Ok mined) e f ∙ ap (λ (r : Result Mined Failed). r >>= (λ m. Ok (admitted_on shown m))) g
+      → admission rules past session share ≡ Ok (admitted_on told mined)
+  admitted told mined e f g =
+      found-mined told (Ok mined) e f ∙ ap (λ (r : Result Mined Failed). r >>= (λ m. Ok (admitted_on told m))) g
 
   -- and what was found is what it is judged with
-  pub admitted-as : (shown : OpenChannel) (channel : Channel) (job : HeldJob) (live_at : ℕ) (tip : TipData) (class : ℕ)
-      → channel_for session share (channel_in channels.open_channels share.channel) ≡ Ok shown → kept_of channel ≡ kept_channel shown
-      → HasCoinbase (script_of past) job
+  pub admitted-as : (shown told : OpenChannel) (channel : Channel) (job : HeldJob) (live_at : ℕ) (tip : TipData) (class : ℕ)
+      → channel_for session share (channel_in channels.open_channels share.channel) ≡ Ok shown → AnswersFor (is_asked_after past) shown told
+      → kept_of channel ≡ kept_channel shown
+      → mined_by (kept_jobs jobs) share ≡ Ok (mined_on job live_at tip) → HasCoinbase (script_of past) job
       → Some class ≡ option_map (λ (there : OpenChannel). class_at there live_at) (channel_in channels.open_channels share.channel)
-      → IsAdmittedAs (script_of past) channel job live_at tip class (admitted_on shown (mined_on job live_at tip))
-  admitted-as shown channel job live_at tip class e is coinbase classed = record {
-    channel_is = is;
+      → IsAdmittedAs (script_of past) channel job live_at tip class (admitted_on told (mined_on job live_at tip))
+  admitted-as shown told channel job live_at tip class e answers is f coinbase classed = record {
+    channel_is = is ∙ answers.kept_is;
     job_is = refl;
     coinbase_is = coinbase;
     live_at_is = refl;
     tip_is = refl;
     class_is = some-same (classed ∙ ap (option_map (λ (there : OpenChannel). class_at there live_at))
-        (channel_for-some session share (channel_in channels.open_channels share.channel) shown e));
+        (channel_for-some session share (channel_in channels.open_channels share.channel) shown e))
+        ∙ answers.class_is live_at (mined-asked past share (mined_on job live_at tip) (by-mined (Ok (mined_on job live_at tip)) f));
   } where
     some-same : {a b : ℕ} → Some a ≡ Some b → a ≡ b
     some-same h = cc

@@ -2,3 +2,4 @@ mod Admitting
 mod Found
 mod Kept
 pub mod Ranges
+mod Shown

@@ -14,18 +14,19 @@ use Rattle.pool_history.specs.Headers.{rolled_length}
 use Rattle.pool_history.specs.Jobs.{Job, Standing, jobs_of, live_job, job_numbered}
 use Rattle.pool_history.specs.Judging.{Admitted, Share, is_in_time, is_known_job, is_known_state, is_version, job_parts, serves}
 use Rattle.pool_history.specs.Sessions.{script_of}
+use Rattle.history_laws.specs.AskedPlaces.{is_asked_after}
 use Rattle.history_laws.specs.KeptJobs.{KeptJobs, is_mineable_by, state_by}
 use Rattle.history_laws.specs.KeptJobs as keeping
 use Rattle.channels.specs.declared.channel.Channel.{Channel}
-use Rattle.channels.specs.Tables.{ChannelTable, kept_channel, kept_of}
+use Rattle.channels.specs.Tables.{AllAnswerFor, ChannelTable, kept_channel, kept_of}
 use Rattle.template_jobs.specs.HeldJobs.{HasCoinbase, HeldJob, as_job}
 use Rattle.template_jobs.specs.Tables.{HasCoinbases, JobTable, kept_jobs}
 
--- two tables show the open channels and the jobs of a history, with the pool's script in each
--- coinbase
+-- two tables show the open channels, as far as they may be asked for, and the jobs of a history,
+-- with the pool's script in each coinbase
 pub record ShowsShares (channels : ChannelTable) (jobs : JobTable) (past : List Event)
     : Type 0 where
-  pub channels_are : channels.open_channels ≡ channels_of past
+  pub channels_are : AllAnswerFor (is_asked_after past) channels.open_channels (channels_of past)
   pub jobs_are : kept_jobs jobs ≡ keeping.kept_jobs_of (jobs_of past)
   pub coinbases : HasCoinbases (script_of past) jobs
 

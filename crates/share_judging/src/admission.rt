@@ -43,9 +43,7 @@ impl<'a> Admission<'a> {
         ensures lead { result.lead ≡ self.now.channel.now.lead }
     {
         Parts {
-            prefix: self.job.coinbase().prefix(),
-            suffix: self.job.coinbase().suffix(),
-            path: self.job.path(),
+            root: self.job.root(),
             prev_hash: *self.tip.prev_hash.bytes(),
             nbits: self.tip.nbits,
             lead: self.channel.lead,

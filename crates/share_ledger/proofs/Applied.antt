@@ -19,8 +19,9 @@ use Rattle.pool_history.specs.Judging.{job_parts}
 use Rattle.pool_history.specs.Sessions.{past_of, rules_of, script_of}
 use Rattle.pool_history.specs.Settling.{Settled}
 use Rattle.history_laws.proofs.Legalities.{some-none}
+use Rattle.history_laws.specs.AskedPlaces.{is_asked_after}
 use Rattle.ledger_laws.specs.Keeping.{KeepsOn}
-use Rattle.channels.specs.Plans.{planned_move}
+use Rattle.channels.specs.Plans.{IsAskedAsPlanned, planned_move}
 use Rattle.channels.specs.Tables.{ChannelTable, IsTold}
 use Rattle.channels.specs.declared.plan.ChannelPlan.{ChannelPlan}
 use Rattle.event_store.specs.Kept.{KeptHistory}
@@ -35,7 +36,7 @@ use Rattle.template_jobs.specs.Tables.{AppliesPlan, JobTable, TakesMove, kept_jo
 use Rattle.template_jobs.specs.Told.{MovesAreTold}
 use Rattle.share_ledger.specs.Planning.{BooksShare, BringsJob, ClosesOwn, EntersNext, GrantsNext, HasFee, IsNext, MovesChannels, OffersJob, TipsJob, past_in, planned_credit}
 use Rattle.share_ledger.specs.Tables.{AreTables, LedgerTables, WereTold}
-use Rattle.share_ledger.proofs.Told.{grown, told-channels, told-credit, told-custom, told-enter, told-grant, told-leave, told-template, told-tip}
+use Rattle.share_ledger.proofs.Told.{fewer, grown, told-channels, told-credit, told-custom, told-enter, told-grant, told-leave, told-template, told-tip}
 use Rattle.share_ledger.proofs.Within.{rules_same, script_same}
 
 -- what was there isn't refused
@@ -71,12 +72,14 @@ module _ (old shown : LedgerTables) (same : old ≡ shown) (is : AreTables old) 
 
   pub applied-leave : OtherEventsLeaveGrants → (session : ℕ) → next ≡ event.Leave session
       → (sessions : SessionTable) → ((past : List Event) → ShowsSessions old.sessions past → ShowsSessions sessions (event.Leave session ∷ past))
-      → (channels : ChannelTable) → ((moves : List ChannelMove) → IsTold old.channels moves → IsTold channels (Leaves session ∷ moves))
+      → (channels : ChannelTable) → ((asked : ℕ → Bool) (moves : List ChannelMove) → IsTold asked old.channels moves
+      → IsTold asked channels (Leaves session ∷ moves))
       → AreTables (record old { history = history; sessions = sessions; channels = channels })
   applied-leave leave-grants session named_is sessions shows channels moved =
       named (record old { history = history; sessions = sessions; channels = channels }) (event.Leave session) named_is events
       (told-leave is.rules old (past_in old) is.told history leave-grants sessions channels session (shows (past_in old) is.told.sessions_are)
-      (moved (channel_moves (past_in old)) is.told.channels_are))
+      (moved (is_asked_after (event.Leave session ∷ past_in old)) (channel_moves (past_in old))
+      (fewer is.rules old (past_in old) is.told history (event.Leave session))))
 
   at_past : length old.history.events ≡ length (past_in old)
   at_past = sym (length-reverse old.history.events)
@@ -128,25 +131,29 @@ module _ (old shown : LedgerTables) (same : old ≡ shown) (is : AreTables old) 
       (subst (λ (t : LedgerTables). IsTrue (is_some (future_in (kept_jobs t.jobs).future tip.template_id))) (sym same) tips.found) told takes)))
 
   pub applied-channel : OtherEventsLeaveSessions → OtherEventsLeaveGrants → (plan : ChannelPlan) → MovesChannels shown next plan
-      → (channels : ChannelTable) → ((moves : List ChannelMove) → IsTold old.channels moves → IsTold channels (planned_move plan ∷ moves))
+      → (channels : ChannelTable) → ((asked : ℕ → Bool) (moves : List ChannelMove) → IsAskedAsPlanned asked plan → IsTold asked old.channels moves
+      → IsTold asked channels (planned_move plan ∷ moves))
       → AreTables (record old { history = history; channels = channels })
   applied-channel leave-sessions leave-grants plan moved channels told =
       let moves : MovesChannels old next plan = subst (λ (t : LedgerTables). MovesChannels t next plan) (sym same) moved in
       named (record old { history = history; channels = channels }) next refl events
       (told-channels is.rules old (past_in old) is.told history leave-sessions leave-grants channels next moves.only
-      (subst (λ (l : List ChannelMove). IsTold channels l) (sym moves.moves) (told (channel_moves (past_in old)) is.told.channels_are)))
+      (subst (λ (l : List ChannelMove). IsTold (is_asked_after (next ∷ past_in old)) channels l) (sym moves.moves)
+      (told (is_asked_after (next ∷ past_in old)) (channel_moves (past_in old)) moves.asked
+      (fewer is.rules old (past_in old) is.told history next))))
 
   pub applied-close : OtherEventsLeaveSessions → OtherEventsLeaveGrants → (session channel : ℕ) → ClosesOwn shown next session channel
       → (channels : ChannelTable) → {E : Type 0} (result : Result ⊤ E)
       → (IsErr result → channel_in (channels_in old.channels.open_channels session) channel ≡ None)
-      → OnOk result ((moves : List ChannelMove) → IsTold old.channels moves → IsTold channels (Closes channel ∷ moves))
+      → OnOk result ((asked : ℕ → Bool) (moves : List ChannelMove) → IsTold asked old.channels moves → IsTold asked channels (Closes channel ∷ moves))
       → AreTables (record old { history = history; channels = channels })
   applied-close leave-sessions leave-grants session channel closes channels result not told =
       named (record old { history = history; channels = channels }) (event.Close session channel) closes.is events
       (told-channels is.rules old (past_in old) is.told history leave-sessions leave-grants channels (event.Close session channel) tt
       (done result (channel_in (channels_in old.channels.open_channels session) channel)
       (subst (λ (t : LedgerTables). IsTrue (is_some (channel_in (channels_in t.channels.open_channels session) channel))) (sym same) closes.own) not told
-      (channel_moves (past_in old)) is.told.channels_are))
+      (is_asked_after (event.Close session channel ∷ past_in old)) (channel_moves (past_in old))
+      (fewer is.rules old (past_in old) is.told history (event.Close session channel))))
 
   pub applied-grant : OtherEventsLeaveSessions → (account : List ℕ) (fixed : Bool) (path : List (List ℕ)) → GrantsNext shown next account fixed path
       → (grants : GrantTable) → ((session : ℕ) (past : List Event) → ShowsGrants old.grants past

@@ -1,5 +1,5 @@
 -- Channels are planned to be opened, named, classed and closed as the history answers.
-use Rattle.std.proofs.Common.{◌≡◌, ◌≢◌, ◌⊎◌, inl, inr, ℕ, ◌+◌, ◌≤◌, ◌<◌, Bool, true, false, cond, None, Some, Option, Result, Ok, Err, List, [], ◌∷◌, length, refl, ap, sym, subst, ◌∙◌, arith}
+use Rattle.std.proofs.Common.{◌≡◌, ◌≢◌, ◌⊎◌, inl, inr, ℕ, ◌+◌, ◌≤◌, ◌<◌, Bool, true, false, cond, None, Some, Option, Result, Ok, Err, List, [], ◌∷◌, ◌++◌, length, refl, ap, sym, subst, ◌∙◌, arith}
 use Rattle.std.proofs.lemmas.Bool.{le-leb}
 use Rattle.std.specs.Option.{option_map, option_map_or}
 use Rattle.std.specs.Prelude.{is_some, nat_eq, nat_le, not, IsTrue}
@@ -16,19 +16,30 @@ use Rattle.pool_history.specs.declared.refusals.UpdateError.TheVariants as updat
 use Rattle.pool_history.specs.declared.replies.Opened.{Opened}
 use Rattle.pool_history.specs.declared.replies.Reply.TheVariants as reply
 use Rattle.pool_history.specs.declared.settings.Rules.{Rules}
+use Rattle.pool_history.specs.declared.spans.LiveSpan.{LiveSpan}
 use Rattle.pool_history.specs.Accounts.{account_of, is_empty}
 use Rattle.pool_history.specs.Answering.{Effect, account_for, classing, closing, naming, opening, step_in, with_event, with_found, without_event}
 use Rattle.pool_history.specs.Channels.{ChannelMove, OpenChannel, Opens, Names, Sets, channel_in, channel_moves, channels_in, channels_of, present_class}
-use Rattle.pool_history.specs.Conditions.{provided}
+use Rattle.pool_history.specs.Conditions.{found, provided}
+use Rattle.pool_history.specs.Jobs.{jobs_of}
 use Rattle.pool_history.specs.Refusing.{class_for, class_of_target, nameable, openable_among, own_channel, updatable}
 use Rattle.pool_history.specs.Sessions.{opens, rules_of}
 use Rattle.history_laws.proofs.Answering.{was-nameable}
+use Rattle.history_laws.proofs.AskedPlaces.{asked-within}
 use Rattle.history_laws.proofs.Legalities.{some-same}
+use Rattle.history_laws.proofs.Living.{alive}
+use Rattle.history_laws.specs.AskedPlaces.{AreLiveWithin, is_asked_after}
+use Rattle.history_laws.specs.KeptJobs.{KeptJobs}
 use Rattle.channels.specs.Histories.{ShowsHistory, TablesShowHistories}
-use Rattle.channels.specs.Plans.{CanApply, IsUnless, opened_for, opening_on, opening_plan, plan_for, planned_move}
-use Rattle.channels.specs.Tables.{ChannelTable}
+use Rattle.channels.proofs.Cuts.{AnswersIfAny, nameable-same, none-same, openable-same, own-answers, present-same}
+use Rattle.channels.proofs.Cuts as cuts
+use Rattle.channels.specs.Plans.{CanApply, IsAskedAsPlanned, IsUnless, completion_of, opened_for, opening_on, opening_plan, plan_for, planned_move}
+use Rattle.channels.specs.Tables.{ChannelTable, KeptChannel, kept_channel}
 use Rattle.channels.specs.declared.plan.ChannelPlan.{ChannelPlan}
 use Rattle.channels.specs.declared.plan.ChannelPlan.TheVariants as plan
+use Rattle.channels.specs.declared.table.SetError.{SetError}
+use Rattle.channels.specs.declared.table.SetError.TheVariants as set_error
+use Rattle.template_jobs.specs.Tables.{kept_jobs}
 use Rattle.share_ledger.specs.declared.planning.Change.TheVariants as change
 use Rattle.share_ledger.specs.declared.planning.Step.{Step}
 use Rattle.share_ledger.specs.declared.planning.Step.TheVariants as step
@@ -71,19 +82,46 @@ opening-refused table rules session at ask (Err e) error h = ap Err (err-same h)
   err-same q = cc
 opening-refused table rules session at ask (Ok lead) error h = absurd cc
 
+-- a class that was planned, or that no open channel may get
+pub class-planned : (made planned : ChannelPlan) (r : Result OpenChannel SetError) → IsUnless set_error.Memory (Ok planned) (plan_for made r) → planned ≡ made
+class-planned made planned r (inl h) = absurd cc
+class-planned made planned (Err e) (inr h) = absurd cc
+class-planned made planned (Ok c) (inr h) = ok-same h where
+  ok-same : {x y : ChannelPlan} → ◌≡◌ {A = Result ChannelPlan SetError} (Ok x) (Ok y) → x ≡ y
+  ok-same e = cc
+
+pub class-unplanned : (made : ChannelPlan) (o : Option OpenChannel)
+    → IsUnless {X = ChannelPlan} set_error.Memory (Err set_error.NotOpen) (plan_for made (found set_error.NotOpen o)) → None ≡ option_map present_class o
+class-unplanned made o (inl h) = absurd cc
+class-unplanned made None (inr h) = refl
+class-unplanned made (Some c) (inr h) = absurd cc
+
+-- a channel that was found is among those that are shown
+pub kept-some : (k : KeptChannel) (o : Option OpenChannel) → Some k ≡ option_map kept_channel o → (c : OpenChannel) × (o ≡ Some c)
+kept-some k None h = absurd cc
+kept-some k (Some c) h = (c, refl)
+
+pub kept-none : (o : Option OpenChannel) → None ≡ option_map kept_channel o → o ≡ None
+kept-none None h = refl
+kept-none (Some c) h = absurd cc
+
 module _ (old : LedgerTables) (is : AreTables old) (session : ℕ) (shown : TablesShowHistories) (rules : Rules)
     (are : rules_of (past_in old) ≡ Some rules) where
-  shows : ShowsHistory old.channels (past_in old)
-  shows = shown old.channels (past_in old) is.told.channels_are
+  shows : ShowsHistory (is_asked_after (past_in old)) old.channels (past_in old)
+  shows = shown (is_asked_after (past_in old)) old.channels (past_in old) is.told.channels_are
 
-  own_same : (id : ℕ) → channel_in (channels_in old.channels.open_channels session) id ≡ own_channel (past_in old) session id
-  own_same id = ap (λ (l : List OpenChannel). channel_in (channels_in l session) id) shows.channels_are
+  abbrev own_in : ℕ → Option OpenChannel
+  own_in id = channel_in (channels_in old.channels.open_channels session) id
+
+  own : (id : ℕ) → AnswersIfAny (is_asked_after (past_in old)) (own_in id) (own_channel (past_in old) session id)
+  own id = own-answers (is_asked_after (past_in old)) old.channels.open_channels (channels_of (past_in old)) session id shows.channels_are
 
   -- openings
   openable_is : (ask : OpenAsk) (r : Result (List ℕ) OpenError) → openable_among rules old.channels.open_channels old.channels.opened session ask ≡ r
       → openable_among rules (channels_of (past_in old)) (opens (past_in old)) session ask ≡ r
   openable_is ask r h =
-      ap (λ (l : List OpenChannel). openable_among rules l (opens (past_in old)) session ask) (sym shows.channels_are)
+      sym (openable-same (is_asked_after (past_in old)) old.channels.open_channels (channels_of (past_in old)) rules (opens (past_in old)) session ask
+      shows.channels_are)
       ∙ ap (λ n. openable_among rules old.channels.open_channels n session ask) (sym shows.opened_are) ∙ h
 
   pub open-made : (channels : ChannelTable) (ask : OpenAsk) (planned : ChannelPlan) (at : ℕ) → at ≡ length old.history.events
@@ -109,6 +147,7 @@ module _ (old : LedgerTables) (is : AreTables old) (session : ℕ) (shown : Tabl
           moves = ap (λ n. Opens n session ask.kind (account_for ask.kind ask.identity) (class_for rules ask.max_target) o.lead
               ∷ channel_moves (past_in old)) (at_past old is);
           ready = subst (CanApply channels) o.is ready;
+          asked = tt;
         },
       ))
 
@@ -136,10 +175,37 @@ module _ (old : LedgerTables) (is : AreTables old) (session : ℕ) (shown : Tabl
     err-same q = cc
   name-refused channel account (Ok c) error h = absurd cc
 
-  nameable_is : (id : ℕ) (account : List ℕ) (r : Result OpenChannel NameError)
-      → nameable rules account (channel_in (channels_in old.channels.open_channels session) id) ≡ r
-      → nameable rules account (own_channel (past_in old) session id) ≡ r
-  nameable_is id account r h = ap (nameable rules account) (sym (own_same id)) ∙ h
+  -- the history's channel may be named where the one that is kept may, and is refused as that is
+  completed : (r : Result OpenChannel NameError) → completion_of r ≡ Ok tt → (c : OpenChannel) × (r ≡ Ok c)
+  completed (Ok c) h = (c, refl)
+  completed (Err e) h = absurd cc
+
+  uncompleted : (r : Result OpenChannel NameError) (e : NameError) → completion_of r ≡ Err e → r ≡ Err e
+  uncompleted (Ok c) e h = absurd cc
+  uncompleted (Err d) e h = ap Err (err-same h) where
+    err-same : ◌≡◌ {A = Result Unit NameError} (Err d) (Err e) → d ≡ e
+    err-same q = cc
+
+  nameable_by : (id : ℕ) (account : List ℕ) (r : Result OpenChannel NameError) → nameable rules account (own_in id) ≡ r
+      → completion_of (nameable rules account (own_channel (past_in old) session id)) ≡ completion_of r
+  nameable_by id account r h =
+      sym (nameable-same (is_asked_after (past_in old)) (own_in id) (own_channel (past_in old) session id) rules account (own id)) ∙ ap completion_of h
+
+  nameable_is : (id : ℕ) (account : List ℕ) (c : OpenChannel) → nameable rules account (own_in id) ≡ Ok c
+      → (told : OpenChannel) × (nameable rules account (own_channel (past_in old) session id) ≡ Ok told)
+  nameable_is id account c h = completed _ (nameable_by id account (Ok c) h)
+
+  unnameable_is : (id : ℕ) (account : List ℕ) (e : NameError) → nameable rules account (own_in id) ≡ Err e
+      → nameable rules account (own_channel (past_in old) session id) ≡ Err e
+  unnameable_is id account e h = uncompleted _ e (nameable_by id account (Err e) h)
+
+  unnamed-both : (kept told : Option OpenChannel) → AnswersIfAny (is_asked_after (past_in old)) kept told
+      → option_map_or (λ (there : OpenChannel). is_empty there.account) kept false
+      ≡ option_map_or (λ (there : OpenChannel). is_empty there.account) told false
+  unnamed-both None None a = refl
+  unnamed-both None (Some told) a = absurd a
+  unnamed-both (Some kept) None a = absurd a
+  unnamed-both (Some kept) (Some told) a = ap (λ (c : KeptChannel). is_empty c.account) a.kept_is
 
   abbrev named_effect : ℕ → List ℕ → Result OpenChannel NameError → Effect
   named_effect id account r = with_found reply.NameRefused (naming session id account) r
@@ -148,7 +214,8 @@ module _ (old : LedgerTables) (is : AreTables old) (session : ℕ) (shown : Tabl
       → b ≡ option_map_or (λ (there : OpenChannel). is_empty there.account) (channel_in (channels_in old.channels.open_channels session) id) false
       → b ≡ is_empty c.account
   unnamed_is id account c b found is_unnamed =
-      is_unnamed ∙ ap (λ o. option_map_or (λ (there : OpenChannel). is_empty there.account) o false) (own_same id ∙ (was-nameable rules account _ c found).0)
+      is_unnamed ∙ unnamed-both _ _ (own id)
+      ∙ ap (λ o. option_map_or (λ (there : OpenChannel). is_empty there.account) o false) (was-nameable rules account _ c found).0
 
   pub name-made : (channels : ChannelTable) (id : ℕ) (identity : List ℕ) (planned : ChannelPlan) (unnamed : Bool)
       → IsUnless name_error.Memory (Ok planned) (plan_for (plan.Name id (account_of identity))
@@ -160,16 +227,17 @@ module _ (old : LedgerTables) (is : AreTables old) (session : ℕ) (shown : Tabl
   name-made channels id identity planned unnamed answer ready is_unnamed h_empty =
       let account : List ℕ = account_of identity in
       let o = name-planned id account _ planned (planned_as name_error.Memory planned _ answer) in
-      let found : nameable rules account (own_channel (past_in old) session id) ≡ Ok o.0 = nameable_is id account (Ok o.0) o.1 in
-      let empty : is_empty o.0.account ≡ true = sym (unnamed_is id account o.0 unnamed found is_unnamed) ∙ h_empty in
+      let found = nameable_is id account o.0 o.1 in
+      let empty : is_empty found.0.account ≡ true = sym (unnamed_is id account found.0 unnamed found.1 is_unnamed) ∙ h_empty in
       subst (λ p. IsStepWithin old (record old { channels = channels }) session (request.Name id identity) (name_step session p)) (sym o.2)
       (within_by old is rules are session (request.Name id identity) (record old { channels = channels }) (name_step session (plan.Name id account)) (
-        ap (named_effect id account) found
+        ap (named_effect id account) found.1
             ∙ ap (λ b. cond b (with_event (event.Name session id account) reply.Named) (without_event reply.Named)) empty,
         record {
           only = tt;
           moves = refl;
           ready = subst (CanApply channels) o.2 ready;
+          asked = tt;
         },
       ))
 
@@ -182,10 +250,10 @@ module _ (old : LedgerTables) (is : AreTables old) (session : ℕ) (shown : Tabl
   name-known channels id identity planned unnamed answer is_unnamed h_full =
       let account : List ℕ = account_of identity in
       let o = name-planned id account _ planned (planned_as name_error.Memory planned _ answer) in
-      let found : nameable rules account (own_channel (past_in old) session id) ≡ Ok o.0 = nameable_is id account (Ok o.0) o.1 in
-      let full : is_empty o.0.account ≡ false = sym (unnamed_is id account o.0 unnamed found is_unnamed) ∙ h_full in
+      let found = nameable_is id account o.0 o.1 in
+      let full : is_empty found.0.account ≡ false = sym (unnamed_is id account found.0 unnamed found.1 is_unnamed) ∙ h_full in
       within_by old is rules are session (request.Name id identity) (record old { channels = channels }) (step.Answer reply.Named)
-      (ap (named_effect id account) found
+      (ap (named_effect id account) found.1
       ∙ ap (λ b. cond b (with_event (event.Name session id account) reply.Named) (without_event reply.Named)) full)
 
   pub name-not : (channels : ChannelTable) (id : ℕ) (identity : List ℕ) (error : NameError) → error ≢ name_error.Memory
@@ -195,7 +263,7 @@ module _ (old : LedgerTables) (is : AreTables old) (session : ℕ) (shown : Tabl
   name-not channels id identity error not answer =
       within_by old is rules are session (request.Name id identity) (record old { channels = channels }) (step.Answer (reply.NameRefused error))
       (ap (named_effect id (account_of identity))
-      (nameable_is id (account_of identity) (Err error) (name-refused id (account_of identity) _ error (refused_as name_error.Memory error _ not answer))))
+      (unnameable_is id (account_of identity) error (name-refused id (account_of identity) _ error (refused_as name_error.Memory error _ not answer))))
 
   -- classes
   abbrev update_effect : ℕ → List ℕ → Option OpenChannel → Effect
@@ -204,6 +272,11 @@ module _ (old : LedgerTables) (is : AreTables old) (session : ℕ) (shown : Tabl
   class-found : (o : Option OpenChannel) (class : ℕ) → Some class ≡ option_map present_class o → (c : OpenChannel) × (o ≡ Some c) × (present_class c ≡ class)
   class-found None class h = absurd cc
   class-found (Some c) class h = (c, refl, some-same (sym h))
+
+  -- the history's channel has the class that the kept one has
+  class_is : (id : ℕ) (o : Option ℕ) → o ≡ option_map present_class (own_in id)
+      → o ≡ option_map present_class (own_channel (past_in old) session id)
+  class_is id o h = h ∙ present-same (is_asked_after (past_in old)) (own_in id) (own_channel (past_in old) session id) (own id)
 
   class-none : (o : Option OpenChannel) → None ≡ option_map present_class o → o ≡ None
   class-none None h = refl
@@ -220,24 +293,24 @@ module _ (old : LedgerTables) (is : AreTables old) (session : ℕ) (shown : Tabl
       → IsStepWithin old (record old { channels = channels }) session (request.Update id target) (step.Answer (reply.UpdateRefused update_error.NotOpen))
   update-closed channels id target none =
       within_by old is rules are session (request.Update id target) (record old { channels = channels }) (step.Answer (reply.UpdateRefused update_error.NotOpen))
-      (ap (update_effect id target) (sym (own_same id) ∙ class-none _ none))
+      (ap (update_effect id target) (class-none _ (class_is id None none)))
 
   pub update-far : (channels : ChannelTable) (id : ℕ) (target : List ℕ) (present : ℕ)
       → Some present ≡ option_map present_class (channel_in (channels_in old.channels.open_channels session) id) → 60 < class_of_target target
       → IsStepWithin old (record old { channels = channels }) session (request.Update id target)
       (step.Answer (reply.UpdateRefused (update_error.TargetOutOfRange (class_of_target target))))
   update-far channels id target present some far =
-      let c = class-found _ present some in
+      let c = class-found _ present (class_is id (Some present) some) in
       within_by old is rules are session (request.Update id target) (record old { channels = channels }) (step.Answer (reply.UpdateRefused (update_error.TargetOutOfRange (class_of_target target))))
-      (ap (update_effect id target) (sym (own_same id) ∙ c.1)
+      (ap (update_effect id target) c.1
       ∙ ap (λ b. with_found reply.UpdateRefused (classing session id (class_for rules target))
       (provided b (update_error.TargetOutOfRange (class_of_target target)) c.0)) (too_far (class_of_target target) far))
 
-  updated : (id : ℕ) (target : List ℕ) (c : OpenChannel) → channel_in (channels_in old.channels.open_channels session) id ≡ Some c
+  updated : (id : ℕ) (target : List ℕ) (c : OpenChannel) → own_channel (past_in old) session id ≡ Some c
       → class_of_target target ≤ 60
       → step_in rules (past_in old) session (request.Update id target) ≡ classing session id (class_for rules target) c
   updated id target c there near =
-      ap (update_effect id target) (sym (own_same id) ∙ there)
+      ap (update_effect id target) there
       ∙ ap (λ b. with_found reply.UpdateRefused (classing session id (class_for rules target))
       (provided b (update_error.TargetOutOfRange (class_of_target target)) c)) (le-leb (class_of_target target) 60 near)
 
@@ -246,20 +319,24 @@ module _ (old : LedgerTables) (is : AreTables old) (session : ℕ) (shown : Tabl
       → nat_eq (class_for rules target) present ≡ true
       → IsStepWithin old (record old { channels = channels }) session (request.Update id target) (step.Answer (reply.Target id (class_for rules target)))
   update-same channels id target present some near alike =
-      let c = class-found _ present some in
+      let c = class-found _ present (class_is id (Some present) some) in
       within_by old is rules are session (request.Update id target) (record old { channels = channels }) (step.Answer (reply.Target id (class_for rules target)))
       (updated id target c.0 c.1 near
       ∙ ap (λ b. cond b (without_event (reply.Target id (class_for rules target)))
       (with_event (event.Class session id (class_for rules target)) (reply.Target id (class_for rules target))))
       (ap (nat_eq (class_for rules target)) c.2 ∙ alike))
 
-  pub update-made : (channels : ChannelTable) (id : ℕ) (target : List ℕ) (present : ℕ) (planned : ChannelPlan)
+  living : (span : LiveSpan) → AreLiveWithin span ((kept_jobs old.jobs).live ++ (kept_jobs old.jobs).custom)
+      → AreLiveWithin span (alive (jobs_of (past_in old)))
+  living span within = subst (λ (kept : KeptJobs). AreLiveWithin span (kept.live ++ kept.custom)) is.told.jobs_are within
+
+  pub update-made : (channels : ChannelTable) (id : ℕ) (target : List ℕ) (present : ℕ) (planned : ChannelPlan) (span : LiveSpan)
       → Some present ≡ option_map present_class (channel_in (channels_in old.channels.open_channels session) id) → class_of_target target ≤ 60
-      → nat_eq (class_for rules target) present ≡ false → planned ≡ plan.Class (length old.history.events) id (class_for rules target)
-      → CanApply channels planned
+      → nat_eq (class_for rules target) present ≡ false → planned ≡ plan.Class (length old.history.events) id (class_for rules target) span
+      → CanApply channels planned → AreLiveWithin span ((kept_jobs old.jobs).live ++ (kept_jobs old.jobs).custom)
       → IsStepWithin old (record old { channels = channels }) session (request.Update id target) (class_step session id (class_for rules target) planned)
-  update-made channels id target present planned some near other is_plan ready =
-      let c = class-found _ present some in
+  update-made channels id target present planned span some near other is_plan ready within =
+      let c = class-found _ present (class_is id (Some present) some) in
       within_by old is rules are session (request.Update id target) (record old { channels = channels }) (class_step session id (class_for rules target) planned) (
         updated id target c.0 c.1 near
             ∙ ap (λ b. cond b (without_event (reply.Target id (class_for rules target)))
@@ -270,6 +347,9 @@ module _ (old : LedgerTables) (is : AreTables old) (session : ℕ) (shown : Tabl
           moves = ap (λ n. Sets n id (class_for rules target) ∷ channel_moves (past_in old)) (at_past old is)
               ∙ ap (λ p. planned_move p ∷ channel_moves (past_in old)) (sym is_plan);
           ready = ready;
+          asked = subst (IsAskedAsPlanned (is_asked_after (event.Class session id (class_for rules target) ∷ past_in old))) (sym is_plan)
+              (λ place h. subst (λ n. ((span.oldest ≤ place) × (place ≤ span.newest)) ⊎ (n < place)) (at_past old is)
+              (asked-within span (past_in old) session id (class_for rules target) place (living span within) h));
         },
       )
 
@@ -279,11 +359,11 @@ module _ (old : LedgerTables) (is : AreTables old) (session : ℕ) (shown : Tabl
       (step.Move (record { event = event.Close session id; change = change.Close session id; reply = reply.Closed }))
   close-made id c there =
       within_by old is rules are session (request.Close id) old (step.Move (record { event = event.Close session id; change = change.Close session id; reply = reply.Closed })) (
-        ap (closing session id) (sym (own_same id) ∙ there),
+        ap (closing session id) (cuts.some-same (is_asked_after (past_in old)) (own_in id) (own_channel (past_in old) session id) (own id) c there).1,
         record { is = refl; own = subst (λ o. IsTrue (is_some o)) (sym there) refl },
       )
 
   pub close-not : (id : ℕ) → channel_in (channels_in old.channels.open_channels session) id ≡ None
       → IsStepWithin old old session (request.Close id) (step.Answer reply.NotOpen)
   close-not id there =
-      within_by old is rules are session (request.Close id) old (step.Answer reply.NotOpen) (ap (closing session id) (sym (own_same id) ∙ there))
+      within_by old is rules are session (request.Close id) old (step.Answer reply.NotOpen) (ap (closing session id) (none-same (is_asked_after (past_in old)) (own_in id) (own_channel (past_in old) session id) (own id) there))

@@ -24,8 +24,11 @@ use Rattle.history_laws.proofs.Crediting.{admission-booked, booked-found, credit
 use Rattle.history_laws.proofs.Legalities.{some-same}
 use Rattle.history_laws.proofs.Ranges.{legal-rules}
 use Rattle.payout_laws.proofs.Ranges.{pays_from}
+use Rattle.history_laws.specs.AskedPlaces.{is_asked_after}
+use Rattle.channels.proofs.Cuts.{in-answers, some-back}
 use Rattle.channels.specs.Histories.{TablesShowHistories}
-use Rattle.pool_history.specs.Channels.{OpenChannel, channel_in}
+use Rattle.channels.specs.Tables.{AnswersFor, KeptChannel}
+use Rattle.pool_history.specs.Channels.{OpenChannel, channel_in, channels_of}
 use Rattle.share_judging.proofs.Ranges.{window_and_limit}
 use Rattle.event_store.specs.Blocks.{is_block_event}
 use Rattle.payouts.specs.Plans.{BlockPlan, IsPlanOf, Planning}
@@ -210,14 +213,18 @@ module _ (old : LedgerTables) (is : AreTables old) (session : ℕ) (rules : Rule
 
   -- its channel is open
   there : TablesShowHistories → (share : Share) (with : Admitted) → admission rules (past_in old) session share ≡ Ok with
-      → channel_in old.channels.open_channels share.channel ≡ Some with.channel
+      → (kept : OpenChannel) × (channel_in old.channels.open_channels share.channel ≡ Some kept)
+      × AnswersFor (is_asked_after (past_in old)) kept with.channel
   there shown share with admitted =
-      ap (λ (l : List OpenChannel). channel_in l share.channel) (shown old.channels (past_in old) is.told.channels_are).channels_are
-      ∙ (booked-found (past_in old) share.channel share.job with (admission-booked rules (past_in old) session share with admitted)).channel_is
+      some-back (is_asked_after (past_in old)) (channel_in old.channels.open_channels share.channel) (channel_in (channels_of (past_in old)) share.channel)
+      (in-answers (is_asked_after (past_in old)) old.channels.open_channels (channels_of (past_in old)) share.channel
+      (shown (is_asked_after (past_in old)) old.channels (past_in old) is.told.channels_are).channels_are) with.channel
+      (booked-found (past_in old) share.channel share.job with (admission-booked rules (past_in old) session share with admitted)).channel_is
 
   pub has_account : TablesShowHistories → (share : Share) (header : List ℕ) (block : Bool) (work reward : ℕ)
       → Passes rules (past_in old) session share header block work reward → HasAccount (channel_in old.channels.open_channels share.channel)
-  has_account shown share header block work reward p = record { channel = p.with.channel; is = there shown share p.with p.admitted }
+  has_account shown share header block work reward p =
+      let kept = there shown share p.with p.admitted in record { channel = kept.0; is = kept.1 }
 
   -- the share that passed is booked
   pub booked : TablesShowHistories → (tally : Weighing) (set : HeaderSet) (share : Share) (header : List ℕ) (block : Bool) (work reward : ℕ)
@@ -231,7 +238,8 @@ module _ (old : LedgerTables) (is : AreTables old) (session : ℕ) (rules : Rule
       let found : booked_with (past_in old) share.channel share.job ≡ Some with = admission-booked rules (past_in old) session share with p.admitted in
       let block_is : block ≡ is_block (script_of (past_in old)) with share = p.block_is ∙ ap (λ s. is_block s with share) (sym script) in
       let account_is : account ≡ with.channel.account =
-      some-same (sym paid ∙ ap (option_map (λ (c : OpenChannel). c.account)) (there shown share with p.admitted)) in
+      let kept = there shown share with p.admitted in
+      some-same (sym paid ∙ ap (option_map (λ (c : OpenChannel). c.account)) kept.1) ∙ ap (λ (c : KeptChannel). c.account) kept.2.kept_is in
       let credit : planned_credit plan ≡ booking (script_of (past_in old)) share with =
       ap (λ a. record { account = a; work = plan.work; reward = option_map (λ (b : BlockPlan). b.reward) plan.block }) (planned.account_is ∙ account_is)
       ∙ ap (λ w. record { account = with.channel.account; work = w; reward = option_map (λ (b : BlockPlan). b.reward) plan.block }) (planned.work_is ∙ p.work_is)

@@ -1,5 +1,5 @@
 -- The first event of a book.
-use Rattle.std.proofs.Common.{◌≡◌, ◌⊎◌, inl, inr, ℕ, None, Some, Option, List, [], ◌∷◌, length, refl, ap, sym, subst, ◌∙◌}
+use Rattle.std.proofs.Common.{◌≡◌, ◌⊎◌, inl, inr, ℕ, Bool, None, Some, Option, List, [], ◌∷◌, length, refl, ap, sym, subst, ◌∙◌}
 use Rattle.std.specs.Prelude.{slice_get, IsTrue}
 use Rattle.pool_history.specs.declared.events.Event.{Event}
 use Rattle.pool_history.specs.declared.events.Event.TheVariants as event
@@ -10,6 +10,7 @@ use Rattle.pool_history.specs.declared.settings.Rules.{Rules}
 use Rattle.pool_history.specs.Accounts.{are_in_range}
 use Rattle.pool_history.specs.Jobs.{jobs_told}
 use Rattle.history_laws.specs.KeptJobs.{kept_jobs_of}
+use Rattle.history_laws.specs.AskedPlaces.{is_asked_after}
 use Rattle.ledger_laws.specs.Keeping.{IsKept, StartsAreKept}
 use Rattle.ledger_laws.specs.WellFormed.{AreRules, IsWellFormed}
 use Rattle.channels.specs.Tables.{IsTold}
@@ -39,7 +40,7 @@ first-there old is none =
 pub started : (rules : Rules) (tables : LedgerTables) → StartsAreKept → OtherEventsLeaveSessions → OtherEventsLeaveGrants → IsTrue (are_in_range rules)
     → tables.history.events ≡ event.Start rules ∷ []
     → ((first : Event) → slice_get tables.history.events 0 ≡ Some first → IsWellFormed first)
-    → ShowsSessions tables.sessions [] → IsTold tables.channels [] → kept_jobs tables.jobs ≡ kept_jobs_of (jobs_told [])
+    → ShowsSessions tables.sessions [] → ((asked : ℕ → Bool) → IsTold asked tables.channels []) → kept_jobs tables.jobs ≡ kept_jobs_of (jobs_told [])
     → ((script : List ℕ) → HasCoinbases script tables.jobs) → ShowsGrants tables.grants [] → tables.tally.window ≡ rules.window
     → Remembers tables.tally [] → ((basis_points : ℕ) → HasSums tables.tally basis_points []) → ShowsHeaders tables.headers [] → AreTables tables
 started rules tables kept leave-sessions leave-grants ranged events fits sessions channels jobs coinbases grants window tally sums headers =
@@ -51,7 +52,7 @@ started rules tables kept leave-sessions leave-grants ranged events fits session
           (record {
             are_rules = refl;
             sessions_are = leave-sessions tables.sessions [] (event.Start rules) refl sessions;
-            channels_are = channels;
+            channels_are = channels (is_asked_after (event.Start rules ∷ []));
             jobs_are = jobs;
             coinbases = coinbases rules.pool_script;
             grants_are = leave-grants tables.grants [] (event.Start rules) refl grants;

@@ -21,7 +21,7 @@ use Rattle.pool_history.specs.declared.templates.CustomData.{CustomData}
 use Rattle.pool_history.specs.declared.templates.TipData.{TipData}
 use Rattle.pool_history.specs.Accounts.{account_of, is_known}
 use Rattle.pool_history.specs.Answering.{Effect, granting, unless_refused, with_event, without_event}
-use Rattle.pool_history.specs.Channels.{OpenChannel, channel_in, channels_in}
+use Rattle.pool_history.specs.Channels.{channel_in, channels_in, channels_of}
 use Rattle.pool_history.specs.Conditions.{first_false, or_code}
 use Rattle.pool_history.specs.Jobs.{FromMiner, jobs_of}
 use Rattle.pool_history.specs.Judging.{custom_terms}
@@ -31,6 +31,8 @@ use Rattle.history_laws.specs.KeptJobs.{KeptJobs}
 use Rattle.history_laws.specs.Limits.{customs}
 use Rattle.history_laws.proofs.Answering.{code-none}
 use Rattle.channels.specs.Histories.{TablesShowHistories}
+use Rattle.history_laws.specs.AskedPlaces.{is_asked_after}
+use Rattle.channels.proofs.Cuts.{kept-same, own-answers}
 use Rattle.channels.specs.declared.channel.Channel.{Channel}
 use Rattle.channels.specs.Tables.{kept_channel, kept_of}
 use Rattle.grant_table.specs.OwnJobs.{refusal_before_coinbase}
@@ -141,11 +143,15 @@ module _ (old : LedgerTables) (is : AreTables old) (session : ℕ) (rules : Rule
       unless_refused reply.CustomRefused refusal
       (with_event (event.Custom session custom) (reply.CustomJob (length (jobs_of (past_in old)).all + 1)))
 
-  custom_refused : TablesShowHistories → (custom : CustomData) → (o : Option OpenChannel)
-      → channel_in (channels_in old.channels.open_channels session) custom.channel_id ≡ o → own_channel (past_in old) session custom.channel_id ≡ o
-  custom_refused shown custom o h =
-      ap (λ (l : List OpenChannel). channel_in (channels_in l session) custom.channel_id)
-      (sym (shown old.channels (past_in old) is.told.channels_are).channels_are) ∙ h
+  -- what is kept of the channel is kept of the history's
+  kept_own : TablesShowHistories → (custom : CustomData) (k : Option Channel)
+      → option_map kept_of k ≡ option_map kept_channel (channel_in (channels_in old.channels.open_channels session) custom.channel_id)
+      → option_map kept_of k ≡ option_map kept_channel (own_channel (past_in old) session custom.channel_id)
+  kept_own shown custom k same =
+      same ∙ kept-same (is_asked_after (past_in old)) (channel_in (channels_in old.channels.open_channels session) custom.channel_id)
+      (own_channel (past_in old) session custom.channel_id)
+      (own-answers (is_asked_after (past_in old)) old.channels.open_channels (channels_of (past_in old)) session custom.channel_id
+      (shown (is_asked_after (past_in old)) old.channels (past_in old) is.told.channels_are).channels_are)
 
   pub custom-refused : TablesShowHistories → (new : LedgerTables) (custom : CustomData) (k : Option Channel) (error : CustomError)
       → option_map kept_of k ≡ option_map kept_channel (channel_in (channels_in old.channels.open_channels session) custom.channel_id)
@@ -154,15 +160,16 @@ module _ (old : LedgerTables) (is : AreTables old) (session : ℕ) (rules : Rule
   custom-refused shown new custom k error same told =
       within_by old is rules are session (request.Custom custom) new (step.Answer (reply.CustomRefused error))
       (ap (custom_effect custom)
-      (ap (on_channel rules.pool_script (past_in old) custom) (custom_refused shown custom _ refl)
-      ∙ channel-some old.grants (past_in old) is.told.grants_are rules.pool_script old.jobs.tip (tip_same old is) custom _ k error same (sym told)))
+      (channel-some old.grants (past_in old) is.told.grants_are rules.pool_script old.jobs.tip (tip_same old is) custom _ k error
+      (kept_own shown custom k same) (sym told)))
 
   after_token : TablesShowHistories → (custom : CustomData) (k : Option Channel)
       → option_map kept_of k ≡ option_map kept_channel (channel_in (channels_in old.channels.open_channels session) custom.channel_id)
       → None ≡ refusal_before_coinbase k old.grants old.jobs.tip custom
       → custom_refusal rules.pool_script (past_in old) session custom ≡ outputs_refusal (custom_assembly (custom_terms custom) rules.pool_script)
   after_token shown custom k same told =
-      ap (on_channel rules.pool_script (past_in old) custom) (custom_refused shown custom _ refl) ∙ channel-none old.grants (past_in old) is.told.grants_are rules.pool_script old.jobs.tip (tip_same old is) custom _ k same (sym told)
+      channel-none old.grants (past_in old) is.told.grants_are rules.pool_script old.jobs.tip (tip_same old is) custom _ k
+      (kept_own shown custom k same) (sym told)
 
   pub custom-unmade : TablesShowHistories → (new : LedgerTables) (custom : CustomData) (k : Option Channel) (error : OutputsError) (script : List ℕ)
       → option_map kept_of k ≡ option_map kept_channel (channel_in (channels_in old.channels.open_channels session) custom.channel_id)

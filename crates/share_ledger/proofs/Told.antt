@@ -11,8 +11,11 @@ use Rattle.pool_history.specs.Channels.{Closes, Leaves, channel_moves}
 use Rattle.pool_history.specs.Crediting.{Booked, bookings_of, headers}
 use Rattle.pool_history.specs.Jobs.{Brought, Came, Tipped, job_moves, jobs_told}
 use Rattle.pool_history.specs.Sessions.{past_of, rules_of, script_in, script_of}
+use Rattle.history_laws.proofs.AskedPlaces.{asked-before}
 use Rattle.history_laws.proofs.Legalities.{past-one}
+use Rattle.history_laws.specs.AskedPlaces.{is_asked_after}
 use Rattle.ledger_laws.specs.Keeping.{KeepsOn}
+use Rattle.channels.proofs.Cuts.{told-weaker}
 use Rattle.channels.specs.Tables.{ChannelTable, IsTold}
 use Rattle.event_store.specs.Kept.{KeptHistory}
 use Rattle.grant_table.specs.Tables.{GrantTable, OtherEventsLeaveGrants, ShowsGrants}
@@ -35,13 +38,17 @@ grown old new next is events keeps told = record {
 }
 
 module _ (rules : Rules) (tables : LedgerTables) (past : List Event) (told : WereTold rules tables past) (history : KeptHistory) where
+  -- of an event more, at fewer places classes are asked for
+  pub fewer : (next : Event) → IsTold (is_asked_after (next ∷ past)) tables.channels (channel_moves past)
+  fewer next = told-weaker (is_asked_after past) (is_asked_after (next ∷ past)) tables.channels (channel_moves past) (asked-before next past) told.channels_are
+
   pub told-enter : OtherEventsLeaveGrants → (sessions : SessionTable) (worker : ℕ) (role : Role) (flags : ℕ)
       → ShowsSessions sessions (event.Enter worker role flags ∷ past)
       → WereTold rules (record tables { history = history; sessions = sessions }) (event.Enter worker role flags ∷ past)
   told-enter leave-grants sessions worker role flags shows = record {
     are_rules = told.are_rules;
     sessions_are = shows;
-    channels_are = told.channels_are;
+    channels_are = fewer (event.Enter worker role flags);
     jobs_are = told.jobs_are;
     coinbases = told.coinbases;
     grants_are = leave-grants tables.grants past (event.Enter worker role flags) refl told.grants_are;
@@ -52,7 +59,8 @@ module _ (rules : Rules) (tables : LedgerTables) (past : List Event) (told : Wer
   }
 
   pub told-leave : OtherEventsLeaveGrants → (sessions : SessionTable) (channels : ChannelTable) (session : ℕ)
-      → ShowsSessions sessions (event.Leave session ∷ past) → IsTold channels (Leaves session ∷ channel_moves past)
+      → ShowsSessions sessions (event.Leave session ∷ past)
+      → IsTold (is_asked_after (event.Leave session ∷ past)) channels (Leaves session ∷ channel_moves past)
       → WereTold rules (record tables { history = history; sessions = sessions; channels = channels }) (event.Leave session ∷ past)
   told-leave leave-grants sessions channels session shows moved = record {
     are_rules = told.are_rules;
@@ -73,7 +81,7 @@ module _ (rules : Rules) (tables : LedgerTables) (past : List Event) (told : Wer
   told-template leave-sessions leave-grants moves-told jobs session template takes = record {
     are_rules = told.are_rules;
     sessions_are = leave-sessions tables.sessions past (event.Template session template) refl told.sessions_are;
-    channels_are = told.channels_are;
+    channels_are = fewer (event.Template session template);
     jobs_are = moves-told rules.pool_script (Came (length past) session template) (job_moves past) tables.jobs jobs takes told.jobs_are;
     coinbases = takes.coinbases told.coinbases;
     grants_are = leave-grants tables.grants past (event.Template session template) refl told.grants_are;
@@ -89,7 +97,7 @@ module _ (rules : Rules) (tables : LedgerTables) (past : List Event) (told : Wer
   told-tip leave-sessions leave-grants moves-told jobs session tip takes = record {
     are_rules = told.are_rules;
     sessions_are = leave-sessions tables.sessions past (event.Tip session tip) refl told.sessions_are;
-    channels_are = told.channels_are;
+    channels_are = fewer (event.Tip session tip);
     jobs_are = moves-told rules.pool_script (Tipped (length past) tip) (job_moves past) tables.jobs jobs takes told.jobs_are;
     coinbases = takes.coinbases told.coinbases;
     grants_are = leave-grants tables.grants past (event.Tip session tip) refl told.grants_are;
@@ -105,7 +113,7 @@ module _ (rules : Rules) (tables : LedgerTables) (past : List Event) (told : Wer
   told-custom leave-sessions moves-told jobs grants session custom takes shows = record {
     are_rules = told.are_rules;
     sessions_are = leave-sessions tables.sessions past (event.Custom session custom) refl told.sessions_are;
-    channels_are = told.channels_are;
+    channels_are = fewer (event.Custom session custom);
     jobs_are = moves-told rules.pool_script (Brought (length past) custom) (job_moves past) tables.jobs jobs takes told.jobs_are;
     coinbases = takes.coinbases told.coinbases;
     grants_are = shows;
@@ -121,7 +129,7 @@ module _ (rules : Rules) (tables : LedgerTables) (past : List Event) (told : Wer
   told-grant leave-sessions grants session account fixed path shows = record {
     are_rules = told.are_rules;
     sessions_are = leave-sessions tables.sessions past (event.Grant session account fixed path) refl told.sessions_are;
-    channels_are = told.channels_are;
+    channels_are = fewer (event.Grant session account fixed path);
     jobs_are = told.jobs_are;
     coinbases = told.coinbases;
     grants_are = shows;
@@ -141,7 +149,7 @@ module _ (rules : Rules) (tables : LedgerTables) (past : List Event) (told : Wer
   told-credit leave-sessions leave-grants tally set session channel job nonce ntime version extranonce booked header books adds window remembers sums shows = record {
     are_rules = told.are_rules;
     sessions_are = leave-sessions tables.sessions past (event.Credit session channel job nonce ntime version extranonce) refl told.sessions_are;
-    channels_are = told.channels_are;
+    channels_are = fewer (event.Credit session channel job nonce ntime version extranonce);
     jobs_are = told.jobs_are;
     coinbases = told.coinbases;
     grants_are = leave-grants tables.grants past (event.Credit session channel job nonce ntime version extranonce) refl told.grants_are;
@@ -152,7 +160,7 @@ module _ (rules : Rules) (tables : LedgerTables) (past : List Event) (told : Wer
   }
 
   pub told-channels : OtherEventsLeaveSessions → OtherEventsLeaveGrants → (channels : ChannelTable) (next : Event) → IsOfChannels next
-      → IsTold channels (channel_moves (next ∷ past))
+      → IsTold (is_asked_after (next ∷ past)) channels (channel_moves (next ∷ past))
       → WereTold rules (record tables { history = history; channels = channels }) (next ∷ past)
   told-channels leave-sessions leave-grants channels (event.Open session kind account class lead) only moved = record {
     are_rules = told.are_rules;

@@ -18,6 +18,7 @@ use Rattle.pool_history.specs.Answering.{Effect, step_in, with_event, without_ev
 use Rattle.pool_history.specs.Channels.{OpenChannel, channels_of}
 use Rattle.pool_history.specs.Jobs.{Job, jobs_of}
 use Rattle.pool_history.specs.Sessions.{past_of, rules_of, script_in, script_of}
+use Rattle.history_laws.specs.AskedPlaces.{is_asked_after}
 use Rattle.history_laws.specs.KeptJobs.{KeptJobs, kept_jobs_of}
 use Rattle.history_laws.proofs.Legalities.{some-same}
 use Rattle.history_laws.proofs.Ranges.{least-range, legal-rules, script-range}
@@ -71,7 +72,7 @@ module _ (old : LedgerTables) (is : AreTables old) where
   -- what is judged by
   pub shows_shares : TablesShowHistories → ShowsShares old.channels old.jobs (past_in old)
   shows_shares shown = record {
-    channels_are = (shown old.channels (past_in old) is.told.channels_are).channels_are;
+    channels_are = (shown (is_asked_after (past_in old)) old.channels (past_in old) is.told.channels_are).channels_are;
     jobs_are = is.told.jobs_are;
     coinbases = subst (λ (s : List ℕ). Rattle.template_jobs.specs.Tables.HasCoinbases s old.jobs) (sym script_same) is.told.coinbases;
   }

@@ -15,7 +15,7 @@ abbrev pub opening_of : ChannelPlan → Option (Event × Opened)
 opening_of (plan.Open at session kind account opened) =
     Some (event.Open session kind account opened.class opened.lead, opened)
 opening_of (plan.Name channel account) = None
-opening_of (plan.Class at channel class) = None
+opening_of (plan.Class at channel class span) = None
 
 abbrev pub IsOpeningPlan : ChannelPlan → Type 0
 IsOpeningPlan planned = IsTrue (is_some (opening_of planned))
@@ -24,7 +24,7 @@ IsOpeningPlan planned = IsTrue (is_some (opening_of planned))
 abbrev pub named_account : ℕ → ChannelPlan → Option Event
 named_account session (plan.Open at opening kind account opened) = None
 named_account session (plan.Name channel account) = Some (event.Name session channel account)
-named_account session (plan.Class at channel class) = None
+named_account session (plan.Class at channel class span) = None
 
 abbrev pub IsNamingPlan : ChannelPlan → Type 0
 IsNamingPlan planned = IsTrue (is_some (named_account 0 planned))

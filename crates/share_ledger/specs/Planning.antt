@@ -17,8 +17,9 @@ use Rattle.pool_history.specs.Crediting.{Booked, bookings_of, headers}
 use Rattle.pool_history.specs.Jobs.{FromMiner, FromTemplate, future_in}
 use Rattle.pool_history.specs.Refusing.{most_enters, most_grants}
 use Rattle.pool_history.specs.Sessions.{past_of, rules_of, script_of}
+use Rattle.history_laws.specs.AskedPlaces.{is_asked_after}
 use Rattle.ledger_laws.specs.Keeping.{KeepsOn}
-use Rattle.channels.specs.Plans.{CanApply, planned_move}
+use Rattle.channels.specs.Plans.{CanApply, IsAskedAsPlanned, planned_move}
 use Rattle.channels.specs.declared.plan.ChannelPlan.{ChannelPlan}
 use Rattle.event_store.specs.Blocks.{is_block_event}
 use Rattle.grant_table.specs.Tables.{MaySpend, granted_count}
@@ -72,7 +73,7 @@ pub record TipsJob (tables : LedgerTables) (next : Event) (tip : TipData) : Type
   pub is : next ≡ event.Tip session tip
   pub found : IsTrue (is_some (future_in (kept_jobs tables.jobs).future tip.template_id))
 
--- an event of a channel that is opened, named or classed
+-- an event of a channel that is opened, named, classed or closed
 abbrev pub IsOfChannels : Event → Type 0
 IsOfChannels (event.Open session kind account class lead) = Unit {0}
 IsOfChannels (event.Name session channel account) = Unit {0}
@@ -93,6 +94,7 @@ pub record MovesChannels (tables : LedgerTables) (next : Event) (plan : ChannelP
   pub moves : channel_moves (next ∷ past_in tables)
       ≡ planned_move plan ∷ channel_moves (past_in tables)
   pub ready : CanApply tables.channels plan
+  pub asked : IsAskedAsPlanned (is_asked_after (next ∷ past_in tables)) plan
 
 -- a session's open channel is closed
 pub record ClosesOwn (tables : LedgerTables) (next : Event) (session channel : ℕ) : Type 0 where

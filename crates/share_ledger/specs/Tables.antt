@@ -7,6 +7,7 @@ use Rattle.pool_history.specs.Crediting.{bookings_of}
 use Rattle.pool_history.specs.Crediting as crediting
 use Rattle.pool_history.specs.Jobs.{job_moves}
 use Rattle.pool_history.specs.Sessions.{past_of, rules_of}
+use Rattle.history_laws.specs.AskedPlaces.{is_asked_after}
 use Rattle.ledger_laws.specs.Keeping.{IsKept}
 use Rattle.channels.specs.Tables.{ChannelTable, IsTold}
 use Rattle.event_store.specs.Kept.{KeptHistory}
@@ -32,7 +33,7 @@ pub record LedgerTables : Type 0 where
 pub record WereTold (rules : Rules) (tables : LedgerTables) (past : List Event) : Type 0 where
   pub are_rules : rules_of past ≡ Some rules
   pub sessions_are : ShowsSessions tables.sessions past
-  pub channels_are : IsTold tables.channels (channel_moves past)
+  pub channels_are : IsTold (is_asked_after past) tables.channels (channel_moves past)
   pub jobs_are : WasTold tables.jobs (job_moves past)
   pub coinbases : HasCoinbases rules.pool_script tables.jobs
   pub grants_are : ShowsGrants tables.grants past

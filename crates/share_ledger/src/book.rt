@@ -16,6 +16,8 @@ pub struct Book<K: Keeper> {
     keeper: K,
     /// The hash behind the last record that was kept.
     hash: [u8; 32],
+    /// Room for the next record's piece; what stands in it is of no account.
+    piece: Vec<u8>,
     /// On the heap, so that who takes the book in turn with others moves no more than a word of them.
     tables: Box<Tables>,
 }
@@ -72,6 +74,7 @@ impl<K: Keeper> Book<K> {
                 alloc,
                 keeper,
                 hash,
+                piece: Vec::new(alloc),
                 tables,
             }),
             Err(error) => Err((keeper, error)),
@@ -91,7 +94,7 @@ impl<K: Keeper> Book<K> {
     {
         let step = self.tables.prepare(self.alloc, worker, request);
         carry_out(
-            self.alloc,
+            &mut self.piece,
             &mut self.keeper,
             &mut self.hash,
             &mut *self.tables,
@@ -140,6 +143,7 @@ impl<K: Keeper> Book<K> {
             alloc: _,
             keeper,
             hash: _,
+            piece: _,
             tables,
         } = self;
         (keeper, Box::into_inner(tables).into_history())

@@ -90,7 +90,8 @@ impl Tables {
             return Ok(Step::Answer(Reply::Target(channel, class)));
         }
         let at = self.history.len();
-        match self.channels.plan_class(session, channel, at, class) {
+        let span = self.jobs.live_span();
+        match self.channels.plan_class(session, channel, at, class, span) {
             Ok(plan) => Ok(classing_step(session, channel, class, plan)),
             Err(SetError::Memory) => Err(AllocError),
             Err(SetError::NotOpen) => Ok(refused_update(UpdateError::NotOpen)),

@@ -63,7 +63,7 @@ impl Tables {
             Request::Name(channel, identity) => self.plan_name(alloc, session, channel, identity),
             Request::Update(channel, target) => self.plan_update(session, channel, target),
             Request::Close(channel) => Ok(self.plan_close(session, channel)),
-            Request::Brief(sub) => self.brief(alloc, session, sub),
+            Request::Brief(sub) => self.brief(session, sub),
             Request::Commit(checked) => self.plan_commit(alloc, session, checked),
             Request::Poll(from) => self.poll(session, from),
             Request::Grant(identity, path) => self.plan_grant(alloc, session, identity, path),

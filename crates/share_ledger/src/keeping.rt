@@ -17,12 +17,10 @@ use pool_history::{BookError, Event, Reply};
 use pool_io::{Keeper, KeeperFailed};
 use std::alloc::{AllocError, Global};
 
-/// How many bytes a piece has room for at first: those of a credit and of most others.
-const PIECE_ROOM: usize = 128;
-
-/// Makes a step: its reply is answered, and its event is kept and takes effect.
+/// Makes a step: its reply is answered, and its event is kept and takes effect. The record is written
+/// into `piece`, whose room is kept for the next.
 pub(crate) fn carry_out<K: Keeper>(
-    alloc: Global,
+    piece: &mut Vec<u8>,
     keeper: &mut K,
     hash: &mut [u8; 32],
     tables: &mut Tables,
@@ -45,14 +43,14 @@ pub(crate) fn carry_out<K: Keeper>(
     tables.are_kept();
     match step {
         Ok(Step::Answer(reply)) => Ok(reply),
-        Ok(Step::Move(planned)) => commit(alloc, keeper, hash, tables, planned),
+        Ok(Step::Move(planned)) => commit(piece, keeper, hash, tables, planned),
         Err(_) => Err(BookError::Memory),
     }
 }
 
 /// Keeps a planned event and lets it take effect, in this order.
 fn commit<K: Keeper>(
-    alloc: Global,
+    piece: &mut Vec<u8>,
     keeper: &mut K,
     hash: &mut [u8; 32],
     tables: &mut Tables,
@@ -78,7 +76,7 @@ fn commit<K: Keeper>(
         change,
         reply,
     } = planned;
-    let next = match keep(alloc, keeper, hash, &event) {
+    let next = match keep(piece, keeper, hash, &event) {
         Ok(next) => next,
         Err(error) => return Err(error),
     };
@@ -89,7 +87,7 @@ fn commit<K: Keeper>(
 
 /// Keeps an event's record, with its hash behind the hash before it. Answers that hash.
 fn keep<K: Keeper>(
-    alloc: Global,
+    piece: &mut Vec<u8>,
     keeper: &mut K,
     hash: &[u8; 32],
     event: &Event,
@@ -103,10 +101,8 @@ fn keep<K: Keeper>(
     ensures counts { CountsFailure (is_keeper_fault result) (K.seen keeper.old).faults
         (K.seen keeper.new).faults }
 {
-    let Ok(mut piece) = Vec::with_capacity(alloc, PIECE_ROOM) else {
-        return Err(BookError::Memory);
-    };
-    let Ok(next) = write_piece(hash, event, &mut piece) else {
+    piece.clear();
+    let Ok(next) = write_piece(hash, event, piece) else {
         return Err(BookError::Memory);
     };
     match append(keeper, piece.as_slice()) {
@@ -129,9 +125,7 @@ pub(crate) fn keep_start<K: Keeper>(
     ensures counts { CountsFailure (is_keeper_fault result) (K.seen keeper.old).faults
         (K.seen keeper.new).faults }
 {
-    let Ok(mut piece) = Vec::with_capacity(alloc, PIECE_ROOM) else {
-        return Err(BookError::Memory);
-    };
+    let mut piece = Vec::new(alloc);
     let Ok(next) = write_first_piece(event, &mut piece) else {
         return Err(BookError::Memory);
     };

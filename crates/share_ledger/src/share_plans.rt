@@ -21,19 +21,14 @@ impl Tables {
     ghost use Rattle.share_ledger.specs.Booking.{BooksPassed};
 
     /// What is needed to hash a share.
-    pub(crate) fn brief(
-        &self,
-        alloc: Global,
-        session: u32,
-        sub: Submission,
-    ) -> Result<Step, AllocError>
+    pub(crate) fn brief(&self, session: u32, sub: Submission) -> Result<Step, AllocError>
         ensures { IfOk result (IsStepWithin self.now self.now session (request.Brief sub)) }
     {
         tables_show_histories();
         let rules = self.history.rules();
         match admit(rules, &self.channels, &self.jobs, session, &sub) {
             Ok(found) => {
-                let brief = brief_of(alloc, &found.parts())?;
+                let brief = brief_of(&found.parts())?;
                 Ok(Step::Answer(Reply::Brief(brief)))
             }
             Err(code) => Ok(Step::Answer(Reply::Refused(code))),

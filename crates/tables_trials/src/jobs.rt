@@ -163,7 +163,7 @@ fn tell_job(alloc: Global, job: Option<&Job>) -> Option<String> {
 
 fn tell_source(alloc: Global, job: &Job) -> Option<String> {
     let (number, session, template) = (job.number(), job.session(), job.template_id());
-    let (reward, version, path) = (job.reward(), job.version(), job.path().len());
+    let (reward, version, path) = (job.reward(), job.version(), job.root().path.items().len());
     format!(in alloc;
         "number {number} session {session} template {template} reward {reward} \
         version {version:x} path {path}"
@@ -173,6 +173,6 @@ fn tell_source(alloc: Global, job: &Job) -> Option<String> {
 
 /// A job's whole coinbase, with an extranonce of zeros.
 fn coinbase(alloc: Global, job: &Job) -> Option<String> {
-    let whole = job.coinbase().whole(&[0; 12]).ok()?;
+    let whole = job.root().coinbase.whole(&[0; 12]).ok()?;
     hex_of(alloc, whole.as_slice())
 }

@@ -2,8 +2,9 @@
 
 ghost use Rattle.std.specs.Prelude.{◌≤◌, IfSome};
 
+use crate::plain_leads::PlainLeads;
 use pool_history::Lead;
-use prefix_space::Space;
+use prefix_space::{Space, SpaceError};
 use std::alloc::Global;
 use trial_support::{Subject, bytes, hex_of, number, told, word};
 
@@ -22,6 +23,8 @@ impl Subject for Leads {
     fn act(&mut self, alloc: Global, words: &[&str]) -> Option<String> {
         match word(words, 0)? {
             "take" => take(alloc, &mut self.space, length(words)?),
+            "fill" => fill(alloc, &mut self.space, length(words)?, number(words, 2)?),
+            "random" => take_random(alloc, number(words, 1)?, number(words, 2)?),
             "lowest" => lowest(alloc, &self.space, length(words)?),
             "give" => give(
                 alloc,
@@ -70,6 +73,78 @@ fn take(alloc: Global, space: &mut Space, length: u8) -> Option<String>
     match space.take(length) {
         Ok(lead) => hex_of(alloc, lead.bytes()),
         Err(error) => format!(in alloc; "{error}").ok(),
+    }
+}
+
+/// Takes so many leads, and tells the last one.
+fn fill(alloc: Global, space: &mut Space, length: u8, count: u32) -> Option<String>
+    requires { (1 ≤ length) × (length ≤ 4) }
+{
+    let mut last = told(alloc, "none")?;
+    for _ in 0..count {
+        last = take(alloc, space, length)?;
+    }
+    Some(last)
+}
+
+/// So many pseudo-random takings and givings back, beside a plain list. Short leads are taken
+/// seldom, so that not all space is gone at once.
+fn take_random(alloc: Global, seed: u64, count: u32) -> Option<String> {
+    let mut space = Space::new(alloc).ok()?;
+    let mut plain = PlainLeads::new(alloc);
+    let mut random = seed;
+    for _ in 0..count {
+        random = random
+            .wrapping_mul(6_364_136_223_846_793_005)
+            .wrapping_add(1_442_695_040_888_963_407);
+        if (random >> 60) < 5 {
+            give_back(&mut space, &mut plain, random >> 32)?;
+            continue;
+        }
+        if !take_both(&mut space, &mut plain, random_length(random))? {
+            return told(alloc, "another lead than plainly");
+        }
+    }
+    told(alloc, "agreed")
+}
+
+/// How many bytes the next lead has.
+fn random_length(random: u64) -> u8
+    ensures { (1 ≤ result) × (result ≤ 4) }
+{
+    match (random >> 40) % 64 {
+        0 => 1,
+        1..=4 => 2,
+        5..=30 => 3,
+        _ => 4,
+    }
+}
+
+/// Gives one of the leads back, where there is any.
+fn give_back(space: &mut Space, plain: &mut PlainLeads, place: u64) -> Option<()> {
+    let Some(lead) = plain.remove(place) else {
+        return Some(());
+    };
+    if !space.holds(lead) {
+        return None;
+    }
+    space.give(lead);
+    Some(())
+}
+
+/// Takes the lowest lead of both, and says whether it is the same.
+fn take_both(space: &mut Space, plain: &mut PlainLeads, length: u8) -> Option<bool>
+    requires { (1 ≤ length) × (length ≤ 4) }
+{
+    let wanted = plain.lowest(length);
+    match (space.take(length), wanted) {
+        (Ok(lead), Some(wanted)) => {
+            plain.insert(wanted)?;
+            Some(lead.bytes() == wanted.bytes())
+        }
+        (Err(SpaceError::NoSpace), None) => Some(true),
+        (Err(SpaceError::Memory), _) => None,
+        _ => Some(false),
     }
 }
 

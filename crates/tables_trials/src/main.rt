@@ -7,6 +7,8 @@ mod jobs;
 mod leads;
 mod openings;
 mod plain;
+mod plain_leads;
+mod plain_settings;
 mod printed;
 mod records;
 mod sessions;

@@ -1,7 +1,8 @@
 //! The table of open channels.
 
+use crate::plain_settings::PlainSettings;
 use channels::{Channel, Channels};
-use pool_history::{Class, Kind, OpenAsk, Opened as Opening, Rules, Users};
+use pool_history::{Class, Kind, LiveSpan, OpenAsk, Opened as Opening, Rules, Users};
 use std::alloc::Global;
 use sv2_types::{Blob, Str255, U256};
 use trial_support::{Subject, bytes, hex_of, kind, number, text, told, word};
@@ -38,6 +39,7 @@ impl Subject for Opened {
                 self.channels.own(number(words, 1)?, number(words, 2)?),
             ),
             "class-at" => class_at(alloc, self, words),
+            "random" => set_random(alloc, self, number(words, 1)?, number(words, 2)?),
             "of" => {
                 let ids = self.channels.of_session(number(words, 1)?).ok()?;
                 format!(in alloc; "{} channels", ids.len()).ok()
@@ -131,11 +133,52 @@ fn class(words: &[&str], at: usize) -> Option<Class> {
     }
 }
 
+/// The bounds of the places since which jobs are live: the sixth and the seventh word, or else all.
+fn span(words: &[&str]) -> LiveSpan {
+    LiveSpan {
+        oldest: number(words, 5).unwrap_or(0),
+        newest: number(words, 6).unwrap_or(u64::MAX),
+    }
+}
+
+/// So many pseudo-random classes that are set for channel 1 of session 0, jobs that become live, and
+/// tips: at each place that a live job or a future one asks for, the class is that of a plain list.
+fn set_random(alloc: Global, opened: &mut Opened, seed: u64, count: u64) -> Option<String> {
+    let channels = &mut opened.channels;
+    let mut plain = PlainSettings::new(alloc, channels.channel(1)?.class);
+    let mut random = seed;
+    for at in 0..count {
+        random = random
+            .wrapping_mul(6_364_136_223_846_793_005)
+            .wrapping_add(1_442_695_040_888_963_407);
+        if (random >> 60) < 4 {
+            plain.turn_live(at, (random >> 56) % 8 == 0)?;
+        } else {
+            let class = Class::of(((random >> 40) % 61) as u8);
+            channels.set_class(0, 1, at, class, plain.span()).ok()?;
+            plain.set(at, class)?;
+        }
+        let live_at = plain.live_at(random >> 33).unwrap_or(at + 1);
+        if !agrees_at(channels, &plain, live_at) || !agrees_at(channels, &plain, at + 1) {
+            return told(alloc, "another class than plainly");
+        }
+    }
+    told(alloc, "agreed")
+}
+
+/// Whether the class at a place is that of a plain list.
+fn agrees_at(channels: &Channels, plain: &PlainSettings, place: u64) -> bool {
+    match channels.class_at(1, place) {
+        Some(class) => class.value() == plain.class_at(place).value(),
+        None => false,
+    }
+}
+
 fn set_class(alloc: Global, opened: &mut Opened, words: &[&str]) -> Option<String> {
     let (session, channel, at) = (number(words, 1)?, number(words, 2)?, number(words, 3)?);
     match opened
         .channels
-        .set_class(session, channel, at, class(words, 4)?)
+        .set_class(session, channel, at, class(words, 4)?, span(words))
     {
         Ok(()) => told(alloc, "set"),
         Err(error) => format!(in alloc; "{error}").ok(),
@@ -226,7 +269,7 @@ fn plan_setting(
     applies: bool,
 ) -> Option<String> {
     let (session, channel, at) = (number(words, 1)?, number(words, 2)?, number(words, 3)?);
-    match channels.plan_class(session, channel, at, class(words, 4)?) {
+    match channels.plan_class(session, channel, at, class(words, 4)?, span(words)) {
         Ok(plan) => {
             if applies {
                 let _none = channels.apply(plan);

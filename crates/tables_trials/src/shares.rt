@@ -2,13 +2,16 @@
 
 ghost use Rattle.std.specs.Prelude.{◌≡◌, ◌+◌, ◌≤◌, length};
 
+use coinbase::Assembly;
 use hex::FromHex;
-use pool_history::{Kind, Lead, Submission};
+use pool_history::{Kind, Lead, RootSource, Submission};
 use share_check::{
     Parts, brief_of, check, header_by_parts, header_of, is_brief_of, parts_of, rolled_length,
 };
 use share_judging::Headers;
 use std::alloc::Global;
+use std::sync::Arc;
+use sv2_types::Hashes;
 use trial_support::{Subject, bytes, hex_of, kind, number, told, word};
 
 /// The headers that were credited.
@@ -56,10 +59,9 @@ fn hash_share(alloc: Global, header: &[u8; 80], words: &[&str]) -> Option<String
     let lead = Lead::of(4, [lead[0], lead[1], lead[2], lead[3]]);
     let mut prev_hash = [0; 32];
     prev_hash.copy_from_slice(&header[4..36]);
+    let root = root_source(alloc, prefix, suffix, &path)?;
     let parts = Parts {
-        prefix,
-        suffix,
-        path: &path,
+        root: &root,
         prev_hash,
         nbits: number_at(header, 72),
         lead,
@@ -71,6 +73,25 @@ fn hash_share(alloc: Global, header: &[u8; 80], words: &[&str]) -> Option<String
         Kind::V1 => rolled,
     };
     hash_of(alloc, &parts, header, submission(kind, header, sent))
+}
+
+/// What a job of this coinbase and path gives to a root.
+fn root_source(
+    alloc: Global,
+    prefix: &[u8],
+    suffix: &[u8],
+    path: &[[u8; 32]],
+) -> Option<Arc<RootSource, Global>> {
+    if prefix.len() < 4 || suffix.len() < 4 {
+        return None;
+    }
+    let coinbase = Assembly::of_parts(
+        prefix.to_vec(alloc).ok()?,
+        suffix.to_vec(alloc).ok()?,
+        false,
+    );
+    let path = Hashes::of(alloc, path).ok()?;
+    Arc::new(alloc, RootSource { coinbase, path }).ok()
 }
 
 /// A number in a header.
@@ -112,7 +133,7 @@ fn hash_of(alloc: Global, parts: &Parts<'_>, header: &[u8; 80], sub: Submission)
         return None;
     }
     let (rebuilt, mut hash) = header_of(parts, &sub);
-    let checked = check(brief_of(alloc, parts).ok()?, sub);
+    let checked = check(brief_of(parts).ok()?, sub);
     if rebuilt != *header || checked.header != *header || checked.hash != hash {
         return told(alloc, "another header");
     }

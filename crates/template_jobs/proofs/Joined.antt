@@ -55,7 +55,7 @@ pub counted-template : (table : JobTable) (count templates : ℕ) (owners : List
     → count ≡ templates + length owners → templates_of table < 2 ^ 20 → templates + 1 ≤ 2 ^ 20
 counted-template table count templates owners seen counted few = omega (arith, seen, counted, few, length-map owners own_job)
 
-all-last : (P : HeldJob → Type 0) (most : ℕ) (jobs : List HeldJob) (job : HeldJob) → AllByRecursion P jobs → P job → AllByRecursion P (last most (jobs ++ job ∷ []))
+pub all-last : (P : HeldJob → Type 0) (most : ℕ) (jobs : List HeldJob) (job : HeldJob) → AllByRecursion P jobs → P job → AllByRecursion P (last most (jobs ++ job ∷ []))
 all-last P most jobs job all one = all-drop P (length (jobs ++ job ∷ []) - most) (jobs ++ job ∷ []) (all-append P jobs (job ∷ []) all (one, tt))
 
 all-three : (P : HeldJob → Type 0) (a b c : List HeldJob) → AllByRecursion P a → AllByRecursion P b → AllByRecursion P c → AllByRecursion P (a ++ b ++ c)

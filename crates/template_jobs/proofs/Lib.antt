@@ -4,5 +4,6 @@ mod Mapped
 pub mod OwnCounted
 mod Parts
 mod Rising
+mod Spans
 mod Surplus
 mod ToldMoves

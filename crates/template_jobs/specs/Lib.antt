@@ -4,5 +4,6 @@ pub mod Messages
 pub mod Owners
 pub mod Plans
 pub mod Refusals
+pub mod Spans
 pub mod Tables
 pub mod Told

@@ -5,6 +5,7 @@ use Rattle.coinbase.specs.Coin.{template_assembly}
 use Rattle.pool_history.specs.declared.refusals.JobError.{JobError}
 use Rattle.pool_history.specs.declared.templates.TemplateData.{TemplateData}
 use Rattle.pool_history.specs.declared.templates.TipData.{TipData}
+use Rattle.pool_history.specs.declared.spans.LiveSpan.{LiveSpan}
 use Rattle.pool_history.specs.Jobs.{FromMiner, FromTemplate, JobMove, Source}
 use Rattle.pool_history.specs.Judging.{job_parts, template_terms}
 use Rattle.pool_history.specs.Refusing.{coinbase_refusal, refusal_among}
@@ -13,6 +14,7 @@ use Rattle.template_jobs.specs.declared.owner.Owner.{Owner}
 use Rattle.template_jobs.specs.Owners.{AreRising}
 use Rattle.template_jobs.specs.HeldJobs.{HasCoinbase, HeldJob, as_job}
 use Rattle.template_jobs.specs.Plans.{PlannedJob, move_of}
+use Rattle.template_jobs.specs.Spans.{IsLiveWithin}
 
 -- how many jobs there were, the miners' own among them, the jobs that are future or live, the last
 -- tip, and for how many more jobs there is room
@@ -89,7 +91,7 @@ AppliesPlan plan old new =
 
 -- the parts of a table fit each other
 pub record AreJobsHeld (count templates : ℕ) (owners : List Owner)
-    (future live : List HeldJob) : Type 0 where
+    (future live custom : List HeldJob) (span : LiveSpan) : Type 0 where
   pub counted : count ≡ templates + length owners
   pub templates_few : templates ≤ 2 ^ 20
   pub own_few : length owners ≤ 2 ^ 18
@@ -97,3 +99,5 @@ pub record AreJobsHeld (count templates : ℕ) (owners : List Owner)
   pub live_few : length live ≤ 64
   pub rising : AreRising owners
   pub numbered : AllByRecursion (λ owner. owner.job ≤ count) owners
+  pub live_within : AllByRecursion (IsLiveWithin span) live
+  pub custom_within : AllByRecursion (IsLiveWithin span) custom

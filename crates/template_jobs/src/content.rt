@@ -1,34 +1,38 @@
 //! What a job is made from, with its coinbase.
 
-use crate::making::{copy_custom, copy_template, custom_coinbase, template_coinbase};
+use crate::making::{copy_custom, copy_template, custom_coinbase, shared_root, template_coinbase};
 use crate::origin::{Origin, Shelf};
-use coinbase::{Assembly, OutputsError};
-use pool_history::{CustomData, JobError, TemplateData};
+use coinbase::OutputsError;
+use pool_history::{CustomData, JobError, RootSource, TemplateData};
 use std::alloc::Global;
 use std::marker::Model;
+use std::sync::Arc;
 
-/// What a job is made from, its coinbase, and its reward.
+/// What a job is made from, what it gives to a root, and its reward.
 #[derive(Debug, Drop)]
 pub(crate) struct JobContent {
     origin: Origin,
-    coinbase: Assembly,
+    /// The coinbase and the merkle path, which the briefs of the job share.
+    root: Arc<RootSource, Global>,
     reward: u64,
 }
 
 impl Model for JobContent {
     ghost use Rattle.std.specs.Prelude.{◌≡◌, ◌^◌, ◌<◌};
     ghost use Rattle.pool_history.specs.Crediting.{reward_of};
+    ghost use Rattle.pool_history.specs.Judging.{path_of};
     ghost use Rattle.template_jobs.specs.HeldJobs as held;
 
     ghost Value = { held.JobContent };
 
     ghost view = { λ content. record {
       source = held.source_of content.origin;
-      coinbase = content.coinbase;
+      coinbase = content.root.value.coinbase;
     } };
 
     ghost invariant = { λ content.
-        (content.reward ≡ reward_of (held.source_of content.origin)) × (content.reward < 2 ^ 40) };
+        (content.root.value.path ≡ path_of (held.source_of content.origin))
+        × (content.reward ≡ reward_of (held.source_of content.origin)) × (content.reward < 2 ^ 40) };
 }
 
 impl JobContent {
@@ -58,9 +62,12 @@ impl JobContent {
         let Ok(copy) = copy_template(alloc, template) else {
             return Err(JobError::Memory);
         };
+        let Ok(root) = shared_root(alloc, coinbase, template.merkle_path.items()) else {
+            return Err(JobError::Memory);
+        };
         Ok(JobContent {
             origin: Origin::Template(copy),
-            coinbase,
+            root,
             reward: template.coinbase_tx_value_remaining,
         })
     }
@@ -81,9 +88,12 @@ impl JobContent {
         let Ok(copy) = copy_custom(alloc, custom) else {
             return Err(OutputsError::Memory);
         };
+        let Ok(root) = shared_root(alloc, coinbase, custom.merkle_path.items()) else {
+            return Err(OutputsError::Memory);
+        };
         Ok(JobContent {
             origin: Origin::Miner(copy),
-            coinbase,
+            root,
             reward,
         })
     }
@@ -139,19 +149,11 @@ impl JobContent {
         self.reward
     }
 
-    pub(crate) fn path(&self) -> &[[u8; 32]]
-        ensures { result.now ≡ path_of self.now.source }
+    pub(crate) fn root(&self) -> &Arc<RootSource, Global>
+        ensures coinbase { result.now.value.coinbase ≡ self.now.coinbase }
+        ensures path { result.now.value.path ≡ path_of self.now.source }
     {
-        match &self.origin {
-            Origin::Template(template) => template.merkle_path.items(),
-            Origin::Miner(custom) => custom.merkle_path.items(),
-        }
-    }
-
-    pub(crate) fn coinbase(&self) -> &Assembly
-        ensures { result.now ≡ self.now.coinbase }
-    {
-        &self.coinbase
+        &self.root
     }
 
     pub(crate) fn channel(&self) -> Option<u32>

@@ -1,8 +1,10 @@
 //! A job that is kept whole.
 
 use crate::content::JobContent;
-use coinbase::Assembly;
+use pool_history::RootSource;
+use std::alloc::Global;
 use std::marker::Model;
+use std::sync::Arc;
 
 /// A job that is future or live.
 #[derive(Debug, Drop)]
@@ -126,18 +128,13 @@ impl Job {
         self.content.reward()
     }
 
-    /// The hashes beside the coinbase's on the way to the root, each 32 bytes as they stand in a
-    /// block header.
-    pub fn path(&self) -> &[[u8; 32]]
-        ensures { result.now ≡ path_of self.now.source }
+    /// What it gives to the root of a header: its coinbase, and the hashes beside that on the way up,
+    /// each 32 bytes as they stand in a block header. Who keeps it shares it with the job.
+    pub fn root(&self) -> &Arc<RootSource, Global>
+        ensures coinbase { result.now.value.coinbase ≡ self.now.coinbase }
+        ensures path { result.now.value.path ≡ path_of self.now.source }
     {
-        self.content.path()
-    }
-
-    pub fn coinbase(&self) -> &Assembly
-        ensures { result.now ≡ self.now.coinbase }
-    {
-        self.content.coinbase()
+        self.content.root()
     }
 
     /// The channel that it is for, where it is a miner's own.

@@ -10,8 +10,9 @@ ghost use Rattle.pool_history.specs.Refusing.{coinbase_refusal};
 ghost use Rattle.template_jobs.specs.Refusals.{RefusesAsMade, RefusesAsTold};
 
 use coinbase::{Assembly, AssemblyError, CustomRecipe, OutputsError, Recipe};
-use pool_history::{CustomData, JobError, TemplateData};
+use pool_history::{CustomData, JobError, RootSource, TemplateData};
 use std::alloc::{AllocError, Global};
+use std::sync::Arc;
 use sv2_types::{Blob, Hashes};
 
 /// The coinbase of a template's job, with the pool's script. The job of a table has its own; this
@@ -67,6 +68,19 @@ pub(crate) fn custom_coinbase(
         lock_time: custom.coinbase_tx_locktime,
     };
     Assembly::of_outputs(alloc, &recipe, script)
+}
+
+/// What a job gives to a root, to be shared with its briefs.
+pub(crate) fn shared_root(
+    alloc: Global,
+    coinbase: Assembly,
+    path: &[[u8; 32]],
+) -> Result<Arc<RootSource, Global>, AllocError>
+    ensures coinbase { IfOk result (λ root. root.value.coinbase ≡ coinbase) }
+    ensures path { IfOk result (λ root. root.value.path ≡ path.now) }
+{
+    let path = Hashes::of(alloc, path)?;
+    Ok(Arc::new(alloc, RootSource { coinbase, path })?)
 }
 
 /// A template once more.

@@ -9,7 +9,7 @@ use crate::lists::{
 use crate::origin::Shelf;
 use crate::owner::{Owner, is_others, put_owner};
 use coinbase::OutputsError;
-use pool_history::{CustomData, JobError, JobState, TemplateData, TipData};
+use pool_history::{CustomData, JobError, JobState, LiveSpan, TemplateData, TipData};
 use std::alloc::{AllocError, Global};
 use std::marker::Model;
 use std::mem;
@@ -26,6 +26,8 @@ pub struct Jobs {
     live: Vec<Job>,
     custom: Vec<Job>,
     tip: Option<TipData>,
+    /// Bounds of the places since which jobs are live.
+    span: LiveSpan,
 }
 
 impl Model for Jobs {
@@ -49,7 +51,7 @@ impl Model for Jobs {
     } };
 
     ghost invariant = { λ jobs. AreJobsHeld jobs.count jobs.templates jobs.owners.items
-        jobs.future.items jobs.live.items };
+        jobs.future.items jobs.live.items jobs.custom.items jobs.span };
 }
 
 /// A job that was planned, with its memory.
@@ -77,6 +79,7 @@ impl Jobs {
     ghost use Rattle.std.specs.Prelude.{◌≡◌, ◌+◌, ◌^◌, ◌<◌, ◌≤◌, ◌++◌, List, ℕ, IfOk, IfSome, OnErr, OnOk, length, map, []};
     ghost use Rattle.std.specs.Option.{option_copied, option_map};
     ghost use Rattle.coinbase.specs.Custom.{custom_assembly};
+    ghost use Rattle.history_laws.specs.AskedPlaces.{AreLiveWithin};
     ghost use Rattle.history_laws.specs.KeptJobs.{is_mineable_by, kept_jobs_of, state_by};
     ghost use Rattle.pool_history.specs.Conditions.{found};
     ghost use Rattle.pool_history.specs.Jobs.{FromMiner, FromTemplate, Brought, Came, Tipped, future_in, job_numbered, jobs_told, last_of};
@@ -100,6 +103,10 @@ impl Jobs {
             live: Vec::new(alloc),
             custom: Vec::new(alloc),
             tip: None,
+            span: LiveSpan {
+                oldest: 0,
+                newest: 0,
+            },
         }
     }
 
@@ -154,6 +161,15 @@ impl Jobs {
         ensures { option_copied result ≡ self.now.tip }
     {
         self.tip.as_ref()
+    }
+
+    /// Bounds of the places since which jobs are live: at these alone, and at places to come, a
+    /// channel's class is asked for.
+    pub fn live_span(&self) -> LiveSpan
+        ensures { AreLiveWithin result
+            ((kept_jobs self.now).live ++ (kept_jobs self.now).custom) }
+    {
+        self.span
     }
 
     /// Whether a channel may mine on the job with a number, which may be stale: there is such a job,
@@ -239,6 +255,10 @@ impl Jobs {
         self.custom.clear();
         mem::swap(&mut self.future, &mut self.live);
         self.tip = Some(*tip);
+        self.span = LiveSpan {
+            oldest: at,
+            newest: at,
+        };
         Ok(number)
     }
 
@@ -345,6 +365,8 @@ impl Jobs {
         let number = self.count + 1;
         let job = Job::of(number, session, at, Some(at), content);
         put_last(&mut self.live, 64, job);
+        let span = widened(self.span, at);
+        self.span = span;
         self.count = number;
         self.templates += 1;
         number
@@ -365,6 +387,8 @@ impl Jobs {
         let number = self.count + 1;
         let job = Job::of(number, 0, at, Some(at), content);
         put_own(&mut self.custom, channel, job);
+        let span = widened(self.span, at);
+        self.span = span;
         put_owner(
             &mut self.owners,
             Owner {
@@ -406,10 +430,21 @@ impl Jobs {
 }
 
 ghost use Rattle.std.specs.Prelude.{◌≡◌, ◌&&◌, nat_le};
+ghost use Rattle.template_jobs.specs.Spans.{Widens};
 
 // Whether a number is one of so many, counted from 1.
 fn is_counted(count: u32, number: u32) -> bool
     ensures { result ≡ (nat_le 1 number && nat_le number count) }
 {
     1 <= number && number <= count
+}
+
+// Bounds that hold what these hold, and a place.
+fn widened(span: LiveSpan, at: u64) -> LiveSpan
+    ensures { Widens span result at }
+{
+    LiveSpan {
+        oldest: span.oldest.min(at),
+        newest: span.newest.max(at),
+    }
 }

@@ -1,14 +1,15 @@
-use Rattle.std.proofs.Common.{◌≡◌, ℕ, None, Some, List, refl, ap, subst, sym, ◌∙◌}
+use Rattle.std.proofs.Common.{◌≡◌, ℕ, Bool, None, Some, List, refl, ap, subst, sym, ◌∙◌}
 use Rattle.std.proofs.Math.Dec.{eqb}
 use Rattle.std.proofs.lemmas.Bool.{false≢true}
 use Rattle.std.specs.Prelude.{filter, not}
 use Rattle.std.specs.Map.{lookup}
 use Rattle.history_laws.proofs.Legalities.{some-none}
-use Rattle.pool_history.specs.Channels.{channel_in, channels_in}
+use Rattle.pool_history.specs.Channels.{OpenChannel, channel_in, channels_in, channels_told}
 use Rattle.channels.specs.declared.channel.Channel.{Channel}
 use Rattle.channels.specs.Orders.{by_id}
 use Rattle.channels.specs.Tables.{AreKept, HoldsLeads, ListsChannels, shown_channel}
 use Rattle.channels.proofs.Closings.{IsOwn, closed-kept, own-lead, own-none, own-session, own-shown, remove-shown}
+use Rattle.channels.proofs.Cuts.{all-as, all-filtered}
 use Rattle.channels.proofs.Lookups.{shown_all}
 use Rattle.channels.proofs.OwnChannels.{removed-listed}
 use Rattle.channels.proofs.table.Channels.close.Goals as goal
@@ -50,12 +51,16 @@ returns-clause-not_open c =
     (λ failed. absurd (false≢true failed), λ none. absurd (some-none (sym there ∙ none)))
 
 pub returns-clause-told : goal.returns-clause-told
-returns-clause-told c moves told =
+returns-clause-told c is_asked moves told =
     let entries : List (ℕ × Channel) = by_id c.self.inside.channels.entries in
+    let stays : OpenChannel → Bool = λ channel. not (eqb channel.id c.args.channel) in
     record {
       opened_are = ap (λ table. table.opened) c.self.view_is ∙ told.opened_are;
       channels_are =
-          ap (shown_all) c.close_kept.ensures.closed
+          all-as is_asked (shown_all (by_id c.close_kept.new.channels.entries)) (filter stays c.args.self.now.open_channels) (filter stays (channels_told moves))
+          (ap shown_all c.close_kept.ensures.closed
           ∙ remove-shown c.args.channel entries c.own_lead.ensures.unique
-          ∙ ap (filter (λ channel. not (eqb channel.id c.args.channel))) (ap (λ table. table.open_channels) c.self.view_is ∙ told.channels_are);
+          ∙ ap (λ table. filter stays table.open_channels) c.self.view_is)
+          (all-filtered is_asked stays (λ k t one. ap (λ id. not (eqb id c.args.channel)) one.id_is) c.args.self.now.open_channels (channels_told moves)
+          told.channels_are);
     }

@@ -1,8 +1,10 @@
-use Rattle.std.proofs.Common.{◌≡◌, ℕ, List, filter, not, ap, subst, sym, ◌∙◌}
+use Rattle.std.proofs.Common.{◌≡◌, ℕ, Bool, List, filter, not, ap, subst, sym, ◌∙◌}
 use Rattle.std.proofs.Math.Dec.{eqb}
+use Rattle.pool_history.specs.Channels.{OpenChannel, channels_told}
 use Rattle.channels.specs.declared.channel.Channel.{Channel}
 use Rattle.channels.specs.Orders.{by_id}
 use Rattle.channels.specs.Tables.{AreKept, HoldsLeads, ListsChannels, without_ids, without_session}
+use Rattle.channels.proofs.Cuts.{all-as, all-filtered}
 use Rattle.channels.proofs.Leaving.{left-kept, shown-left, without-own}
 use Rattle.channels.proofs.Lookups.{shown_all}
 use Rattle.channels.proofs.Ordering.{distinct-rising, rising-by_id}
@@ -26,15 +28,18 @@ invariant_of-self c =
     )
 
 pub returns : goal.returns
-returns c moves told =
+returns c is_asked moves told =
     let entries : List (ℕ × Channel) = by_id c.self.inside.channels.entries in
     let left : by_id c.close_all.new.channels.entries ≡ without_session c.args.session entries =
     c.close_all.ensures.closed
     ∙ ap (λ ids. without_ids ids entries) (c.take_list-ids.ensures.taken ∙ c.self.invariant.1.listed c.args.session)
     ∙ without-own c.args.session entries (distinct-rising entries (rising-by_id c.self.inside.channels.entries c.len-count.ensures.unique)) in
+    let stays : OpenChannel → Bool = λ channel. not (eqb channel.session c.args.session) in
     record {
       opened_are = ap (λ table. table.opened) c.self.view_is ∙ told.opened_are;
       channels_are =
-          ap shown_all left ∙ shown-left c.args.session entries
-          ∙ ap (filter (λ channel. not (eqb channel.session c.args.session))) (ap (λ table. table.open_channels) c.self.view_is ∙ told.channels_are);
+          all-as is_asked (shown_all (by_id c.close_all.new.channels.entries)) (filter stays c.args.self.now.open_channels) (filter stays (channels_told moves))
+          (ap shown_all left ∙ shown-left c.args.session entries ∙ ap (λ table. filter stays table.open_channels) c.self.view_is)
+          (all-filtered is_asked stays (λ k t one. ap (λ kept. not (eqb kept.session c.args.session)) one.kept_is) c.args.self.now.open_channels
+          (channels_told moves) told.channels_are);
     }

@@ -12,7 +12,7 @@ use Rattle.channels.proofs.table.Channels.plan_class.Goals as goal
 pub returns-in_default-clause-answer : goal.returns-in_default-clause-answer
 returns-in_default-clause-answer c =
     let entries : List (ℕ × Channel) = by_id c.self.inside.channels.entries in
-    refused set.Memory set.NotOpen (plan.Class c.args.at c.args.channel c.args.class)
+    refused set.Memory set.NotOpen (plan.Class c.args.at c.args.channel c.args.class c.args.span)
     (found set.NotOpen (channel_in (channels_in c.args.self.now.open_channels c.args.session) c.args.channel))
     (ap (found set.NotOpen)
     (sym (ap (λ table. channel_in (channels_in table.open_channels c.args.session) c.args.channel) c.self.view_is)
@@ -23,7 +23,7 @@ returns-clause-answer c =
     let entries : List (ℕ × Channel) = by_id c.self.inside.channels.entries in
     let own : (channel : OpenChannel) × (channel_in (channels_in (shown_all entries) c.args.session) c.args.channel ≡ Some channel) =
     some-own c.args.session c.args.channel entries c.in-Some._lead c.own_lead.ensures.unique (sym c.own_lead.ensures.value ∙ c.in-Some.is) in
-    planned set.Memory own.0 (plan.Class c.args.at c.args.channel c.args.class)
+    planned set.Memory own.0 (plan.Class c.args.at c.args.channel c.args.class c.args.span)
     (found set.NotOpen (channel_in (channels_in c.args.self.now.open_channels c.args.session) c.args.channel))
     (ap (found set.NotOpen)
     (sym (ap (λ table. channel_in (channels_in table.open_channels c.args.session) c.args.channel) c.self.view_is) ∙ own.1))

@@ -3,7 +3,7 @@ use Rattle.std.proofs.Math.Dec.{eqb}
 use Rattle.std.specs.List.{AllByRecursion}
 use Rattle.std.specs.Map.{lookup}
 use Rattle.pool_history.proofs.PlacesOfClasses.{all-weaken}
-use Rattle.pool_history.specs.Channels.{OpenChannel, channels_told}
+use Rattle.pool_history.specs.Channels.{OpenChannel, channels_told, opened}
 use Rattle.pool_history.specs.Spaces.{is_free, lowest}
 use Rattle.channels.specs.declared.channel.Channel.{Channel}
 use Rattle.pool_history.specs.Refusing.{has_too_many_among}
@@ -13,6 +13,7 @@ use Rattle.channels.proofs.Changing.{same-facts}
 use Rattle.channels.proofs.Ordering.{lookup-mapped}
 use Rattle.channels.proofs.OwnChannels.{few-shown, joined-listed}
 use Rattle.channels.proofs.Closings.{leads_of}
+use Rattle.channels.proofs.Cuts.{all-as, all-joined, answers-self}
 use Rattle.channels.proofs.Joining.{held-lowest, joined-kept, leads-shown, lowest-free, shown-joined}
 use Rattle.channels.proofs.Lookups.{shown_all}
 use Rattle.channels.proofs.table.Channels.take_opening.Goals as goal
@@ -67,7 +68,7 @@ invariant_of-self c =
     )
 
 pub returns-clause-told : goal.returns-clause-told
-returns-clause-told c at moves told =
+returns-clause-told c at is_asked moves told =
     let entries : List (ℕ × Channel) = by_id c.self.inside.channels.entries in
     let channel : Channel = record {
       session = c.args.session;
@@ -85,11 +86,14 @@ returns-clause-told c at moves told =
     record {
       opened_are = c.requires.opening.next ∙ ap (λ n. n + 1) told.opened_are;
       channels_are =
-          ap (shown_all) put ∙ ap (λ id. shown_all (entries ++ (id, channel) ∷ [])) next
+          all-as is_asked (shown_all (by_id c.put_channel.new.channels.entries)) (c.args.self.now.open_channels ++ shown channel (opened moves + 1) ∷ [])
+          (channels_told moves ++ shown channel (opened moves + 1) ∷ [])
+          (ap shown_all put ∙ ap (λ id. shown_all (entries ++ (id, channel) ∷ [])) next
           ∙ shown-joined c.self.inside.opened entries channel c.new.ensures
           ∙ ap (λ table. table.open_channels ++ shown channel (table.opened + 1) ∷ []) c.self.view_is
-          ∙ ap (λ l. l ++ shown channel (c.args.self.now.opened + 1) ∷ []) told.channels_are
-          ∙ ap (λ n. channels_told moves ++ shown channel (n + 1) ∷ []) told.opened_are;
+          ∙ ap (λ n. c.args.self.now.open_channels ++ shown channel (n + 1) ∷ []) told.opened_are)
+          (all-joined is_asked c.args.self.now.open_channels (channels_told moves) (shown channel (opened moves + 1)) (shown channel (opened moves + 1))
+          told.channels_are (answers-self is_asked (shown channel (opened moves + 1))));
     } where
       shown : Channel → ℕ → OpenChannel
       shown channel id =

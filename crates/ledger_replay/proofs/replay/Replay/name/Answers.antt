@@ -1,9 +1,10 @@
-use Rattle.std.proofs.Common.{refl}
+use Rattle.std.proofs.Common.{◌∷◌, refl}
 use Rattle.pool_history.specs.declared.events.Event.TheVariants as event
 use Rattle.pool_history.specs.Channels.{channel_moves}
 use Rattle.pool_history.specs.Legal.{may_mine}
+use Rattle.history_laws.specs.AskedPlaces.{is_asked_after}
 use Rattle.ledger_replay.specs.Replays.{tables_of}
-use Rattle.ledger_replay.proofs.Caused.{by_session}
+use Rattle.ledger_replay.proofs.Caused.{by_session, fewer-told}
 use Rattle.ledger_replay.proofs.ChannelsMoved.{may_get-told, name-refused, name-taken}
 use Rattle.ledger_replay.proofs.replay.Replay.name.Goals as goal
 
@@ -23,4 +24,5 @@ returns-clause-judged c past was =
     name-taken (tables_of c.args.self.now) c.apply.new.self past c.args.session c.args.channel c.args.account
     c.other_events_leave_sessions.ensures c.other_events_leave_grants.ensures was (c.in_default.ensures past was.sessions_are)
     (may_get-told (tables_of c.args.self.now) past c.args.session c.args.channel c.args.account _ _ was c.own.ensures (cc))
-    (c.apply.ensures.told (channel_moves past) was.channels_are)
+    (c.apply.ensures.told (is_asked_after (event.Name c.args.session c.args.channel c.args.account ∷ past)) (channel_moves past) tt
+    (fewer-told (tables_of c.args.self.now) past (event.Name c.args.session c.args.channel c.args.account) was))

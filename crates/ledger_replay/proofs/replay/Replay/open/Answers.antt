@@ -38,4 +38,4 @@ returns-clause-judged c past was =
     c.other_events_leave_sessions.ensures c.other_events_leave_grants.ensures
     (checked c.args.self.now past c.args.session c.args.kind c.text.result.now c.args.account c.args.class was c.text.ensures.value c.in-Ok.ensures.opens.1)
     c.length_to_try-len.ensures.same c.in-Ok-next_opening.ensures.opened (cc) c.in-Ok.ensures.opens.0 c.in-Ok-next_opening.ensures.same
-    (c.apply.ensures.told (channel_moves past))
+    (λ asked. c.apply.ensures.told asked (channel_moves past) tt)

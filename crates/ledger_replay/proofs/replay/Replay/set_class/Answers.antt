@@ -3,9 +3,10 @@ use Rattle.pool_history.specs.declared.events.Event.TheVariants as event
 use Rattle.pool_history.specs.Channels.{Sets, channel_moves}
 use Rattle.pool_history.specs.Legal.{may_mine}
 use Rattle.channels.specs.Tables.{IsTold}
+use Rattle.history_laws.specs.AskedPlaces.{is_asked_after}
 use Rattle.ledger_replay.specs.Replays.{tables_of}
-use Rattle.ledger_replay.proofs.Caused.{by_session}
-use Rattle.ledger_replay.proofs.ChannelsMoved.{channels-same, class-out, class-refused, class-taken, may_become-told}
+use Rattle.ledger_replay.proofs.Caused.{by_session, fewer-told}
+use Rattle.ledger_replay.proofs.ChannelsMoved.{channels-same, class-asked, class-out, class-refused, class-taken, may_become-told}
 use Rattle.ledger_replay.proofs.replay.Replay.set_class.Goals as goal
 
 pub returns-in-Some-clause-judged : goal.returns-in-Some-clause-judged
@@ -33,8 +34,11 @@ returns-in-Ok-clause-judged c past was =
     (may_become-told (tables_of c.args.self.now) past c.args.session c.args.channel c.args.class _ _ was
     c.in-Some-class_in_range.ensures.some.1 c.own.ensures
     (let given : c.in-Some-class_in_range.class ≡ c.args.class = c.in-Some-class_in_range.ensures.some.0 in cc))
-    (subst (λ class. IsTold c.set_class.new.self (Sets c.args.self.now.events c.args.channel class ∷ channel_moves past))
-    c.in-Some-class_in_range.ensures.some.0 (c.in-Ok.ensures.told (channel_moves past) was.channels_are))
+    (subst (λ class. IsTold (is_asked_after (event.Class c.args.session c.args.channel c.args.class ∷ past)) c.set_class.new.self (Sets c.args.self.now.events c.args.channel class ∷ channel_moves past))
+    c.in-Some-class_in_range.ensures.some.0 (c.in-Ok.ensures.told
+    (is_asked_after (event.Class c.args.session c.args.channel c.args.class ∷ past)) (channel_moves past)
+    (class-asked (tables_of c.args.self.now) past c.args.session c.args.channel c.args.class c.live_span-span.result was c.live_span-span.ensures)
+    (fewer-told (tables_of c.args.self.now) past (event.Class c.args.session c.args.channel c.args.class) was)))
 
 pub returns-in-Err-clause-judged : goal.returns-in-Err-clause-judged
 returns-in-Err-clause-judged c past was =

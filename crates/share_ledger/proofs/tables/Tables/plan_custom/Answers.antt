@@ -9,7 +9,7 @@ use Rattle.std.specs.Option.{option_copied}
 use Rattle.coinbase.specs.declared.error.OutputsError.TheVariants as outputs_error
 use Rattle.pool_history.specs.declared.refusals.CustomError.TheVariants as custom_error
 use Rattle.grant_table.specs.OwnJobs.{refusal_before_coinbase}
-use Rattle.share_ledger.proofs.TokenSteps.{custom-made, custom-unmade, own_few}
+use Rattle.share_ledger.proofs.TokenSteps.{custom-made, custom-refused, custom-unmade, own_few}
 use Rattle.share_ledger.proofs.Within.{moved, not_some, script_short, script_some, still}
 use Rattle.share_ledger.proofs.tables.Tables.plan_custom.Goals as goal
 
@@ -25,6 +25,16 @@ pub plan_custom-requires-clause-few : goal.plan_custom-requires-clause-few
 plan_custom-requires-clause-few c =
     own_few (the_view c.self.inside) c.self.invariant c.args.session c.rules.result.now c.rules.ensures
     (c.own_job_refusal.ensures.few (not_some c.own_job_refusal.result c.in_default.not-Some))
+
+pub returns-in-Some-clause-step : goal.returns-in-Some-clause-step
+returns-in-Some-clause-step c =
+    let old : LedgerTables = the_view c.self.inside in
+    let told : Some c.in-Some.refusal ≡ refusal_before_coinbase (option_copied c.own-there.result) c.self.inside.grants c.self.inside.jobs.tip c.args.custom =
+    c.in-Some.ensures.refusal
+    ∙ ap (λ t. refusal_before_coinbase (option_copied c.own-there.result) c.self.inside.grants t c.args.custom) c.tip.ensures in
+    still old c.args.self.now c.args.session (request.Custom c.args.custom) (reply.CustomRefused c.in-Some.refusal) c.self.view_is
+    (custom-refused old c.self.invariant c.args.session c.self.invariant.rules c.self.invariant.told.are_rules c.tables_show_histories.ensures
+    old c.args.custom (option_copied c.own-there.result) c.in-Some.refusal c.own-there.ensures told)
 
 pub returns-in-Ok-clause-step : goal.returns-in-Ok-clause-step
 returns-in-Ok-clause-step c =

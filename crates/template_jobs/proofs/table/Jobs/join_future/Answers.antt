@@ -17,6 +17,8 @@ invariant_of-self c = record {
   own_few = c.self.invariant.own_few;
   future_few = c.put_last.ensures.few;
   live_few = c.self.invariant.live_few;
+  live_within = c.self.invariant.live_within;
+  custom_within = c.self.invariant.custom_within;
 }
 
 pub returns-clause-applied : goal.returns-clause-applied

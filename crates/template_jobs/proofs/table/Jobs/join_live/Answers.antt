@@ -5,6 +5,7 @@ use Rattle.template_jobs.specs.Plans.{PlannedJob}
 use Rattle.template_jobs.specs.Tables.{templates_of}
 use Rattle.template_jobs.proofs.Joined.{counted-template, few-live, joining, joins-live}
 use Rattle.template_jobs.proofs.Rising.{numbered-more}
+use Rattle.template_jobs.proofs.Spans.{live-joined, widened-all}
 use Rattle.template_jobs.proofs.table.Jobs.join_live.Goals as goal
 
 pub invariant_of-self : goal.invariant_of-self
@@ -17,6 +18,10 @@ invariant_of-self c = record {
   own_few = c.self.invariant.own_few;
   future_few = c.self.invariant.future_few;
   live_few = c.put_last.ensures.few;
+  live_within = live-joined c.self.inside.span c.widened-span.result c.plan.inside.at 64 c.self.inside.live.items c.put_last.new.jobs.items c.of-job.result
+      c.widened-span.ensures (ap (λ (job : HeldJob). job.live_at) c.of-job.ensures)
+      c.put_last.ensures.items c.self.invariant.live_within;
+  custom_within = widened-all c.self.inside.span c.widened-span.result c.plan.inside.at c.self.inside.custom.items c.widened-span.ensures c.self.invariant.custom_within;
 }
 
 pub returns-clause-applied : goal.returns-clause-applied

@@ -8,6 +8,7 @@ use Rattle.template_jobs.specs.Tables.{JobTable}
 use Rattle.template_jobs.specs.declared.owner.Owner.{Owner}
 use Rattle.template_jobs.proofs.Joined.{few-own, joining, joins-own}
 use Rattle.template_jobs.proofs.Rising.{numbered-next, rising-next}
+use Rattle.template_jobs.proofs.Spans.{own-joined, widened-all}
 use Rattle.template_jobs.proofs.table.Jobs.join_own.Goals as goal
 
 pub invariant_of-self : goal.invariant_of-self
@@ -27,6 +28,10 @@ invariant_of-self c =
       own_few = omega (arith, long, few, seen, length-map c.self.inside.owners.items own_job);
       future_few = c.self.invariant.future_few;
       live_few = c.self.invariant.live_few;
+      live_within = widened-all c.self.inside.span c.widened-span.result c.plan.inside.at c.self.inside.live.items c.widened-span.ensures c.self.invariant.live_within;
+      custom_within = own-joined c.self.inside.span c.widened-span.result c.plan.inside.at c.args.channel c.self.inside.custom.items c.put_own.new.jobs.items c.of-job.result
+          c.widened-span.ensures (ap (λ (job : HeldJob). job.live_at) c.of-job.ensures)
+          c.put_own.ensures c.self.invariant.custom_within;
     }
 
 pub returns-clause-applied : goal.returns-clause-applied
