@@ -18,6 +18,7 @@ mod shares;
 mod stream;
 mod turns;
 
+use crate::openings::Closed;
 use crate::turns::Sharing;
 use anyhow::{Context, Result, bail};
 use std::alloc::Global;
@@ -31,17 +32,19 @@ use std::thread::Threads;
 /// What each first word wants behind it.
 const USAGE: &str =
     "want: hash COUNT, bytes LENGTH COUNT, shares SIBLINGS COUNT, channels OPEN COUNT, \
-        payouts WINDOW COUNT, jobs COUNT, book HELD COUNT, polls HELD COUNT, desk THREADS COUNT, \
-        lock THREADS COUNT, book-desk THREADS COUNT, book-lock THREADS COUNT, frames, messages \
-        or each";
+        close-first OPEN COUNT, close-last OPEN COUNT, payouts WINDOW COUNT, jobs COUNT, \
+        book HELD COUNT, polls HELD COUNT, desk THREADS COUNT, lock THREADS COUNT, \
+        book-desk THREADS COUNT, book-lock THREADS COUNT, frames, messages or each";
 
 /// What `each` does of the words with two numbers.
-const SMALL: [(&str, u32, u32); 11] = [
+const SMALL: [(&str, u32, u32); 13] = [
     ("bytes", 98, 3),
     ("shares", 0, 1),
     ("shares", 12, 1000),
     ("payouts", 7, 2500),
     ("channels", 3, 2),
+    ("close-first", 3, 2),
+    ("close-last", 3, 2),
     ("book", 2, 3),
     ("polls", 3, 2),
     ("desk", 2, 100),
@@ -129,6 +132,8 @@ fn by_two_numbers<R: Threads + Wait + Sync, W: Write>(
         "shares" => shares::report(alloc, first, count),
         "payouts" => pushes::report(alloc, first, count),
         "channels" => openings::report(alloc, first, count, output),
+        "close-first" => openings::report_closings(alloc, Closed::First, first, count, output),
+        "close-last" => openings::report_closings(alloc, Closed::Last, first, count, output),
         "book" => books::report(alloc, first, count, output),
         "polls" => polls::report(alloc, first, count, output),
         "desk" => counter::report(rt, alloc, Sharing::Desk, first, count),

@@ -2,7 +2,7 @@
 
 ghost use Rattle.std.specs.Prelude.{◌≡◌};
 
-use anyhow::Result;
+use anyhow::{Result, bail};
 use channels::Channels;
 use pool_history::{Kind, OpenAsk, Rules};
 use std::alloc::{AllocError, Global};
@@ -58,5 +58,46 @@ pub fn report<W: Write>(alloc: Global, held: u32, count: u32, output: &mut W) ->
     writeln!(output, "open {held}")?;
     output.flush()?;
     let last = open_and_close(&mut channels, count, &ask, &rules)?;
+    Ok(format!(in alloc; "last {last}")?)
+}
+
+/// Which channels are closed: those that were opened first, or last.
+#[derive(Clone, Copy, Debug)]
+pub enum Closed {
+    First,
+    Last,
+}
+
+/// Closes so many of the channels that `fill` opened, and tells the last one's id.
+fn close_some(channels: &mut Channels, closed: Closed, held: u32, count: u32) -> Result<u32> {
+    let mut last = 0;
+    for number in 0..count {
+        let Some(behind) = held.checked_sub(number + 1) else {
+            bail!("so many aren't open");
+        };
+        let at = match closed {
+            Closed::First => number,
+            Closed::Last => behind,
+        };
+        channels.close(at / OF_A_SESSION, at + 1)?;
+        last = at + 1;
+    }
+    Ok(last)
+}
+
+/// Opens so many channels and says so, and then closes so many of them.
+pub fn report_closings<W: Write>(
+    alloc: Global,
+    closed: Closed,
+    held: u32,
+    count: u32,
+    output: &mut W,
+) -> Result<String> {
+    let (rules, ask) = (example_rules(alloc, true, 1)?, standard_ask(alloc)?);
+    let mut channels = Channels::new(alloc)?;
+    fill(&mut channels, held, &ask, &rules)?;
+    writeln!(output, "open {held}")?;
+    output.flush()?;
+    let last = close_some(&mut channels, closed, held, count)?;
     Ok(format!(in alloc; "last {last}")?)
 }
