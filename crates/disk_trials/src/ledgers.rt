@@ -2,66 +2,83 @@
 
 use crate::cases::{bytes, disk, part, pick, shown};
 use anyhow::{Result, bail};
+use disk_io::MemDisk;
 use ledger_disk::DiskLedger;
 use std::alloc::Global;
 use std::fmt::Write;
 
-pub(crate) fn found(alloc: Global, given: &str) -> Result<String> {
+/// What is answered to each of some appends, and what is found after a crash.
+pub(crate) fn appended(alloc: Global, given: &str) -> Result<String> {
     let mut text = String::new(alloc);
-    let disk = disk(alloc, "-", part(given, 0)?)?;
-    let disk = match DiskLedger::anew(alloc, disk) {
-        Ok(mut ledger) => {
-            for entry in part(given, 1)?.split_whitespace() {
-                let entry = bytes(alloc, entry)?;
-                if entry.len() > 300_100 {
-                    bail!("an entry is too long");
-                }
-                let answer = ledger.append(&entry);
-                write!(text, "{answer:?}; ")?;
-            }
-            ledger.into_disk()
-        }
+    let empty = disk(alloc, "-", part(given, 0)?)?;
+    let disk = match DiskLedger::open(alloc, empty) {
+        Ok((ledger, _entries)) => put_appends(alloc, &mut text, ledger, part(given, 1)?)?,
         Err((disk, error)) => {
             write!(text, "{error:?}; ")?;
             disk
         }
     };
     let left = disk.crash(pick(part(given, 2)?)?);
-    put_entries(alloc, &mut text, left.content())?;
+    put_opening(alloc, &mut text, left)?;
     Ok(text)
 }
 
-/// The entries on a disk, up to the first place where none stands.
-fn put_entries(alloc: Global, text: &mut String, content: &[u8]) -> Result<()> {
-    if content.len() > 8 && !content.starts_with(b"SV2DISK1") {
-        write!(text, "foreign")?;
-        return Ok(());
+/// Appends entries, says what is answered, and gives the disk back.
+fn put_appends(
+    alloc: Global,
+    text: &mut String,
+    ledger: DiskLedger<MemDisk>,
+    words: &str,
+) -> Result<MemDisk> {
+    let mut ledger = ledger;
+    for entry in words.split_whitespace() {
+        put_append(alloc, text, &mut ledger, entry)?;
     }
-    write!(text, "found")?;
-    let mut rest = content.get(8..).unwrap_or(&[]);
-    for _ in 0..content.len() {
-        rest = match entry_at(rest) {
-            None => break,
-            Some((entry, behind)) => {
-                let shown = shown(alloc, entry)?;
-                write!(text, " {shown}")?;
-                behind
-            }
-        };
+    Ok(ledger.into_disk())
+}
+
+/// What an opening finds, what a crash leaves, and what is found then.
+pub(crate) fn opened(alloc: Global, given: &str) -> Result<String> {
+    let mut text = String::new(alloc);
+    let disk = disk(alloc, part(given, 0)?, part(given, 1)?)?;
+    let disk = put_opening(alloc, &mut text, disk)?;
+    let left = disk.crash(pick(part(given, 2)?)?);
+    let content = shown(alloc, left.content())?;
+    write!(text, "; left {content}; ")?;
+    put_opening(alloc, &mut text, left)?;
+    Ok(text)
+}
+
+/// What is answered to an append.
+fn put_append(
+    alloc: Global,
+    text: &mut String,
+    ledger: &mut DiskLedger<MemDisk>,
+    entry: &str,
+) -> Result<()> {
+    let entry = bytes(alloc, entry)?;
+    if entry.len() > 300_100 {
+        bail!("an entry is too long");
     }
+    let answer = ledger.append(&entry);
+    write!(text, "{answer:?}; ")?;
     Ok(())
 }
 
-/// The entry that bytes begin with, and what is behind it.
-fn entry_at(rest: &[u8]) -> Option<(&[u8], &[u8])> {
-    match rest {
-        [1, a, b, c, d, behind @ ..] => {
-            let size = u32::from_le_bytes([*a, *b, *c, *d]) as usize;
-            if size > 300_100 || behind.len() <= size {
-                return None;
+/// Opens a disk, says what is found, and gives it back.
+fn put_opening(alloc: Global, text: &mut String, disk: MemDisk) -> Result<MemDisk> {
+    match DiskLedger::open(alloc, disk) {
+        Ok((ledger, entries)) => {
+            write!(text, "found")?;
+            for entry in entries.iter() {
+                let shown = shown(alloc, entry.bytes())?;
+                write!(text, " {shown}")?;
             }
-            Some(behind.split_at(size))
+            Ok(ledger.into_disk())
         }
-        _ => None,
+        Err((disk, error)) => {
+            write!(text, "{error:?}")?;
+            Ok(disk)
+        }
     }
 }

@@ -11,7 +11,7 @@ use std::alloc::Global;
 use std::fs;
 
 /// What is tried, each on the cases of the file of its name.
-const SUBJECTS: [&str; 2] = ["disks", "ledgers"];
+const SUBJECTS: [&str; 3] = ["disks", "ledgers", "openings"];
 
 fn main(rt: HostRuntime) -> Result<()> {
     for subject in SUBJECTS {
@@ -56,7 +56,8 @@ fn is_right(rt: &impl Print, alloc: Global, subject: &str, line: &str) -> Result
 fn found(alloc: Global, subject: &str, given: &str) -> Result<String> {
     match subject {
         "disks" => disks::found(alloc, given),
-        "ledgers" => ledgers::found(alloc, given),
+        "ledgers" => ledgers::appended(alloc, given),
+        "openings" => ledgers::opened(alloc, given),
         _ => bail!("no subject is named {subject}"),
     }
 }

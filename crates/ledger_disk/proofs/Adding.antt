@@ -6,21 +6,13 @@ use Rattle.disk_io.specs.declared.disk.DiskFailed.{DiskFailed}
 use Rattle.disk_io.specs.Moments.{MayLeave, Moment, last_content, synced_content}
 use Rattle.ledger_disk.specs.declared.steps.PutFailed.{PutFailed}
 use Rattle.ledger_disk.specs.declared.steps.PutFailed.TheVariants.{Unwritten, Unsure}
-use Rattle.ledger_disk.specs.Crashes.{LeavesOnly, MayFind, stored_entries}
+use Rattle.ledger_disk.specs.Crashes.{LeavesOnly, MayFind, StoresMore, Throughout, stored_entries}
 use Rattle.ledger_disk.specs.Entries.{AreShort, Begins, HasBehind, Opens, body, entries_on, front}
 use Rattle.ledger_disk.specs.Steps.{Adds, HoldsLedger, LogsPut}
 use Rattle.ledger_disk.proofs.Finding.{found_closed, found_either, front_more, has_magic, opens_just}
-use Rattle.ledger_disk.proofs.Moments.{AreWithin, PutsWithin, finds_now, finds_since, only_synced}
+use Rattle.ledger_disk.proofs.Moments.{AreWithin, Puts, PutsWithin, finds_now, finds_since, only_synced, puts_each, some_is, throughout_all, throughout_over}
 use Rattle.ledger_disk.proofs.Putting.{inside_behind, inside_gate, puts_behind, puts_gate}
 use Rattle.ledger_disk.proofs.Shutting.{holds_stored}
-
-abbrev or_that : List Moment → Option (List Moment) → List Moment
-or_that log (Some told) = told
-or_that log None = log
-
--- who tells the same tells one thing
-pub some_is : (a b : List Moment) → Some a ≡ Some b → a ≡ b
-some_is a b same = ap (or_that a) same
 
 abbrev TellsNone : Option (List Moment) → Type 0
 TellsNone None = Unit {0}
@@ -34,7 +26,7 @@ none_tells log same = subst TellsNone same tt
 part : (start next bytes : List ℕ) → Begins (start ++ next) bytes → Begins start bytes
 part start next bytes begins = (next ++ begins.0, begins.1 ∙ append_assoc start next begins.0)
 
-short_more : (bytes : List ℕ) → length bytes ≤ 300100 → (es : List (List ℕ)) → AreShort es → AreShort (es ++ bytes ∷ [])
+pub short_more : (bytes : List ℕ) → length bytes ≤ 300100 → (es : List (List ℕ)) → AreShort es → AreShort (es ++ bytes ∷ [])
 short_more bytes fits [] all = (fits, tt)
 short_more bytes fits (first ∷ es) all = (all.0, short_more bytes fits es all.1)
 
@@ -85,13 +77,14 @@ module _ (bytes : List ℕ) (fits : length bytes ≤ 300100) (gate : ℕ) (old :
   -- nothing was added, for a failure before the gate is put
   unadded : (told : Option (List Moment)) (log : List Moment) → told ≡ Some log → LeavesOnly (Begins start) log → stored_entries log ≡ E
       → ((count : ℕ) (found : Option (List (List ℕ))) → MayFind log count found → MayFind old count found ⊎ FindsOld count found)
-      → (error : KeeperFailed) → Adds bytes (Err error) gate old gate told false
-  unadded told log tells all same finds error = record {
+      → (error : KeeperFailed) → Throughout (λ now. stored_entries now ≡ E) old told → Adds bytes (Err error) gate old gate told false
+  unadded told log tells all same finds error through = record {
     log = log;
     tells = tells;
     more = tt;
     same = same;
     only = tt;
+    during = throughout_all (λ now. stored_entries now ≡ E) (λ now. StoresMore E bytes (Err error) (stored_entries now)) (λ now is. inl is) old told through;
     holds = holds_stored gate false E log (record { short = holds.short; size = holds.size; stored = same; gated = all });
     crash = λ count found may. ⊎_elim (λ was. inl was) (λ now. inr (inl (now.0, inl now.1))) (finds count found may);
   }
@@ -101,11 +94,12 @@ module _ (bytes : List ℕ) (fits : length bytes ≤ 300100) (gate : ℕ) (old :
   add_failed told result error is does why = by_error error (subst (λ (r : Result (Unit {0}) PutFailed). IsPut r told) is does)
     where
       by_error : (error : PutFailed) → IsPut (Err error) told → Adds bytes (Err why) gate old gate told false
-      by_error Unwritten logs = unadded told old logs holds.gated refl (λ count found may. inl may) why
+      by_error Unwritten logs = unadded told old logs holds.gated refl (λ count found may. inl may) why ([], logs, tt)
       by_error (Unsure cause) logs =
           let puts = behind_of (Err (Unsure cause)) told logs in
           unadded told puts.0.log puts.0.tells puts.1.0.0 (ap entries_on puts.1.0.1)
           (λ count found may. behind_finds (λ c. ⊥) (λ c none. absurd none) puts.0.steps puts.0.each count found (subst (λ (l : List Moment). MayFind l count found) puts.0.grown may)) why
+          (puts_each (λ es. es ≡ E) (Begins start) (λ c. ⊥) old refl (λ c none. absurd none) told puts.0)
 
   -- the entry is there; its gate is put
   module _ (mid_told : Option (List Moment)) (put : IsPut (Ok tt) mid_told) where
@@ -117,6 +111,9 @@ module _ (bytes : List ℕ) (fits : length bytes ≤ 300100) (gate : ℕ) (old :
 
     mid_same : stored_entries mid ≡ E
     mid_same = closed (synced_content mid) (stands_ok (synced_content mid) (only_synced (Begins (start ++ entry)) mid behind.1))
+
+    mid_through : Throughout (λ now. stored_entries now ≡ E) old mid_told
+    mid_through = puts_each (λ es. es ≡ E) (Begins start) (Begins (start ++ entry)) old refl (λ c begins. closed c (stands_ok c begins)) mid_told behind.0
 
     mid_finds : (count : ℕ) (found : Option (List (List ℕ))) → MayFind mid count found → MayFind old count found ⊎ FindsOld count found
     mid_finds count found may =
@@ -176,6 +173,15 @@ module _ (bytes : List ℕ) (fits : length bytes ≤ 300100) (gate : ℕ) (old :
     over_mid Last log finds count found may =
         ⊎_elim (λ was. ⊎_elim (λ once. inl once) (λ now. inr (inl (now.0, inl now.1))) (mid_finds count found was)) (λ now. inr now) (finds count found may)
 
+    -- the entry is stored with its gate, and not before
+    over_through : (result : Result (Unit {0}) KeeperFailed) (S : List ℕ → Type 0) → ((c : List ℕ) → S c → StoresMore E bytes result (entries_on c))
+        → (told : Option (List Moment)) → Puts (HasBehind (front E) entry) S mid told → Throughout (λ now. StoresMore E bytes result (stored_entries now)) old told
+    over_through result S after told puts =
+        throughout_over (λ now. StoresMore E bytes result (stored_entries now)) old mid told
+        (throughout_all (λ now. stored_entries now ≡ E) (λ now. StoresMore E bytes result (stored_entries now)) (λ now is. inl is) old (Some mid)
+        (subst (λ (t : Option (List Moment)). Throughout (λ now. stored_entries now ≡ E) old t) behind.0.tells mid_through))
+        (puts_each (λ es. StoresMore E bytes result es) (HasBehind (front E) entry) S mid (inl mid_same) after told puts)
+
     body_size : length (body bytes) ≡ 4 + length bytes
     body_size = length-append (to_le_bytes w32 (length bytes)) bytes
 
@@ -193,6 +199,7 @@ module _ (bytes : List ℕ) (fits : length bytes ≤ 300100) (gate : ℕ) (old :
           tells = puts.0.tells;
           more = same;
           same = tt;
+          during = over_through (Ok tt) Opened (λ c opened. inr (found_more c opened, tt)) told puts.0;
           only = λ left may. let stands = puts.1 left may in (inr (has_magic E (1 ∷ entry) left stands), found_more left stands ∙ sym same);
           holds = holds_stored (gate + (5 + length bytes)) false more log (record {
             short = short_more bytes fits E holds.short;
@@ -213,6 +220,8 @@ module _ (bytes : List ℕ) (fits : length bytes ≤ 300100) (gate : ℕ) (old :
     add_unwritten told result is does why =
         unadded told mid (subst (λ (r : Result (Unit {0}) PutFailed). LogsPut gate (1 ∷ []) r mid told) is (does mid behind.0.tells))
         (λ left may. stands_ok left (behind.1 left may)) mid_same mid_finds why
+        (subst (λ (t : Option (List Moment)). Throughout (λ now. stored_entries now ≡ E) old t)
+        (behind.0.tells ∙ sym (subst (λ (r : Result (Unit {0}) PutFailed). LogsPut gate (1 ∷ []) r mid told) is (does mid behind.0.tells))) mid_through)
 
     unsure : (told : Option (List Moment)) (cause : PutFailed) → (puts : Gate (Err cause) told) → LeavesOnly (HasBehind (front E) entry) puts.0.log × (synced_content puts.0.log ≡ synced_content mid)
         → (left : List ℕ) × MayLeave puts.0.log left × Opened left → (why : KeeperFailed) → Adds bytes (Err why) gate old gate told true
@@ -225,6 +234,7 @@ module _ (bytes : List ℕ) (fits : length bytes ≤ 300100) (gate : ℕ) (old :
           more = tt;
           same = same;
           only = tt;
+          during = over_through (Err why) (λ c. ⊥) (λ c none. absurd none) told puts.0;
           holds = holds_stored gate true E log (record {
             short = holds.short;
             size = holds.size;

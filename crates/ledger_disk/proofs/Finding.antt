@@ -67,7 +67,7 @@ found_spelled (bytes ∷ entries) short rest some (suc most) more is =
 
 module _ (entries : List (List ℕ)) (short : AreShort entries) where
   -- behind the entries there is what is found in the rest
-  found_behind : (c rest : List ℕ) → c ≡ front entries ++ rest → 1 ≤ length rest → (more : ℕ) × (1 ≤ more) × (entries_on c ≡ entries ++ found_in more rest)
+  pub found_behind : (c rest : List ℕ) → c ≡ front entries ++ rest → 1 ≤ length rest → (more : ℕ) × (1 ≤ more) × (entries_on c ≡ entries ++ found_in more rest)
   found_behind c rest is some =
       let more : ℕ = length c - length entries in
       let long : length c ≡ length (front entries) + length rest = ap length is ∙ length-append (front entries) rest in

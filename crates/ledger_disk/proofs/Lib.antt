@@ -5,3 +5,6 @@ mod Shutting
 mod Adding
 mod Telling
 mod Making
+mod Closing
+mod EntriesRead
+mod Becoming

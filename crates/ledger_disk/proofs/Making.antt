@@ -1,22 +1,20 @@
 -- What making a ledger anew leaves.
 use Rattle.std.proofs.Common.{◌≡◌, inl, inr, ⊎_elim, ℕ, zero, suc, ◌+◌, ◌≤◌, Bool, false, List, [], ◌∷◌, ◌++◌, Option, None, Some, Result, Ok, Err, IsErr, length, take, drop, refl, sym, ◌∙◌, ap, subst, arith, length-drop, if◌then◌else◌}
-use Rattle.std.specs.Option.{IfSome, option_map}
 use Rattle.std.proofs.lemmas.Bool.{false≢true}
 use Rattle.std.proofs.lemmas.Bool.Decides.{nat_tests}
 use Rattle.std.proofs.lemmas.List.{length-take}
 use Rattle.disk_io.specs.declared.disk.DiskFailed.{DiskFailed}
 use Rattle.disk_io.specs.declared.disk.DiskFailed.TheVariants.{Failed, Memory}
 use Rattle.disk_io.specs.declared.disk.Doing.TheVariants.{CutTo, Synced, Wrote}
-use Rattle.disk_io.specs.Calls.{LogsCut, WhereTold}
+use Rattle.disk_io.specs.Calls.{LogsCut}
 use Rattle.disk_io.specs.Moments.{Moment, TornCut, TornWrite, last_content, synced_content, with_call}
 use Rattle.disk_io.proofs.Crashes.{content_left, cut_done}
 use Rattle.ledger_disk.specs.declared.steps.PutFailed.TheVariants.{Unwritten, Unsure}
-use Rattle.ledger_disk.specs.Crashes.{FindsNone, LeavesOnly, LeavesStored, MayFind, stored_entries}
+use Rattle.ledger_disk.specs.Crashes.{FindsJust, LeavesOnly, MayFind, Throughout, stored_entries}
 use Rattle.ledger_disk.specs.Entries.{Begins, IsBlank, Opens, entries_on, found_in, front, is_entry, magic, said_length}
-use Rattle.ledger_disk.specs.Steps.{IsOnDisk, LogsTry, Makes}
-use Rattle.ledger_disk.proofs.Adding.{none_tells, some_is}
+use Rattle.ledger_disk.specs.Steps.{LogsTry, Makes}
 use Rattle.ledger_disk.proofs.Finding.{found_closed, opens_just}
-use Rattle.ledger_disk.proofs.Moments.{Puts, finds_since, only_synced}
+use Rattle.ledger_disk.proofs.Moments.{Puts, finds_since, only_synced, puts_each, some_is, throughout_over}
 use Rattle.ledger_disk.proofs.Putting.{put_leaves}
 use Rattle.ledger_disk.proofs.Shutting.{holds_stored}
 
@@ -30,7 +28,7 @@ few_found (suc most) (gate ∷ []) few =
 few_found (suc most) (gate ∷ next ∷ rest) few = absurd (omega (arith, few))
 
 -- so in none and one byte behind the magic
-nine_found : (c : List ℕ) → length c ≤ 9 → entries_on c ≡ []
+pub nine_found : (c : List ℕ) → length c ≤ 9 → entries_on c ≡ []
 nine_found c few = few_found (length c) (drop 8 c) (omega (arith, few, length-drop 8 c))
 
 blank_opens : (c : List ℕ) → IsBlank c → (found : Option (List (List ℕ))) → Opens c found → found ≡ Some []
@@ -42,11 +40,11 @@ abbrev FindsEmpty : ℕ → Option (List (List ℕ)) → Type 0
 FindsEmpty count found = (count ≡ 0) × (found ≡ Some [])
 
 -- behind a sync a crash leaves what a read gives
-synced_only : (content : List ℕ) (older : List Moment) → LeavesOnly (λ c. c ≡ content) (with_call Synced content older)
+pub synced_only : (content : List ℕ) (older : List Moment) → LeavesOnly (λ c. c ≡ content) (with_call Synced content older)
 synced_only content older left may = ⊎_elim (λ (is : left ≡ content). is) (λ broken. absurd broken.2) may
 
 -- what a put that failed may have done
-try_failed : (P : List ℕ → Type 0) (at : ℕ) (bytes : List ℕ) (old : List Moment) → at ≤ length (last_content old) → ((d c : List ℕ) → P d → TornWrite at (length bytes) d c → P c) → LeavesOnly P old
+pub try_failed : (P : List ℕ → Type 0) (at : ℕ) (bytes : List ℕ) (old : List Moment) → at ≤ length (last_content old) → ((d c : List ℕ) → P d → TornWrite at (length bytes) d c → P c) → LeavesOnly P old
     → (error : DiskFailed) (told : Option (List Moment)) → LogsTry at bytes (Err error) old told → Puts P (λ c. ⊥) old told
 try_failed P at bytes old inside stays all error told logs =
     ⊎_elim (λ none. (put_leaves P (λ c. Unit {0}) at bytes old inside stays (λ here. tt) all (Err Unwritten) told none).0)
@@ -71,20 +69,30 @@ module _ (old : List Moment) where
   finds_blank : LeavesOnly IsBlank old → (left : List ℕ) (found : Option (List (List ℕ))) → IsBlank left → Opens left found → FindsEmpty (length (stored_entries old)) found
   finds_blank blank left found few opens = (none_stored blank, blank_opens left few found opens)
 
-  cut_finds : LeavesOnly IsBlank old → (content : List ℕ) → TornCut 0 (last_content old) content → FindsNone (MayFind old) (MayFind (cut_log content))
+  cut_finds : LeavesOnly IsBlank old → (content : List ℕ) → TornCut 0 (last_content old) content → FindsJust [] (MayFind old) (MayFind (cut_log content))
   cut_finds blank content torn =
       finds_since IsBlank (λ c. ⊥) old FindsEmpty (finds_blank blank) (λ left synced found none was opens. absurd none)
       (record { doing = CutTo 0; content = content } ∷ []) (inl (cut_blank blank content torn, refl), tt)
 
+  -- none are stored throughout
+  abbrev EmptyThrough : Option (List Moment) → Type 0
+  EmptyThrough told = Throughout (λ now. stored_entries now ≡ []) old told
+
+  blank_stored : LeavesOnly IsBlank old → stored_entries old ≡ []
+  blank_stored blank = nine_found (synced_content old) (omega (arith, only_synced IsBlank old blank))
+
+  cut_through : LeavesOnly IsBlank old → (content : List ℕ) (told : Option (List Moment)) → told ≡ Some (cut_log content) → EmptyThrough told
+  cut_through blank content told is = (record { doing = CutTo 0; content = content } ∷ [], is, (blank_stored blank, tt))
+
   unmade : (result : Result (Unit {0}) DiskFailed) → IsErr result → (told : Option (List Moment)) (log : List Moment) → told ≡ Some log
-      → (LeavesOnly IsBlank old → FindsNone (MayFind old) (MayFind log)) → Makes result old told
-  unmade (Ok u) failed told log tells crash = absurd (false≢true failed)
-  unmade (Err error) failed told log tells crash = record { log = log; tells = tells; none = tt; only = tt; holds = tt; crash = crash }
+      → (LeavesOnly IsBlank old → EmptyThrough told) → (LeavesOnly IsBlank old → FindsJust [] (MayFind old) (MayFind log)) → Makes result old told
+  unmade (Ok u) failed told log tells through crash = absurd (false≢true failed)
+  unmade (Err error) failed told log tells through crash = record { log = log; tells = tells; none = tt; only = tt; holds = tt; during = through; crash = crash }
 
   -- a failure of the first step
   pub made_uncut : (result : Result (Unit {0}) DiskFailed) → IsErr result → (error : DiskFailed) (told : Option (List Moment)) → LogsCut 0 (Err error) old told → Makes result old told
-  made_uncut result failed Failed told is = unmade result failed told (cut_log is.0) is.2 (λ blank. cut_finds blank is.0 is.1)
-  made_uncut result failed Memory told is = unmade result failed told old is (λ blank count found may. inl may)
+  made_uncut result failed Failed told is = unmade result failed told (cut_log is.0) is.2 (λ blank. cut_through blank is.0 told is.2) (λ blank. cut_finds blank is.0 is.1)
+  made_uncut result failed Memory told is = unmade result failed told old is (λ blank. ([], is, tt)) (λ blank count found may. inl may)
 
   -- the disk is cut
   abbrev pub empty_log : List Moment
@@ -96,10 +104,10 @@ module _ (old : List Moment) where
   empty_blank : LeavesOnly IsBlank old → LeavesOnly IsBlank empty_log
   empty_blank blank = cut_blank blank [] (cut_done 0 (last_content old))
 
-  empty_finds : LeavesOnly IsBlank old → FindsNone (MayFind old) (MayFind empty_log)
+  empty_finds : LeavesOnly IsBlank old → FindsJust [] (MayFind old) (MayFind empty_log)
   empty_finds blank = cut_finds blank [] (cut_done 0 (last_content old))
 
-  over : (mid : List Moment) → FindsNone (MayFind old) (MayFind mid) → (log : List Moment) → FindsNone (MayFind mid) (MayFind log) → FindsNone (MayFind old) (MayFind log)
+  over : (mid : List Moment) → FindsJust [] (MayFind old) (MayFind mid) → (log : List Moment) → FindsJust [] (MayFind mid) (MayFind log) → FindsJust [] (MayFind old) (MayFind log)
   over mid first log more count found may = ⊎_elim (λ was. first count found was) (λ now. inr now) (more count found may)
 
   finds_empty : LeavesOnly IsBlank old → (left : List ℕ) (found : Option (List (List ℕ))) → IsBlank left → Opens left found → FindsEmpty (length (stored_entries empty_log)) found
@@ -107,7 +115,7 @@ module _ (old : List Moment) where
 
   -- what a put of the magic leaves: eight bytes at most until it is synced
   marking : LeavesOnly IsBlank old → (S : List ℕ → Type 0) → ((left synced : List ℕ) (found : Option (List (List ℕ))) → S left → S synced → Opens left found → FindsEmpty (length (entries_on synced)) found)
-      → (told : Option (List Moment)) → (puts : Puts IsBlank S empty_log told) → FindsNone (MayFind old) (MayFind puts.log)
+      → (told : Option (List Moment)) → (puts : Puts IsBlank S empty_log told) → FindsJust [] (MayFind old) (MayFind puts.log)
   marking blank S after told puts =
       over empty_log (empty_finds blank) puts.log (λ count found may. finds_since IsBlank S empty_log FindsEmpty (finds_empty blank) after puts.steps puts.each count found
       (subst (λ (l : List Moment). MayFind l count found) puts.grown may))
@@ -122,9 +130,12 @@ module _ (old : List Moment) where
   pub made_unmarked : (result : Result (Unit {0}) DiskFailed) → IsErr result → (error : DiskFailed) (told : Option (List Moment)) → LogsTry 0 magic (Err error) empty_log told → Makes result old told
   made_unmarked result failed error told is =
       let tells = put_tells error 0 magic empty_log told is in
-      unmade result failed told tells.0 tells.1 (λ blank.
+      unmade result failed told tells.0 tells.1
+      (λ blank. throughout_over (λ now. stored_entries now ≡ []) old empty_log told (cut_through blank [] (Some empty_log) refl)
+      (puts_each (λ es. es ≡ []) IsBlank (λ c. ⊥) empty_log (blank_stored blank) (λ c none. absurd none) told (blank_put blank error told is)))
+      (λ blank.
       let puts = blank_put blank error told is in
-      subst (λ (l : List Moment). FindsNone (MayFind old) (MayFind l)) (some_is puts.log tells.0 (sym puts.tells ∙ tells.1))
+      subst (λ (l : List Moment). FindsJust [] (MayFind old) (MayFind l)) (some_is puts.log tells.0 (sym puts.tells ∙ tells.1))
       (marking blank (λ c. ⊥) (λ left synced found none was opens. absurd none) told puts))
 
   -- the magic is there
@@ -138,10 +149,17 @@ module _ (old : List Moment) where
   magic_opens left synced found is was opens =
       (ap (λ (c : List ℕ). length (entries_on c)) was, blank_opens left (omega (arith, ap length is)) found opens)
 
-  marked_finds : LeavesOnly IsBlank old → FindsNone (MayFind old) (MayFind marked_log)
+  marked_finds : LeavesOnly IsBlank old → FindsJust [] (MayFind old) (MayFind marked_log)
   marked_finds blank =
       let puts = (put_leaves IsBlank (λ c. c ≡ magic) 0 magic empty_log (omega arith) write_stays (λ here. refl) (empty_blank blank) (Ok tt) (Some marked_log) refl).0 in
-      subst (λ (l : List Moment). FindsNone (MayFind old) (MayFind l)) (some_is puts.log marked_log (sym puts.tells)) (marking blank (λ c. c ≡ magic) magic_opens (Some marked_log) puts)
+      subst (λ (l : List Moment). FindsJust [] (MayFind old) (MayFind l)) (some_is puts.log marked_log (sym puts.tells)) (marking blank (λ c. c ≡ magic) magic_opens (Some marked_log) puts)
+
+  marked_through : LeavesOnly IsBlank old → EmptyThrough (Some marked_log)
+  marked_through blank = (
+    record { doing = Synced; content = magic } ∷ record { doing = Wrote 0 8; content = magic } ∷ record { doing = CutTo 0; content = [] } ∷ [],
+    refl,
+    (refl, (blank_stored blank, (blank_stored blank, tt))),
+  )
 
   -- behind it there is at most one byte
   abbrev IsMarked : List ℕ → Type 0
@@ -170,7 +188,7 @@ module _ (old : List Moment) where
       (ap length (closed_found synced was), opens_just [] left (ap (λ (c : List ℕ). take 8 c) is) (closed_found left is) found opens)
 
   closing : LeavesOnly IsBlank old → (S : List ℕ → Type 0) → ((left synced : List ℕ) (found : Option (List (List ℕ))) → S left → S synced → Opens left found → FindsEmpty (length (entries_on synced)) found)
-      → (told : Option (List Moment)) → (puts : Puts IsMarked S marked_log told) → FindsNone (MayFind old) (MayFind puts.log)
+      → (told : Option (List Moment)) → (puts : Puts IsMarked S marked_log told) → FindsJust [] (MayFind old) (MayFind puts.log)
   closing blank S after told puts =
       over marked_log (marked_finds blank) puts.log (λ count found may. finds_since IsMarked S marked_log FindsEmpty finds_marked after puts.steps puts.each count found
       (subst (λ (l : List Moment). MayFind l count found) puts.grown may))
@@ -185,6 +203,8 @@ module _ (old : List Moment) where
         none = tt;
         only = tt;
         holds = tt;
+        during = λ blank. throughout_over (λ now. stored_entries now ≡ []) old marked_log told (marked_through blank)
+            (puts_each (λ es. es ≡ []) IsMarked (λ c. ⊥) marked_log refl (λ c none. absurd none) told puts);
         crash = λ blank. closing blank (λ c. ⊥) (λ left synced found none was opens. absurd none) told puts;
       }
   made_gate (Ok u) told is =
@@ -197,31 +217,7 @@ module _ (old : List Moment) where
         none = none;
         only = λ left may. let is = puts.1 left may in (inr (ap (λ (c : List ℕ). take 8 c) is), closed_found left is ∙ sym none);
         holds = holds_stored 8 false [] log (record { short = tt; size = refl; stored = none; gated = λ left may. closed_begins left (puts.1 left may) });
+        during = λ blank. throughout_over (λ now. stored_entries now ≡ []) old marked_log told (marked_through blank)
+            (puts_each (λ es. es ≡ []) IsMarked IsClosed marked_log refl closed_found told puts.0);
         crash = λ blank. closing blank IsClosed finds_closed told puts.0;
       }
-
--- what a making leaves, where the disk tells
-abbrev Made : Result (Unit {0}) DiskFailed → (old new : Option (List Moment)) → Type 0
-Made result old new = WhereTold old (λ log. Makes result log new)
-
-pub made_on_disk : (old new : Option (List Moment)) → (old ≡ None → new ≡ None) → Made (Ok tt) old new → IsOnDisk 8 false new
-made_on_disk None new untold makes = subst (λ (t : Option (List Moment)). IsOnDisk 8 false t) (sym (untold refl)) tt
-made_on_disk (Some log) new untold makes = let made = makes log refl in subst (λ (t : Option (List Moment)). IsOnDisk 8 false t) (sym made.tells) made.holds
-
-pub made_none : (old new : Option (List Moment)) → (old ≡ None → new ≡ None) → Made (Ok tt) old new → option_map stored_entries new ≡ option_map (λ log. []) old
-made_none None new untold makes = ap (λ (t : Option (List Moment)). option_map stored_entries t) (untold refl)
-made_none (Some log) new untold makes =
-    let made = makes log refl in ap (λ (t : Option (List Moment)). option_map stored_entries t) made.tells ∙ ap (λ (es : List (List ℕ)). Some es) made.none
-
-pub made_only : (old new : Option (List Moment)) → (old ≡ None → new ≡ None) → Made (Ok tt) old new → WhereTold new LeavesStored
-made_only None new untold makes = λ log is. absurd (none_tells log (sym (untold refl) ∙ is))
-made_only (Some log) new untold makes = λ told is.
-    let made = makes log refl in
-    let only : IfSome new LeavesStored = subst (λ (t : Option (List Moment)). IfSome t LeavesStored) (sym made.tells) made.only in
-    subst (λ (t : Option (List Moment)). IfSome t LeavesStored) is only
-
-pub made_finds : (result : Result (Unit {0}) DiskFailed) (old new : Option (List Moment)) → Made result old new
-    → WhereTold old (λ log. LeavesOnly IsBlank log → FindsNone (MayFind log) (λ count found. IfSome new (λ l. MayFind l count found)))
-made_finds result old new makes = λ log is blank count found may.
-    let made = makes log is in
-    made.crash blank count found (subst (λ (t : Option (List Moment)). IfSome t (λ l. MayFind l count found)) made.tells may)

@@ -1,11 +1,19 @@
 -- How what a crash may leave goes on from call to call.
-use Rattle.std.proofs.Common.{◌≡◌, ◌⊎◌, inl, inr, ℕ, List, [], ◌∷◌, ◌++◌, Option, Some, Result, Ok, Err, length, sym, ◌∙◌, ap, subst}
+use Rattle.std.proofs.Common.{◌≡◌, ◌⊎◌, inl, inr, ⊎_elim, ℕ, List, [], ◌∷◌, ◌++◌, Option, None, Some, Result, Ok, Err, length, sym, ◌∙◌, ap, subst, append_assoc}
 use Rattle.disk_io.specs.Moments.{MayLeave, Moment, synced_content}
 use Rattle.disk_io.proofs.Crashes.{synced_left}
 use Rattle.ledger_disk.specs.declared.steps.PutFailed.{PutFailed}
 use Rattle.ledger_disk.specs.declared.steps.PutFailed.TheVariants.{Unwritten, Unsure}
-use Rattle.ledger_disk.specs.Crashes.{FindsNow, LeavesOnly, MayFind, stored_entries}
+use Rattle.ledger_disk.specs.Crashes.{FindsNow, AtEach, LeavesOnly, MayFind, Throughout, stored_entries}
 use Rattle.ledger_disk.specs.Entries.{Opens, entries_on}
+
+abbrev or_that : List Moment → Option (List Moment) → List Moment
+or_that log (Some told) = told
+or_that log None = log
+
+-- who tells the same tells one thing
+pub some_is : (a b : List Moment) → Some a ≡ Some b → a ≡ b
+some_is a b same = ap (or_that a) same
 
 pub finds_now : (log : List Moment) (count : ℕ) (found : Option (List (List ℕ))) → FindsNow log count found → MayFind log count found
 finds_now [] count found now = now
@@ -69,3 +77,42 @@ AfterOk (Err error) S left = ⊥
 
 abbrev pub PutsWithin : (P S : List ℕ → Type 0) → Result (Unit {0}) PutFailed → List Moment → Option (List Moment) → Type 0
 PutsWithin P S result old told = (puts : Puts P (AfterOk result S) old told) × EndsPut P S result old puts.log
+
+-- steps of which each is before a sync or after one, by what is stored then
+module _ (Q : List (List ℕ) → Type 0) where
+  within_each : (P S : List ℕ → Type 0) (old : List Moment) → Q (stored_entries old) → ((c : List ℕ) → S c → Q (entries_on c)) → (steps : List Moment) → AreWithin P S old steps
+      → AtEach (λ now. Q (stored_entries now)) steps old
+  within_each P S old before after [] each = tt
+  within_each P S old before after (moment ∷ steps) each = (
+    ⊎_elim (λ unsynced. subst (λ (c : List ℕ). Q (entries_on c)) (sym unsynced.1) before)
+        (λ synced. after (synced_content (moment ∷ steps ++ old)) (only_synced S (moment ∷ steps ++ old) synced)) each.0,
+    within_each P S old before after steps each.1,
+  )
+
+  pub puts_each : (P S : List ℕ → Type 0) (old : List Moment) → Q (stored_entries old) → ((c : List ℕ) → S c → Q (entries_on c)) → (told : Option (List Moment)) → Puts P S old told
+      → Throughout (λ now. Q (stored_entries now)) old told
+  puts_each P S old before after told puts =
+      (puts.steps, puts.tells ∙ ap (λ (l : List Moment). Some l) puts.grown, within_each P S old before after puts.steps puts.each)
+
+module _ (P : List Moment → Type 0) where
+  each_more : (later earlier old : List Moment) → AtEach P later (earlier ++ old) → AtEach P earlier old → AtEach P (later ++ earlier) old
+  each_more [] earlier old then_each each = each
+  each_more (moment ∷ later) earlier old then_each each =
+      (subst (λ (l : List Moment). P (moment ∷ l)) (sym (append_assoc later earlier old)) then_each.0, each_more later earlier old then_each.1 each)
+
+  -- through one call, and then through another
+  pub throughout_over : (old mid : List Moment) (told : Option (List Moment)) → Throughout P old (Some mid) → Throughout P mid told → Throughout P old told
+  throughout_over old mid told first second =
+      let grown : mid ≡ first.0 ++ old = some_is mid (first.0 ++ old) first.1 in (
+        second.0 ++ first.0,
+        second.1 ∙ ap (λ (l : List Moment). Some (second.0 ++ l)) grown ∙ ap (λ (l : List Moment). Some l) (sym (append_assoc second.0 first.0 old)),
+        each_more second.0 first.0 old (subst (λ (l : List Moment). AtEach P second.0 l) grown second.2) first.2,
+      )
+
+each_all : (P Q : List Moment → Type 0) → ((l : List Moment) → P l → Q l) → (calls old : List Moment) → AtEach P calls old → AtEach Q calls old
+each_all P Q all [] old each = tt
+each_all P Q all (moment ∷ calls) old each = (all (moment ∷ calls ++ old) each.0, each_all P Q all calls old each.1)
+
+-- what holds throughout, and more
+pub throughout_all : (P Q : List Moment → Type 0) → ((l : List Moment) → P l → Q l) → (old : List Moment) (told : Option (List Moment)) → Throughout P old told → Throughout Q old told
+throughout_all P Q all old told through = (through.0, through.1, each_all P Q all through.0 old through.2)

@@ -7,7 +7,7 @@ use Rattle.ledger_disk.specs.Crashes.{LeavesOnly, MayFind, stored_entries}
 use Rattle.ledger_disk.specs.Entries.{Begins, HasBehind, Opens, body, entries_on, front}
 use Rattle.ledger_disk.specs.Steps.{HoldsLedger, LogsPut, Shuts}
 use Rattle.ledger_disk.proofs.Finding.{found_closed, found_either, has_magic, opens_just}
-use Rattle.ledger_disk.proofs.Moments.{AreWithin, PutsWithin, finds_since, finds_still, only_synced}
+use Rattle.ledger_disk.proofs.Moments.{AreWithin, PutsWithin, finds_since, finds_still, only_synced, puts_each}
 use Rattle.ledger_disk.proofs.Putting.{inside_gate, puts_gate}
 
 -- what a ledger holds is what is stored
@@ -68,6 +68,7 @@ module _ (gate : ℕ) (old : List Moment) (holds : HoldsLedger gate true (stored
           log = puts.0.log;
           tells = puts.0.tells;
           same = same;
+          during = puts_each (λ es. es ≡ E) P S old refl closed told puts.0;
           holds = holds_stored gate false E puts.0.log (record {
             short = holds.short;
             size = holds.size;
@@ -82,6 +83,7 @@ module _ (gate : ℕ) (old : List Moment) (holds : HoldsLedger gate true (stored
       log = old;
       tells = subst (λ (l : List Moment). told ≡ Some l) puts.1 puts.0.tells;
       same = refl;
+      during = ([], subst (λ (l : List Moment). told ≡ Some l) puts.1 puts.0.tells, tt);
       holds = holds;
       crash = λ count found may. inl may;
     }
@@ -100,6 +102,7 @@ module _ (gate : ℕ) (old : List Moment) (holds : HoldsLedger gate true (stored
           log = puts.0.log;
           tells = puts.0.tells;
           same = same;
+          during = puts_each (λ es. es ≡ E) P (λ c. ⊥) old refl (λ c none. absurd none) told puts.0;
           holds = holds_stored gate true E puts.0.log (record {
             short = holds.short;
             size = holds.size;

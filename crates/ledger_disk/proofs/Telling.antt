@@ -6,9 +6,10 @@ use Rattle.pool_io.specs.declared.keeper.KeeperFailed.{KeeperFailed}
 use Rattle.pool_io.specs.Outside.{AddsRecord}
 use Rattle.disk_io.specs.Calls.{WhereTold}
 use Rattle.disk_io.specs.Moments.{Moment}
-use Rattle.ledger_disk.specs.Crashes.{FindsMore, LeavesStored, MayFind, stored_entries}
+use Rattle.ledger_disk.specs.Crashes.{FindsMore, LeavesStored, MayFind, StoresMore, Throughout, stored_entries}
 use Rattle.ledger_disk.specs.Steps.{Adds, HoldsLedger, IsOnDisk, Shuts}
 use Rattle.ledger_disk.proofs.Adding.{none_tells}
+use Rattle.ledger_disk.proofs.Moments.{throughout_all, throughout_over}
 
 -- the gate was put, or wasn't, and nothing more
 pub shut_only : (bytes : List ℕ) (result : Result (Unit {0}) KeeperFailed) → IsErr result → (gate : ℕ) (old : List Moment) (told : Option (List Moment)) (is_torn : Bool)
@@ -20,6 +21,8 @@ shut_only bytes (Err error) failed gate old told is_torn shut = record {
   more = tt;
   same = shut.same;
   only = tt;
+  during = throughout_all (λ now. stored_entries now ≡ stored_entries old) (λ now. StoresMore (stored_entries old) bytes (Err error) (stored_entries now)) (λ now is. inl is)
+      old told shut.during;
   holds = shut.holds;
   crash = λ count found may. ⊎_elim (λ was. inl was) (λ now. inr (inl (now.0, inl now.1))) (shut.crash count found may);
 }
@@ -33,6 +36,10 @@ shut_first bytes result gate old mid later told is_torn shut add = record {
   more = subst (λ (es : List (List ℕ)). OnOk result (stored_entries add.log ≡ es ++ bytes ∷ [])) shut.same add.more;
   same = subst (λ (es : List (List ℕ)). OnErr result (stored_entries add.log ≡ es)) shut.same add.same;
   only = add.only;
+  during = throughout_over (λ now. StoresMore (stored_entries old) bytes result (stored_entries now)) old shut.log told
+      (throughout_all (λ now. stored_entries now ≡ stored_entries old) (λ now. StoresMore (stored_entries old) bytes result (stored_entries now)) (λ now is. inl is) old (Some shut.log)
+      (subst (λ (t : Option (List Moment)). Throughout (λ now. stored_entries now ≡ stored_entries old) old t) shut.tells shut.during))
+      (subst (λ (es : List (List ℕ)). Throughout (λ now. StoresMore es bytes result (stored_entries now)) shut.log told) shut.same add.during);
   holds = add.holds;
   crash = λ count found may.
       ⊎_elim (λ was. ⊎_elim (λ once. inl once) (λ now. inr (inl (now.0, inl now.1))) (shut.crash count found was)) (λ now. inr now)

@@ -1,10 +1,11 @@
 -- What a ledger tells of its disk, and what a crash may leave of it at each moment (this project's
 -- own).
-use Rattle.std.specs.Prelude.{ℕ, ◌+◌, ◌≡◌, ◌⊎◌, Bool, false, List, [], ◌∷◌, ◌++◌, length, OnErr, Option, Some, IfSome, Result, Ok, Err}
+use Rattle.std.specs.Prelude.{ℕ, ◌+◌, ◌≡◌, ◌⊎◌, Bool, true, false, List, [], ◌∷◌, ◌++◌, length, OnErr, Option, Some, IfSome, Result, Ok, Err}
 use Rattle.std.specs.Option.{option_map}
-use Rattle.disk_io.specs.declared.disk.DiskFailed.{DiskFailed}
-use Rattle.disk_io.specs.Calls.{DiskSeen, is_failed_call}
-use Rattle.disk_io.specs.Moments.{MayLeave, Moment, synced_content}
+use Rattle.disk_io.specs.Calls.{DiskSeen}
+use Rattle.disk_io.specs.Moments.{MayLeave, Moment, last_content, synced_content}
+use Rattle.ledger_disk.specs.declared.opening.DiskOpenError.{DiskOpenError}
+use Rattle.ledger_disk.specs.declared.opening.DiskOpenError.TheVariants.{Fault, Foreign, Memory}
 use Rattle.ledger_disk.specs.Entries.{Opens, entries_on}
 
 -- the entries that were on the disk at the last sync
@@ -50,18 +51,45 @@ FindsMore before bytes result old new =
     × ((found ≡ Some before) ⊎ (found ≡ Some (before ++ bytes ∷ []))))
     ⊎ ((count ≡ length before + 1) × (found ≡ Some (before ++ bytes ∷ [])) × OnErr result ⊥))
 
--- a ledger is made anew: a crash at any moment of it leaves none, or what one might have left before
-abbrev pub FindsNone : (old new : ℕ → Option (List (List ℕ)) → Type 0) → Type 0
-FindsNone old new =
+-- a crash at any moment of a call leaves just these entries, so many being stored, or what one might
+-- have left before
+abbrev pub FindsJust : List (List ℕ) → (old new : ℕ → Option (List (List ℕ)) → Type 0) → Type 0
+FindsJust entries old new =
     (count : ℕ) (found : Option (List (List ℕ))) → new count found
-    → old count found ⊎ ((count ≡ 0) × (found ≡ Some []))
+    → old count found ⊎ ((count ≡ length entries) × (found ≡ Some entries))
 
--- the disk that a ledger was made on, or the one that comes back
-abbrev pub disk_after : {D : Type 0} → (D → DiskSeen) → Result DiskSeen (D × DiskFailed) → DiskSeen
-disk_after seen (Ok ledger) = ledger
-disk_after seen (Err back) = seen back.0
+-- behind each of these calls P holds of what was done until then
+abbrev pub AtEach : (List Moment → Type 0) → (calls old : List Moment) → Type 0
+AtEach P [] old = Unit {0}
+AtEach P (moment ∷ calls) old = P (moment ∷ calls ++ old) × AtEach P calls old
 
--- why no ledger was made
-abbrev pub is_failed_making : {A D : Type 0} → Result A (D × DiskFailed) → Bool
-is_failed_making (Ok ledger) = false
-is_failed_making (Err back) = is_failed_call {A = Unit {0}} (Err back.1)
+-- at each moment of a call P holds of what was done until then, and the disk tells that
+abbrev pub Throughout : (List Moment → Type 0) → List Moment → Option (List Moment) → Type 0
+Throughout P old told =
+    (calls : List Moment) × (told ≡ Some (calls ++ old)) × AtEach P calls old
+
+-- at a moment of an append these entries are stored, or these and the new one, which is never so where
+-- the append fails
+abbrev pub StoresMore : {E : Type 0} → List (List ℕ) → List ℕ → Result Unit E → List (List ℕ) → Type 0
+StoresMore before bytes result stored =
+    (stored ≡ before) ⊎ ((stored ≡ before ++ bytes ∷ []) × OnErr result ⊥)
+
+-- nothing is pending: a crash leaves just what a read gives
+abbrev pub IsSettled : List Moment → Type 0
+IsSettled log = LeavesOnly (λ left. left ≡ last_content log) log
+
+-- the disk of the ledger that was opened, or the one that comes back
+abbrev pub disk_after : {A B : Type 0} → (A → DiskSeen) → (B → DiskSeen) → Result A B → DiskSeen
+disk_after of_opened of_back (Ok opened) = of_opened opened
+disk_after of_opened of_back (Err back) = of_back back
+
+-- the disk failed
+abbrev pub is_fault : DiskOpenError → Bool
+is_fault Fault = true
+is_fault Foreign = false
+is_fault Memory = false
+
+-- the disk failed while it was opened
+abbrev pub is_failed_opening : {A D : Type 0} → Result A (D × DiskOpenError) → Bool
+is_failed_opening (Ok opened) = false
+is_failed_opening (Err back) = is_fault back.1

@@ -29,6 +29,16 @@ abbrev pub is_entry : ℕ → List ℕ → Bool
 is_entry gate rest =
     gate == 1 && nat_le (said_length rest) 300100 && nat_le (4 + said_length rest + 1) (length rest)
 
+-- the entry that stands at a place, by the bytes from there on
+abbrev pub next_entry : List ℕ → Option (List ℕ)
+next_entry [] = None
+next_entry (gate ∷ rest) =
+    if is_entry gate rest then Some (take (said_length rest) (drop 4 rest)) else None
+
+-- no entry stands there
+abbrev pub HasNone : List ℕ → Type 0
+HasNone bytes = next_entry bytes ≡ None
+
 -- the entries up to the first place where none is; there are no more of them than bytes
 abbrev pub found_in : ℕ → List ℕ → List (List ℕ)
 found_in zero bytes = []

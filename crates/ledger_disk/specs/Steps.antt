@@ -1,5 +1,6 @@
 -- What the steps of an append do, and what stands on the disk between two calls of a ledger.
-use Rattle.std.specs.Prelude.{ℕ, ◌≡◌, ◌⊎◌, ◌≤◌, Bool, true, false, List, [], ◌∷◌, ◌++◌, length, OnErr, OnOk, Option, Some, IfSome, Result, Ok, Err}
+use Rattle.std.specs.Prelude.{ℕ, ◌+◌, ◌≡◌, ◌⊎◌, ◌<◌, ◌≤◌, Bool, true, false, List, [], ◌∷◌, ◌++◌, length, take, drop, OnErr, OnOk, Option, None, Some, IfSome, Result, Ok, Err}
+use Rattle.std.specs.Int.{w32, to_le_bytes}
 use Rattle.disk_io.specs.declared.disk.DiskFailed.{DiskFailed}
 use Rattle.disk_io.specs.declared.disk.DiskFailed.TheVariants as disk
 use Rattle.disk_io.specs.declared.disk.Doing.TheVariants.{Wrote, Synced}
@@ -9,8 +10,8 @@ use Rattle.pool_io.specs.declared.keeper.KeeperFailed.{KeeperFailed}
 use Rattle.pool_io.specs.declared.keeper.KeeperFailed.TheVariants as keeper
 use Rattle.ledger_disk.specs.declared.steps.PutFailed.{PutFailed}
 use Rattle.ledger_disk.specs.declared.steps.PutFailed.TheVariants.{Unwritten, Unsure}
-use Rattle.ledger_disk.specs.Crashes.{FindsMore, FindsNone, LeavesOnly, LeavesStored, MayFind, stored_entries}
-use Rattle.ledger_disk.specs.Entries.{AreShort, Begins, HasBehind, IsBlank, body, front}
+use Rattle.ledger_disk.specs.Crashes.{FindsJust, FindsMore, IsSettled, LeavesOnly, LeavesStored, MayFind, StoresMore, Throughout, stored_entries}
+use Rattle.ledger_disk.specs.Entries.{AreShort, Begins, HasBehind, HasNone, IsBlank, Opens, body, front}
 
 -- bytes were put: written and synced; written, or some of them, and not synced; or not written
 abbrev pub LogsPut : ℕ → List ℕ → Result Unit PutFailed → List Moment → Option (List Moment) → Type 0
@@ -70,6 +71,7 @@ pub record Shuts (gate : ℕ) (old : List Moment) (told : Option (List Moment)) 
   pub log : List Moment
   pub tells : told ≡ Some log
   pub same : stored_entries log ≡ stored_entries old
+  pub during : Throughout (λ now. stored_entries now ≡ stored_entries old) old told
   pub holds : HoldsLedger gate is_torn (stored_entries log) log
   pub crash : (count : ℕ) (found : Option (List (List ℕ))) → MayFind log count found
       → MayFind old count found
@@ -83,6 +85,8 @@ pub record Adds (bytes : List ℕ) (result : Result Unit KeeperFailed) (gate : �
   pub more : OnOk result (stored_entries log ≡ stored_entries old ++ bytes ∷ [])
   pub same : OnErr result (stored_entries log ≡ stored_entries old)
   pub only : OnOk result (LeavesStored log)
+  pub during : Throughout (λ now. StoresMore (stored_entries old) bytes result (stored_entries now)) old
+      told
   pub holds : HoldsLedger later is_torn (stored_entries log) log
   pub crash : FindsMore (stored_entries old) bytes result (MayFind old) (MayFind log)
 
@@ -93,4 +97,52 @@ pub record Makes (result : Result Unit DiskFailed) (old : List Moment) (told : O
   pub none : OnOk result (stored_entries log ≡ [])
   pub only : OnOk result (LeavesStored log)
   pub holds : OnOk result (HoldsLedger 8 false (stored_entries log) log)
-  pub crash : LeavesOnly IsBlank old → FindsNone (MayFind old) (MayFind log)
+  pub during : LeavesOnly IsBlank old → Throughout (λ now. stored_entries now ≡ []) old told
+  pub crash : LeavesOnly IsBlank old → FindsJust [] (MayFind old) (MayFind log)
+
+-- these entries stand on a disk before this place
+pub record HoldsFront (at : ℕ) (entries : List (List ℕ)) (content : List ℕ) : Type 0 where
+  pub short : AreShort entries
+  pub size : length (front entries) ≡ at
+  pub begins : take at content ≡ front entries
+
+-- these entries stand on a disk, and none behind them, where the last gate is at this place
+pub record HoldsEntries (gate : ℕ) (entries : List (List ℕ)) (content : List ℕ) : Type 0 where
+  pub short : AreShort entries
+  pub size : length (front entries) ≡ gate
+  pub begins : take gate content ≡ front entries
+  pub inside : gate < length content
+  pub ends : HasNone (drop gate content)
+
+-- the length of an entry was read, from its gate on
+abbrev pub ReadsLength : List ℕ → Result (Option ℕ) DiskFailed → Type 0
+ReadsLength bytes (Ok (Some count)) = take 5 bytes ≡ 1 ∷ to_le_bytes w32 count
+ReadsLength bytes (Ok None) = HasNone bytes
+ReadsLength bytes (Err error) = Unit {0}
+
+-- an entry was read, from its gate on
+abbrev pub ReadsEntry : List ℕ → Result (Option (List ℕ)) DiskFailed → Type 0
+ReadsEntry bytes (Ok (Some entry)) = take (5 + length entry) bytes ≡ 1 ∷ body entry
+ReadsEntry bytes (Ok None) = HasNone bytes
+ReadsEntry bytes (Err error) = Unit {0}
+
+-- the disk of a ledger was cut and its last gate closed, or not
+pub record Closes (result : Result Unit DiskFailed) (gate : ℕ) (entries : List (List ℕ))
+    (old : List Moment) (told : Option (List Moment)) : Type 0 where
+  pub log : List Moment
+  pub tells : told ≡ Some log
+  pub stored : OnOk result (stored_entries log ≡ entries)
+  pub only : OnOk result (LeavesStored log)
+  pub holds : OnOk result (HoldsLedger gate false (stored_entries log) log)
+  pub during : IsSettled old → Throughout (λ now. stored_entries now ≡ entries) old told
+  pub crash : IsSettled old → FindsJust entries (MayFind old) (MayFind log)
+
+-- the disk has become a ledger of just the entries that opening it finds
+pub record BecomesLedger (gate : ℕ) (entries : List (List ℕ)) (old : List Moment)
+    (told : Option (List Moment)) : Type 0 where
+  pub log : List Moment
+  pub tells : told ≡ Some log
+  pub opens : Opens (last_content old) (Some entries)
+  pub stored : stored_entries log ≡ entries
+  pub only : LeavesStored log
+  pub holds : HoldsLedger gate false (stored_entries log) log

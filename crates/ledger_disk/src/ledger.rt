@@ -1,18 +1,22 @@
 //! The ledger: its entries stand behind each other, and a gate before each says whether it counts.
 
-ghost use Rattle.std.specs.Prelude.{◌≡◌, ◌≤◌, ◌<◌, ◌^◌, ◌++◌, ◌∷◌, [], IfOk, None, OnErr, OnOk, Some, false, length, List, ℕ};
+ghost use Rattle.std.specs.Prelude.{◌≡◌, ◌≤◌, ◌<◌, ◌^◌, ◌++◌, ◌∷◌, [], IfErr, IfOk, None, OnErr, OnOk, Some, false, length, List, ℕ};
 ghost use Rattle.std.specs.Option.{option_map};
 ghost use Rattle.pool_io.specs.Outside.{AddsRecord, CountsFailure, is_failed_append};
-ghost use Rattle.disk_io.specs.Calls.{WhereTold, is_failed_call};
-ghost use Rattle.ledger_disk.specs.Crashes.{FindsMore, FindsNone, LeavesOnly, LeavesStored, MayBeFound, MayFind, disk_after, entries_told, is_failed_making, stored_entries};
-ghost use Rattle.ledger_disk.specs.Entries.{IsBlank, body};
-ghost use Rattle.ledger_disk.specs.Steps.{Adds, HoldsLedger, Makes, Shuts, keeper_failed_by};
+ghost use Rattle.disk_io.specs.Calls.{WhereTold};
+ghost use Rattle.disk_io.specs.Moments.{last_content};
+ghost use Rattle.ledger_disk.specs.declared.opening.DiskOpenError.TheVariants.{Foreign};
+ghost use Rattle.ledger_disk.specs.Crashes.{FindsJust, FindsMore, IsSettled, LeavesStored, MayBeFound, MayFind, StoresMore, Throughout, disk_after, entries_told, is_failed_opening, stored_entries};
+ghost use Rattle.ledger_disk.specs.Entries.{IsForeign, Opens, body, entries_on};
+ghost use Rattle.ledger_disk.specs.Steps.{Adds, HoldsLedger, Shuts, keeper_failed_by};
 
-use crate::steps::{PutFailed, put, try_put};
+use crate::opening::{DiskOpenError, open_disk, open_failed};
+use crate::steps::{PutFailed, put};
 use disk_io::{Disk, DiskFailed};
 use pool_io::{Keeper, KeeperFailed};
 use std::alloc::{AllocError, Global};
 use std::marker::Model;
+use sv2_types::Blob;
 
 /// A disk that holds a ledger. Contracts see its disk.
 #[derive(Drop)]
@@ -40,26 +44,41 @@ impl<D: Disk> Model for DiskLedger<D> {
 const MOST: u64 = 1 << 62;
 
 impl<D: Disk> DiskLedger<D> {
-    /// Makes a ledger of no entry on a disk, of which nothing stays, in five steps: all is cut off; the
-    /// magic is written; that is synced; a closed gate is written behind it; that is synced.
-    pub fn anew(alloc: Global, disk: D) -> Result<DiskLedger<D>, (D, DiskFailed)>
-        ensures none { IfOk result (λ ledger.
-            entries_told ledger ≡ option_map (λ log. []) (D.seen disk).log) }
-        ensures stored { IfOk result (λ ledger. WhereTold ledger.log LeavesStored) }
-        ensures crash { WhereTold (D.seen disk).log (λ log. LeavesOnly IsBlank log
-            → FindsNone (MayFind log) (MayBeFound (disk_after D.seen result))) }
-        ensures counts { CountsFailure (is_failed_making result) (D.seen disk).faults
-            (disk_after D.seen result).faults }
+    /// Opens the ledger on a disk, and answers its entries; a disk of at most eight bytes is made one of
+    /// no entry. What stands behind the entries is cut off, and their last gate closed. After a fault
+    /// and after lack of memory this may have been done in part.
+    pub fn open(alloc: Global, disk: D) -> Result<(DiskLedger<D>, Vec<Blob>), (D, DiskOpenError)>
+        ensures found { IfOk result (λ opened. WhereTold (D.seen disk).log
+            (λ log. Opens (last_content log) (Some opened.1.items))) }
+        ensures kept { IfOk result (λ opened. entries_told opened.0
+            ≡ option_map (λ log. opened.1.items) (D.seen disk).log) }
+        ensures stored { IfOk result (λ opened. WhereTold opened.0.log LeavesStored) }
+        ensures foreign { IfErr result (λ back. back.1 ≡ Foreign
+            → WhereTold (D.seen disk).log (λ log. IsForeign (last_content log))) }
+        ensures untouched { WhereTold (D.seen disk).log (λ log. IsForeign (last_content log)
+            → (disk_after (λ opened. opened.0) (λ back. D.seen back.0) result).log ≡ Some log) }
+        ensures crash { WhereTold (D.seen disk).log (λ log. IsSettled log
+            → FindsJust (entries_on (last_content log)) (MayFind log)
+            (MayBeFound (disk_after (λ opened. opened.0) (λ back. D.seen back.0) result))) }
+        ensures during { WhereTold (D.seen disk).log (λ log. IsSettled log
+            → Throughout (λ now. stored_entries now ≡ entries_on (last_content log)) log
+            (disk_after (λ opened. opened.0) (λ back. D.seen back.0) result).log) }
+        ensures counts { CountsFailure (is_failed_opening result) (D.seen disk).faults
+            (disk_after (λ opened. opened.0) (λ back. D.seen back.0) result).faults }
     {
         let mut disk = disk;
-        match make_ledger(&mut disk) {
-            Ok(()) => Ok(DiskLedger {
-                alloc,
-                disk,
-                gate: 8,
-                is_torn: false,
-            }),
-            Err(error) => Err((disk, error)),
+        match open_disk(alloc, &mut disk) {
+            Ok(Some((entries, gate))) => {
+                let ledger = DiskLedger {
+                    alloc,
+                    disk,
+                    gate,
+                    is_torn: false,
+                };
+                Ok((ledger, entries))
+            }
+            Ok(None) => Err((disk, DiskOpenError::Foreign)),
+            Err(error) => Err((disk, open_failed(error))),
         }
     }
 
@@ -73,6 +92,9 @@ impl<D: Disk> DiskLedger<D> {
         ensures stored { OnOk result (WhereTold self.new.log LeavesStored) }
         ensures crash { (before : List (List ℕ)) → entries_told self.old ≡ Some before
             → FindsMore before bytes.now result (MayBeFound self.old) (MayBeFound self.new) }
+        ensures during { WhereTold self.old.log (λ log. Throughout
+            (λ now. StoresMore (stored_entries log) bytes.now result (stored_entries now)) log
+            self.new.log) }
         ensures counts { CountsFailure (is_failed_append result) self.old.faults self.new.faults }
     {
         let Ok(entry) = entry_of(self.alloc, bytes) else {
@@ -107,19 +129,6 @@ impl<D: Disk> Keeper for DiskLedger<D> {
     fn append(&mut self, bytes: &[u8]) -> Result<(), KeeperFailed> {
         DiskLedger::append(self, bytes)
     }
-}
-
-/// Makes a ledger of no entry, of whatever is there.
-fn make_ledger<D: Disk>(disk: &mut D) -> Result<(), DiskFailed>
-    ensures makes { WhereTold (D.seen disk.old).log
-        (λ log. Makes result log (D.seen disk.new).log) }
-    ensures untold { (D.seen disk.old).log ≡ None → (D.seen disk.new).log ≡ None }
-    ensures counts { CountsFailure (is_failed_call result) (D.seen disk.old).faults
-        (D.seen disk.new).faults }
-{
-    disk.cut(0)?;
-    try_put(disk, 0, b"SV2DISK1")?;
-    try_put(disk, 8, &[0])
 }
 
 /// The length and the bytes of an entry, and a closed gate behind it.

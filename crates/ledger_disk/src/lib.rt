@@ -3,6 +3,9 @@
 #![tactic(auto)]
 
 mod ledger;
+mod opening;
+mod reading;
 mod steps;
 
 pub use ledger::DiskLedger;
+pub use opening::DiskOpenError;

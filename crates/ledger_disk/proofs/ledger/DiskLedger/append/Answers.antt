@@ -1,7 +1,7 @@
 use Rattle.std.proofs.Common.{OnErr, OnOk, ◌≡◌, ◌∙◌, ap, subst}
 use Rattle.pool_io.specs.Outside.{AddsRecord}
-use Rattle.disk_io.specs.Calls.{DiskSeen}
-use Rattle.ledger_disk.specs.Crashes.{FindsMore, MayBeFound, entries_told}
+use Rattle.disk_io.specs.Calls.{DiskSeen, WhereTold}
+use Rattle.ledger_disk.specs.Crashes.{FindsMore, MayBeFound, StoresMore, Throughout, entries_told, stored_entries}
 use Rattle.ledger_disk.proofs.Telling.{added_finds, added_more, added_none, added_on_disk, added_only}
 use Rattle.ledger_disk.proofs.ledger.DiskLedger.append.Goals as goal
 
@@ -33,3 +33,9 @@ returns-clause-crash g c = λ before is.
     (added_finds c.args.bytes.now c.self.inside.gate c.write_entry.new.gate c.write_entry.new.is_torn c.write_entry.result
     (g.D.Disk.seen c.self.inside.disk).log (g.D.Disk.seen c.write_entry.new.disk).log c.write_entry.ensures.untold c.write_entry.ensures.adds
     before (ap entries_told c.self.view_is ∙ is))
+
+pub returns-clause-during : goal.returns-clause-during
+returns-clause-during g c =
+    subst (λ (d : DiskSeen). WhereTold d.log
+    (λ log. Throughout (λ now. StoresMore (stored_entries log) c.args.bytes.now c.write_entry.result (stored_entries now)) log (g.D.Disk.seen c.write_entry.new.disk).log)) c.self.view_is
+    (λ log is. (c.write_entry.ensures.adds log is).during)
