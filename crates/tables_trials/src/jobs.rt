@@ -43,6 +43,10 @@ impl Subject for Told {
                 let (all, own, tip) = (jobs.count(), jobs.own_count(), jobs.tip().is_some());
                 format!(in alloc; "jobs {all} own {own} tip {tip}").ok()
             }
+            "span" => {
+                let span = jobs.live_span();
+                format!(in alloc; "{} {}", span.oldest, span.newest).ok()
+            }
             _ => None,
         }
     }
