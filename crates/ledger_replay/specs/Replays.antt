@@ -1,6 +1,7 @@
 -- What a replay was told, and what it answers (this project's own).
-use Rattle.std.specs.Prelude.{◌≡◌, ℕ, true, None, Some, Result, Ok, Err, List, [], ◌∷◌, length}
+use Rattle.std.specs.Prelude.{◌≡◌, ℕ, true, None, Some, Result, Ok, Err, List, [], ◌∷◌, length, map}
 use Rattle.history_laws.specs.AskedPlaces.{is_asked_after}
+use Rattle.channels.specs.Cuts.{with_cut}
 use Rattle.channels.specs.Tables.{ChannelTable, IsTold}
 use Rattle.grant_table.specs.Tables.{GrantTable, ShowsGrants}
 use Rattle.coinbase.specs.declared.error.OutputsError.{OutputsError}
@@ -84,6 +85,13 @@ IsJudged past event (Err error.Memory) tables = WereReplayed tables past
 abbrev pub Judges : Replay → Event → Result Unit ReplayError → Replay → Type 0
 Judges old event result new =
     (past : List Event) → WasReplayed old past → IsJudged past event result (tables_of new)
+
+-- a class that is set forgets those that no one asks for within the bounds of the live jobs, and no
+-- others
+abbrev pub ForgetsClasses : Replay → ℕ → ℕ → Replay → Type 0
+ForgetsClasses old channel class new =
+    new.channels.open_channels
+    ≡ map (with_cut old.events channel class old.jobs.span) old.channels.open_channels
 
 -- the replay of the first event, or its cause
 abbrev pub Begins : Event → Result Replay ReplayError → Type 0

@@ -12,7 +12,7 @@ use sv2_types::Str255;
 impl Replay {
     ghost use Rattle.std.specs.Prelude.{◌≡◌, ◌+◌, ◌<◌, ◌-◌, ◌^◌, OnOk};
     ghost use Rattle.pool_history.specs.declared.events.Event.TheVariants as event;
-    ghost use Rattle.ledger_replay.specs.Replays.{Judges, event_count};
+    ghost use Rattle.ledger_replay.specs.Replays.{ForgetsClasses, Judges, event_count};
 
     /// A Name.
     pub fn name(&mut self, session: u32, channel: u32, account: Str255) -> Result<(), ReplayError>
@@ -41,6 +41,7 @@ impl Replay {
     pub fn set_class(&mut self, session: u32, channel: u32, class: u8) -> Result<(), ReplayError>
         requires { event_count self.old < 2 ^ 64 - 1 }
         ensures judged { Judges self.old (event.Class session channel class) result self.new }
+        ensures cut { OnOk result (ForgetsClasses self.old channel class self.new) }
         ensures counts { OnOk result (event_count self.new ≡ event_count self.old + 1) }
     {
         other_events_leave_sessions();

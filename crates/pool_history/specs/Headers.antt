@@ -7,7 +7,7 @@ use Rattle.block_header.specs.Root.{root}
 use Rattle.pool_history.specs.declared.events.Kind.{Kind}
 use Rattle.pool_history.specs.declared.events.Kind.TheVariants.{Standard, Extended, V1}
 
--- what an open channel and a job give to a header
+-- what an open channel, a job and the last tip give to a header
 pub record Briefing : Type 0 where
   pub prefix : List ℕ
   pub suffix : List ℕ

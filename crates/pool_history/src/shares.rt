@@ -38,7 +38,8 @@ pub struct RootSource {
     pub path: Hashes,
 }
 
-/// What an open channel and a live job give to a header. Contracts see it as a record of these.
+/// What an open channel, a live job and the last tip give to a header. Contracts see it as a record of
+/// these.
 #[derive(Debug, Drop)]
 pub struct Brief {
     /// Shared with the job.

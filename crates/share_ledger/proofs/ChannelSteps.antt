@@ -44,7 +44,7 @@ use Rattle.share_ledger.specs.declared.planning.Change.TheVariants as change
 use Rattle.share_ledger.specs.declared.planning.Step.{Step}
 use Rattle.share_ledger.specs.declared.planning.Step.TheVariants as step
 use Rattle.share_ledger.specs.ChannelSteps.{IsNamingPlan, IsOpeningPlan, class_step, name_step, open_step}
-use Rattle.share_ledger.specs.Planning.{ClosesOwn, IsStep, IsStepWithin, MovesChannels, past_in}
+use Rattle.share_ledger.specs.Planning.{ClosesOwn, ForgetsWithin, IsStep, IsStepWithin, MovesChannels, past_in}
 use Rattle.share_ledger.specs.Tables.{AreTables, LedgerTables}
 use Rattle.share_ledger.proofs.Within.{at_past, within_by}
 
@@ -148,6 +148,7 @@ module _ (old : LedgerTables) (is : AreTables old) (session : ℕ) (shown : Tabl
               ∷ channel_moves (past_in old)) (at_past old is);
           ready = subst (CanApply channels) o.is ready;
           asked = tt;
+          spanned = tt;
         },
       ))
 
@@ -238,6 +239,7 @@ module _ (old : LedgerTables) (is : AreTables old) (session : ℕ) (shown : Tabl
           moves = refl;
           ready = subst (CanApply channels) o.2 ready;
           asked = tt;
+          spanned = tt;
         },
       ))
 
@@ -333,9 +335,9 @@ module _ (old : LedgerTables) (is : AreTables old) (session : ℕ) (shown : Tabl
   pub update-made : (channels : ChannelTable) (id : ℕ) (target : List ℕ) (present : ℕ) (planned : ChannelPlan) (span : LiveSpan)
       → Some present ≡ option_map present_class (channel_in (channels_in old.channels.open_channels session) id) → class_of_target target ≤ 60
       → nat_eq (class_for rules target) present ≡ false → planned ≡ plan.Class (length old.history.events) id (class_for rules target) span
-      → CanApply channels planned → AreLiveWithin span ((kept_jobs old.jobs).live ++ (kept_jobs old.jobs).custom)
+      → CanApply channels planned → AreLiveWithin span ((kept_jobs old.jobs).live ++ (kept_jobs old.jobs).custom) → span ≡ old.jobs.span
       → IsStepWithin old (record old { channels = channels }) session (request.Update id target) (class_step session id (class_for rules target) planned)
-  update-made channels id target present planned span some near other is_plan ready within =
+  update-made channels id target present planned span some near other is_plan ready within is_span =
       let c = class-found _ present (class_is id (Some present) some) in
       within_by old is rules are session (request.Update id target) (record old { channels = channels }) (class_step session id (class_for rules target) planned) (
         updated id target c.0 c.1 near
@@ -350,6 +352,7 @@ module _ (old : LedgerTables) (is : AreTables old) (session : ℕ) (shown : Tabl
           asked = subst (IsAskedAsPlanned (is_asked_after (event.Class session id (class_for rules target) ∷ past_in old))) (sym is_plan)
               (λ place h. subst (λ n. ((span.oldest ≤ place) × (place ≤ span.newest)) ⊎ (n < place)) (at_past old is)
               (asked-within span (past_in old) session id (class_for rules target) place (living span within) h));
+          spanned = subst (ForgetsWithin old.jobs.span) (sym is_plan) is_span;
         },
       )
 

@@ -42,7 +42,7 @@ use Rattle.share_ledger.specs.declared.planning.Change.TheVariants as change
 use Rattle.share_ledger.specs.declared.planning.Crediting.{Crediting}
 use Rattle.share_ledger.specs.declared.planning.Step.TheVariants as step
 use Rattle.share_ledger.specs.Planning.{BooksShare, HasFee, IsStepWithin, past_in, planned_credit, step_within}
-use Rattle.share_ledger.specs.Shares.{HasAccount, IsPassed, Passes, failed_within}
+use Rattle.share_ledger.specs.Shares.{HasChannel, IsPassed, Passes, failed_within}
 use Rattle.share_ledger.specs.Tables.{AreTables, LedgerTables}
 use Rattle.share_ledger.proofs.Within.{within_by}
 
@@ -222,7 +222,7 @@ module _ (old : LedgerTables) (is : AreTables old) (session : ℕ) (rules : Rule
       (booked-found (past_in old) share.channel share.job with (admission-booked rules (past_in old) session share with admitted)).channel_is
 
   pub has_account : TablesShowHistories → (share : Share) (header : List ℕ) (block : Bool) (work reward : ℕ)
-      → Passes rules (past_in old) session share header block work reward → HasAccount (channel_in old.channels.open_channels share.channel)
+      → Passes rules (past_in old) session share header block work reward → HasChannel (channel_in old.channels.open_channels share.channel)
   has_account shown share header block work reward p =
       let kept = there shown share p.with p.admitted in record { channel = kept.0; is = kept.1 }
 

@@ -8,6 +8,7 @@ use Rattle.pool_history.specs.declared.events.Role.{Role}
 use Rattle.pool_history.specs.declared.replies.Reply.{Reply}
 use Rattle.pool_history.specs.declared.replies.Reply.TheVariants as reply
 use Rattle.pool_history.specs.declared.settings.Rules.{Rules}
+use Rattle.pool_history.specs.declared.spans.LiveSpan.{LiveSpan}
 use Rattle.pool_history.specs.declared.templates.CustomData.{CustomData}
 use Rattle.pool_history.specs.declared.templates.TemplateData.{TemplateData}
 use Rattle.pool_history.specs.declared.templates.TipData.{TipData}
@@ -21,6 +22,7 @@ use Rattle.history_laws.specs.AskedPlaces.{is_asked_after}
 use Rattle.ledger_laws.specs.Keeping.{KeepsOn}
 use Rattle.channels.specs.Plans.{CanApply, IsAskedAsPlanned, planned_move}
 use Rattle.channels.specs.declared.plan.ChannelPlan.{ChannelPlan}
+use Rattle.channels.specs.declared.plan.ChannelPlan.TheVariants as channel_plan
 use Rattle.event_store.specs.Blocks.{is_block_event}
 use Rattle.grant_table.specs.Tables.{MaySpend, granted_count}
 use Rattle.payouts.specs.Plans.{BlockPlan, Planning}
@@ -88,6 +90,12 @@ IsOfChannels (event.Credit session channel job nonce ntime version extranonce) =
 IsOfChannels (event.Grant session account fixed path) = ⊥
 IsOfChannels (event.Custom session custom) = ⊥
 
+-- a class that is set forgets those that no one asks for within these bounds, and no others
+abbrev pub ForgetsWithin : LiveSpan → ChannelPlan → Type 0
+ForgetsWithin live (channel_plan.Open at session kind account opened) = Unit {0}
+ForgetsWithin live (channel_plan.Name channel account) = Unit {0}
+ForgetsWithin live (channel_plan.Class at channel class span) = span ≡ live
+
 -- the open channels are changed as was planned
 pub record MovesChannels (tables : LedgerTables) (next : Event) (plan : ChannelPlan) : Type 0 where
   pub only : IsOfChannels next
@@ -95,6 +103,7 @@ pub record MovesChannels (tables : LedgerTables) (next : Event) (plan : ChannelP
       ≡ planned_move plan ∷ channel_moves (past_in tables)
   pub ready : CanApply tables.channels plan
   pub asked : IsAskedAsPlanned (is_asked_after (next ∷ past_in tables)) plan
+  pub spanned : ForgetsWithin tables.jobs.span plan
 
 -- a session's open channel is closed
 pub record ClosesOwn (tables : LedgerTables) (next : Event) (session channel : ℕ) : Type 0 where

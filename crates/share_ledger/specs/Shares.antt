@@ -33,6 +33,6 @@ pub record IsPassed (past : List Event) (session : ℕ) (share : Share) (header 
   pub passes : Passes rules past session share header is_block work reward
 
 -- a channel is there
-pub record HasAccount (there : Option OpenChannel) : Type 0 where
+pub record HasChannel (there : Option OpenChannel) : Type 0 where
   pub channel : OpenChannel
   pub is : there ≡ Some channel

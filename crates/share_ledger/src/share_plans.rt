@@ -129,7 +129,7 @@ ghost use Rattle.std.specs.Option.{option_map};
 ghost use Rattle.pool_history.specs.Channels.{channel_in};
 ghost use Rattle.payouts.specs.Plans.{Fits, IsPlanOf};
 ghost use Rattle.payouts.specs.Tallies.{DiffersInRoom};
-ghost use Rattle.share_ledger.specs.Shares.{HasAccount};
+ghost use Rattle.share_ledger.specs.Shares.{HasChannel};
 
 /// Plans the push of a share's work for its channel's account, and its block where it is one.
 fn plan_push(
@@ -139,7 +139,7 @@ fn plan_push(
     fee: u16,
     passed: &Passed,
 ) -> Result<TallyPlan, AllocError>
-    requires there { HasAccount (channel_in channels.now.open_channels channel) }
+    requires there { HasChannel (channel_in channels.now.open_channels channel) }
     requires few { tally.old.pushes + 1 < 2 ^ 24 }
     requires small { IsPayable passed.now.work passed.now.reward }
     requires fee { fee ≤ 10000 }

@@ -1,5 +1,5 @@
 -- One more job, or a tip: what the table keeps is what is kept of the jobs after one more move.
-use Rattle.std.proofs.Common.{◌≡◌, ℕ, ◌+◌, ◌-◌, ◌<◌, ◌≤◌, ◌^◌, Bool, true, false, Option, None, Some, List, [], ◌∷◌, ◌++◌, length, map, refl, ap, sym, subst, ◌∙◌, arith}
+use Rattle.std.proofs.Common.{◌≡◌, ℕ, ◌+◌, ◌-◌, ◌<◌, ◌≤◌, ◌^◌, Bool, true, false, if◌then◌else◌, Option, None, Some, List, [], ◌∷◌, ◌++◌, length, map, refl, ap, sym, subst, ◌∙◌, arith}
 use Rattle.std.proofs.lemmas.List.{length-map, map-append}
 use Rattle.std.specs.List.{AllByRecursion}
 use Rattle.coinbase.specs.Parts.{Parts}
@@ -7,6 +7,7 @@ use Rattle.history_laws.specs.KeptJobs.{OwnJob, keeping_template}
 use Rattle.history_laws.proofs.Holding.{all-find}
 use Rattle.history_laws.proofs.NotesFit.{all-append}
 use Rattle.pool_history.specs.declared.templates.CustomData.{CustomData}
+use Rattle.pool_history.specs.declared.spans.LiveSpan.{LiveSpan}
 use Rattle.pool_history.specs.declared.templates.TipData.{TipData}
 use Rattle.pool_history.specs.Jobs.{Came, Brought, FromMiner, FromTemplate, Job, Source, Tipped, has_template, last}
 use Rattle.pool_history.specs.Judging.{job_parts}
@@ -16,6 +17,7 @@ use Rattle.template_jobs.specs.Lists.{of_template, turned_live, without_surplus}
 use Rattle.template_jobs.specs.Plans.{IsPlannedAs, PlannedJob, move_of}
 use Rattle.template_jobs.specs.Tables.{AppliesPlan, IsSameButRoom, IsWithinLimits, JobTable, TakesMove, kept_jobs, templates_of}
 use Rattle.template_jobs.specs.Owners.{own_job}
+use Rattle.template_jobs.specs.Spans.{widened_by}
 use Rattle.template_jobs.specs.declared.owner.Owner.{Owner}
 use Rattle.template_jobs.proofs.Mapped.{future_in-map, last-map, live-map}
 use Rattle.template_jobs.proofs.Parts.{all-drop, all-left, all-right}
@@ -67,7 +69,7 @@ joined-last most jobs job = sym (last-map as_job most (jobs ++ job ∷ [])) ∙ 
 module _ (script : List ℕ) (old : JobTable) (room session at : ℕ) (coinbase : Parts) where
   joined-future : (source : Source) → shelf_of source ≡ shelf.Future → coinbase ≡ job_parts source script
       → TakesMove script (move_of session at source) old
-      (record { count = old.count + 1; own = old.own; future = last 16 (old.future ++ joining (old.count + 1) session at None source coinbase ∷ []); live = old.live; custom = old.custom; tip = old.tip; room = room })
+      (record { count = old.count + 1; own = old.own; future = last 16 (old.future ++ joining (old.count + 1) session at None source coinbase ∷ []); live = old.live; custom = old.custom; tip = old.tip; span = old.span; room = room })
   joined-future (FromMiner custom) place is = absurd cc
   joined-future (FromTemplate template) place is =
       let job : HeldJob = joining (old.count + 1) session at None (FromTemplate template) coinbase in
@@ -75,6 +77,7 @@ module _ (script : List ℕ) (old : JobTable) (room session at : ℕ) (coinbase 
         kept = subst (λ b. record (kept_jobs old) { count = old.count + 1; future = map as_job (last 16 (old.future ++ job ∷ [])) } ≡ keeping_template (as_job job) b (kept_jobs old))
             (sym (is-future template.future_template place))
             (ap (λ l. record (kept_jobs old) { count = old.count + 1; future = l }) (joined-last 16 old.future job));
+        spans = subst (λ b. old.span ≡ (if b then old.span else widened_by at old.span)) (sym (is-future template.future_template place)) refl;
         coinbases = λ all. all-three (HasCoinbase script) (last 16 (old.future ++ job ∷ [])) old.live old.custom
             (all-last (HasCoinbase script) 16 old.future job (all-left (HasCoinbase script) old.future old.live (all-left (HasCoinbase script) (old.future ++ old.live) old.custom all)) is)
             (all-right (HasCoinbase script) old.future old.live (all-left (HasCoinbase script) (old.future ++ old.live) old.custom all))
@@ -83,7 +86,7 @@ module _ (script : List ℕ) (old : JobTable) (room session at : ℕ) (coinbase 
 
   joined-live : (source : Source) → shelf_of source ≡ shelf.Live → coinbase ≡ job_parts source script
       → TakesMove script (move_of session at source) old
-      (record { count = old.count + 1; own = old.own; future = old.future; live = last 64 (old.live ++ joining (old.count + 1) session at (Some at) source coinbase ∷ []); custom = old.custom; tip = old.tip; room = room })
+      (record { count = old.count + 1; own = old.own; future = old.future; live = last 64 (old.live ++ joining (old.count + 1) session at (Some at) source coinbase ∷ []); custom = old.custom; tip = old.tip; span = widened_by at old.span; room = room })
   joined-live (FromMiner custom) place is = absurd cc
   joined-live (FromTemplate template) place is =
       let job : HeldJob = joining (old.count + 1) session at (Some at) (FromTemplate template) coinbase in
@@ -91,6 +94,7 @@ module _ (script : List ℕ) (old : JobTable) (room session at : ℕ) (coinbase 
         kept = subst (λ b. record (kept_jobs old) { count = old.count + 1; live = map as_job (last 64 (old.live ++ job ∷ [])) } ≡ keeping_template (as_job (joining (old.count + 1) session at None (FromTemplate template) coinbase)) b (kept_jobs old))
             (sym (is-ready template.future_template place))
             (ap (λ l. record (kept_jobs old) { count = old.count + 1; live = l }) (joined-last 64 old.live job));
+        spans = subst (λ b. widened_by at old.span ≡ (if b then old.span else widened_by at old.span)) (sym (is-ready template.future_template place)) refl;
         coinbases = λ all. all-three (HasCoinbase script) old.future (last 64 (old.live ++ job ∷ [])) old.custom
             (all-left (HasCoinbase script) old.future old.live (all-left (HasCoinbase script) (old.future ++ old.live) old.custom all))
             (all-last (HasCoinbase script) 64 old.live job (all-right (HasCoinbase script) old.future old.live (all-left (HasCoinbase script) (old.future ++ old.live) old.custom all)) is)
@@ -109,6 +113,7 @@ module _ (script : List ℕ) (old : JobTable) (room session at : ℕ) (coinbase 
         live = old.live;
         custom = without_surplus channel (old.custom ++ joining (old.count + 1) 0 at (Some at) (FromMiner custom) coinbase ∷ []);
         tip = old.tip;
+        span = widened_by at old.span;
         room = room;
       })
   joined-custom channel custom same is =
@@ -121,11 +126,13 @@ module _ (script : List ℕ) (old : JobTable) (room session at : ℕ) (coinbase 
         live = old.live;
         custom = without_surplus n (old.custom ++ job ∷ []);
         tip = old.tip;
+        span = widened_by at old.span;
         room = room;
       })) same
       (record {
         kept = ap (λ l. record (kept_jobs old) { count = old.count + 1; own = old.own ++ record { number = old.count + 1; channel = custom.channel_id } ∷ []; custom = l })
             (sym (sixteen-map custom.channel_id (old.custom ++ job ∷ [])) ∙ ap (Rattle.pool_history.specs.Jobs.at_most_sixteen custom.channel_id) (map-append as_job old.custom (job ∷ [])));
+        spans = refl;
         coinbases = λ all. all-three (HasCoinbase script) old.future old.live (without_surplus custom.channel_id (old.custom ++ job ∷ []))
             (all-left (HasCoinbase script) old.future old.live (all-left (HasCoinbase script) (old.future ++ old.live) old.custom all))
             (all-right (HasCoinbase script) old.future old.live (all-left (HasCoinbase script) (old.future ++ old.live) old.custom all))
@@ -142,6 +149,7 @@ module _ (script : List ℕ) (old : JobTable) (room session at : ℕ) (coinbase 
         live = old.live;
         custom = without_surplus channel (old.custom ++ joining (old.count + 1) 0 at (Some at) source coinbase ∷ []);
         tip = old.tip;
+        span = widened_by at old.span;
         room = room;
       })
   joined-own channel (FromMiner custom) place is = joined-custom channel custom (own-shelf custom.channel_id channel place) is
@@ -151,35 +159,48 @@ module _ (script : List ℕ) (old : JobTable) (room session at : ℕ) (coinbase 
   pub joins-future : (shown : JobTable) (source : Source) (jobs : List HeldJob) → old ≡ shown → shelf_of source ≡ shelf.Future
       → jobs ≡ last 16 (old.future ++ joining (old.count + 1) session at None source coinbase ∷ []) → coinbase ≡ job_parts source script
       → TakesMove script (move_of session at source) shown
-      (record { count = old.count + 1; own = old.own; future = jobs; live = old.live; custom = old.custom; tip = old.tip; room = room })
+      (record { count = old.count + 1; own = old.own; future = jobs; live = old.live; custom = old.custom; tip = old.tip; span = old.span; room = room })
   joins-future shown source jobs same place are is =
       subst (λ (table : JobTable). TakesMove script (move_of session at source) table
-      (record { count = old.count + 1; own = old.own; future = jobs; live = old.live; custom = old.custom; tip = old.tip; room = room })) same
+      (record { count = old.count + 1; own = old.own; future = jobs; live = old.live; custom = old.custom; tip = old.tip; span = old.span; room = room })) same
       (subst (λ l. TakesMove script (move_of session at source) old
-      (record { count = old.count + 1; own = old.own; future = l; live = old.live; custom = old.custom; tip = old.tip; room = room }))
+      (record { count = old.count + 1; own = old.own; future = l; live = old.live; custom = old.custom; tip = old.tip; span = old.span; room = room }))
       (sym are) (joined-future source place is))
 
-  pub joins-live : (shown : JobTable) (source : Source) (jobs : List HeldJob) → old ≡ shown → shelf_of source ≡ shelf.Live
-      → jobs ≡ last 64 (old.live ++ joining (old.count + 1) session at (Some at) source coinbase ∷ []) → coinbase ≡ job_parts source script
+  pub joins-live : (shown : JobTable) (source : Source) (span : LiveSpan) (jobs : List HeldJob) → old ≡ shown → shelf_of source ≡ shelf.Live
+      → span ≡ widened_by at old.span → jobs ≡ last 64 (old.live ++ joining (old.count + 1) session at (Some at) source coinbase ∷ []) → coinbase ≡ job_parts source script
       → TakesMove script (move_of session at source) shown
-      (record { count = old.count + 1; own = old.own; future = old.future; live = jobs; custom = old.custom; tip = old.tip; room = room })
-  joins-live shown source jobs same place are is =
+      (record { count = old.count + 1; own = old.own; future = old.future; live = jobs; custom = old.custom; tip = old.tip; span = span; room = room })
+  joins-live shown source span jobs same place wide are is =
       subst (λ (table : JobTable). TakesMove script (move_of session at source) table
-      (record { count = old.count + 1; own = old.own; future = old.future; live = jobs; custom = old.custom; tip = old.tip; room = room })) same
+      (record { count = old.count + 1; own = old.own; future = old.future; live = jobs; custom = old.custom; tip = old.tip; span = span; room = room })) same
       (subst (λ l. TakesMove script (move_of session at source) old
-      (record { count = old.count + 1; own = old.own; future = old.future; live = l; custom = old.custom; tip = old.tip; room = room }))
-      (sym are) (joined-live source place is))
+      (record { count = old.count + 1; own = old.own; future = old.future; live = l; custom = old.custom; tip = old.tip; span = span; room = room }))
+      (sym are)
+      (subst (λ s. TakesMove script (move_of session at source) old
+      (record {
+        count = old.count + 1;
+        own = old.own;
+        future = old.future;
+        live = last 64 (old.live ++ joining (old.count + 1) session at (Some at) source coinbase ∷ []);
+        custom = old.custom;
+        tip = old.tip;
+        span = s;
+        room = room;
+      }))
+      (sym wide) (joined-live source place is)))
 
-  pub joins-own : (shown : JobTable) (channel : ℕ) (source : Source) (jobs : List HeldJob) (own : List OwnJob) → old ≡ shown → shelf_of source ≡ shelf.Own channel
+  pub joins-own : (shown : JobTable) (channel : ℕ) (source : Source) (span : LiveSpan) (jobs : List HeldJob) (own : List OwnJob) → old ≡ shown → shelf_of source ≡ shelf.Own channel
+      → span ≡ widened_by at old.span
       → jobs ≡ without_surplus channel (old.custom ++ joining (old.count + 1) 0 at (Some at) source coinbase ∷ [])
       → own ≡ old.own ++ record { number = old.count + 1; channel = channel } ∷ [] → coinbase ≡ job_parts source script
       → TakesMove script (move_of session at source) shown
-      (record { count = old.count + 1; own = own; future = old.future; live = old.live; custom = jobs; tip = old.tip; room = room })
-  joins-own shown channel source jobs own same place are owners is =
+      (record { count = old.count + 1; own = own; future = old.future; live = old.live; custom = jobs; tip = old.tip; span = span; room = room })
+  joins-own shown channel source span jobs own same place wide are owners is =
       subst (λ (table : JobTable). TakesMove script (move_of session at source) table
-      (record { count = old.count + 1; own = own; future = old.future; live = old.live; custom = jobs; tip = old.tip; room = room })) same
+      (record { count = old.count + 1; own = own; future = old.future; live = old.live; custom = jobs; tip = old.tip; span = span; room = room })) same
       (subst (λ l. TakesMove script (move_of session at source) old
-      (record { count = old.count + 1; own = own; future = old.future; live = old.live; custom = l; tip = old.tip; room = room })) (sym are)
+      (record { count = old.count + 1; own = own; future = old.future; live = old.live; custom = l; tip = old.tip; span = span; room = room })) (sym are)
       (subst (λ o. TakesMove script (move_of session at source) old
       (record {
         count = old.count + 1;
@@ -188,8 +209,20 @@ module _ (script : List ℕ) (old : JobTable) (room session at : ℕ) (coinbase 
         live = old.live;
         custom = without_surplus channel (old.custom ++ joining (old.count + 1) 0 at (Some at) source coinbase ∷ []);
         tip = old.tip;
+        span = span;
         room = room;
-      })) (sym owners) (joined-own channel source place is)))
+      })) (sym owners)
+      (subst (λ s. TakesMove script (move_of session at source) old
+      (record {
+        count = old.count + 1;
+        own = old.own ++ record { number = old.count + 1; channel = channel } ∷ [];
+        future = old.future;
+        live = old.live;
+        custom = without_surplus channel (old.custom ++ joining (old.count + 1) 0 at (Some at) source coinbase ∷ []);
+        tip = old.tip;
+        span = s;
+        room = room;
+      })) (sym wide) (joined-own channel source place is))))
 
 -- a tip
 turned-all : (P : HeldJob → Type 0) (at : ℕ) (o : Option HeldJob) → ((job : HeldJob) → o ≡ Some job → P (record job { live_at = Some at })) → AllByRecursion P (turned_live at o)
@@ -202,22 +235,26 @@ tipped : (script : List ℕ) (old : JobTable) (room at : ℕ) (tip : TipData)
 tipped script old room at tip = record {
   kept = ap (λ l. record (kept_jobs old) { future = []; live = l; custom = []; tip = Some tip })
       (sym (live-map at (of_template tip.template_id old.future)) ∙ ap (Rattle.pool_history.specs.Jobs.made_live at) (sym (future_in-map old.future tip.template_id)));
+  spans = refl;
   coinbases = λ all. all-three (HasCoinbase script) [] (turned_live at (of_template tip.template_id old.future)) [] tt
       (turned-all (HasCoinbase script) at (of_template tip.template_id old.future)
       (λ job found. all-find (HasCoinbase script) (λ (held : HeldJob). has_template tip.template_id held.source) old.future job
       (all-left (HasCoinbase script) old.future old.live (all-left (HasCoinbase script) (old.future ++ old.live) old.custom all)) found)) tt;
 }
 
-pub takes-tip : (script : List ℕ) (shown old : JobTable) (room at : ℕ) (tip : TipData) (future live custom : List HeldJob) → shown ≡ old
+pub takes-tip : (script : List ℕ) (shown old : JobTable) (room at : ℕ) (span : LiveSpan) (tip : TipData) (future live custom : List HeldJob) → shown ≡ old
+    → span ≡ record { oldest = at; newest = at }
     → future ≡ [] → live ≡ turned_live at (of_template tip.template_id shown.future) → custom ≡ []
     → TakesMove script (Tipped at tip) old
     (record { count = shown.count; own = shown.own; future = future; live = live; custom = custom; tip = Some tip; room = room })
-takes-tip script shown old room at tip future live custom same a b c =
+takes-tip script shown old room at span tip future live custom same is a b c =
     subst (λ (table : JobTable). TakesMove script (Tipped at tip) table (record { count = shown.count; own = shown.own; future = future; live = live; custom = custom; tip = Some tip; room = room })) same
     (subst (λ l. TakesMove script (Tipped at tip) shown (record { count = shown.count; own = shown.own; future = l; live = live; custom = custom; tip = Some tip; room = room })) (sym a)
     (subst (λ l. TakesMove script (Tipped at tip) shown (record { count = shown.count; own = shown.own; future = []; live = l; custom = custom; tip = Some tip; room = room })) (sym b)
     (subst (λ l. TakesMove script (Tipped at tip) shown (record { count = shown.count; own = shown.own; future = []; live = turned_live at (of_template tip.template_id shown.future); custom = l; tip = Some tip; room = room })) (sym c)
-    (tipped script shown room at tip))))
+    (subst (λ s. TakesMove script (Tipped at tip) shown
+    (record { count = shown.count; own = shown.own; future = []; live = turned_live at (of_template tip.template_id shown.future); custom = []; tip = Some tip; span = s; room = room })) (sym is)
+    (tipped script shown room at tip)))))
 
 -- a plan is applied to a table that is as it was, but for its room
 pub takes-plan : (script : List ℕ) (session at : ℕ) (source : Source) (plan : PlannedJob) (old planned new : JobTable)
@@ -225,7 +262,7 @@ pub takes-plan : (script : List ℕ) (session at : ℕ) (source : Source) (plan 
     → TakesMove script (move_of session at source) old new
 takes-plan script session at source plan old planned new is same applies =
     let taken : TakesMove script (move_of plan.session plan.at plan.source) planned new = applies script (is.coinbase_is ∙ ap (λ s. job_parts s script) (sym is.source_is)) in
-    let roomy : TakesMove script (move_of plan.session plan.at plan.source) (record planned { room = old.room }) new = record { kept = taken.kept; coinbases = taken.coinbases } in
+    let roomy : TakesMove script (move_of plan.session plan.at plan.source) (record planned { room = old.room }) new = record { kept = taken.kept; spans = taken.spans; coinbases = taken.coinbases } in
     subst (λ (table : JobTable). TakesMove script (move_of session at source) table new) same
     (subst (λ s. TakesMove script (move_of s at source) (record planned { room = old.room }) new) is.session_is
     (subst (λ a. TakesMove script (move_of plan.session a source) (record planned { room = old.room }) new) is.at_is

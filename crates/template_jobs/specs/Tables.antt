@@ -14,10 +14,10 @@ use Rattle.template_jobs.specs.declared.owner.Owner.{Owner}
 use Rattle.template_jobs.specs.Owners.{AreRising}
 use Rattle.template_jobs.specs.HeldJobs.{HasCoinbase, HeldJob, as_job}
 use Rattle.template_jobs.specs.Plans.{PlannedJob, move_of}
-use Rattle.template_jobs.specs.Spans.{IsLiveWithin}
+use Rattle.template_jobs.specs.Spans.{IsLiveWithin, span_after}
 
 -- how many jobs there were, the miners' own among them, the jobs that are future or live, the last
--- tip, and for how many more jobs there is room
+-- tip, bounds of the places since which jobs are live, and for how many more jobs there is room
 pub record JobTable : Type 0 where
   pub count : ℕ
   pub own : List OwnJob
@@ -25,6 +25,7 @@ pub record JobTable : Type 0 where
   pub live : List HeldJob
   pub custom : List HeldJob
   pub tip : Option TipData
+  pub span : LiveSpan
   pub room : ℕ
 
 -- what a table keeps of the jobs
@@ -54,9 +55,11 @@ HasCoinbases script table = AllByRecursion (HasCoinbase script) (held_jobs table
 abbrev pub IsSameButRoom : JobTable → JobTable → Type 0
 IsSameButRoom old new = record new { room = old.room } ≡ old
 
--- a table was told one move more, and its coinbases are still those with the pool's script
+-- a table was told one move more, its bounds are those after it, and its coinbases are still those
+-- with the pool's script
 pub record TakesMove (script : List ℕ) (move : JobMove) (old new : JobTable) : Type 0 where
   pub kept : kept_jobs new ≡ kept_after move (kept_jobs old)
+  pub spans : new.span ≡ span_after move old.span
   pub coinbases : HasCoinbases script old → HasCoinbases script new
 
 -- why a template is refused

@@ -15,7 +15,8 @@ use std::marker::Model;
 use std::mem;
 
 /// The jobs that are future or live, the last tip, how many jobs there were, and whose each miner's
-/// own job is. Contracts see these, and for how many more jobs there is room.
+/// own job is. Contracts see these, bounds of the places since which jobs are live, and for how many
+/// more jobs there is room.
 #[derive(Debug, Drop)]
 pub struct Jobs {
     alloc: Global,
@@ -44,6 +45,7 @@ impl Model for Jobs {
       live = jobs.live.items;
       custom = jobs.custom.items;
       tip = jobs.tip;
+      span = jobs.span;
       room = min (min (vec_capacity jobs.owners - vec_len jobs.owners)
           (vec_capacity jobs.future - vec_len jobs.future))
           (min (vec_capacity jobs.live - vec_len jobs.live)
@@ -92,6 +94,7 @@ impl Jobs {
     /// No job was told, and no tip.
     pub fn new(alloc: Global) -> Jobs
         ensures told { kept_jobs result ≡ kept_jobs_of (jobs_told []) }
+        ensures spans { result.span ≡ record { oldest = 0; newest = 0 } }
         ensures coinbases { (script : List ℕ) → HasCoinbases script result }
     {
         Jobs {
@@ -166,7 +169,8 @@ impl Jobs {
     /// Bounds of the places since which jobs are live: at these alone, and at places to come, a
     /// channel's class is asked for.
     pub fn live_span(&self) -> LiveSpan
-        ensures { AreLiveWithin result
+        ensures value { result ≡ self.now.span }
+        ensures within { AreLiveWithin result
             ((kept_jobs self.now).live ++ (kept_jobs self.now).custom) }
     {
         self.span
@@ -430,7 +434,7 @@ impl Jobs {
 }
 
 ghost use Rattle.std.specs.Prelude.{◌≡◌, ◌&&◌, nat_le};
-ghost use Rattle.template_jobs.specs.Spans.{Widens};
+ghost use Rattle.template_jobs.specs.Spans.{Widens, widened_by};
 
 // Whether a number is one of so many, counted from 1.
 fn is_counted(count: u32, number: u32) -> bool
@@ -441,7 +445,8 @@ fn is_counted(count: u32, number: u32) -> bool
 
 // Bounds that hold what these hold, and a place.
 fn widened(span: LiveSpan, at: u64) -> LiveSpan
-    ensures { Widens span result at }
+    ensures value { result ≡ widened_by at span }
+    ensures widens { Widens span result at }
 {
     LiveSpan {
         oldest: span.oldest.min(at),

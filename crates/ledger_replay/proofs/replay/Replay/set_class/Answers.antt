@@ -1,7 +1,8 @@
-use Rattle.std.proofs.Common.{◌≡◌, ◌∷◌, refl, subst}
+use Rattle.std.proofs.Common.{◌≡◌, ◌∷◌, ap, map, refl, subst, ◌∙◌}
 use Rattle.pool_history.specs.declared.events.Event.TheVariants as event
 use Rattle.pool_history.specs.Channels.{Sets, channel_moves}
 use Rattle.pool_history.specs.Legal.{may_mine}
+use Rattle.channels.specs.Cuts.{with_cut}
 use Rattle.channels.specs.Tables.{IsTold}
 use Rattle.history_laws.specs.AskedPlaces.{is_asked_after}
 use Rattle.ledger_replay.specs.Replays.{tables_of}
@@ -37,8 +38,14 @@ returns-in-Ok-clause-judged c past was =
     (subst (λ class. IsTold (is_asked_after (event.Class c.args.session c.args.channel c.args.class ∷ past)) c.set_class.new.self (Sets c.args.self.now.events c.args.channel class ∷ channel_moves past))
     c.in-Some-class_in_range.ensures.some.0 (c.in-Ok.ensures.told
     (is_asked_after (event.Class c.args.session c.args.channel c.args.class ∷ past)) (channel_moves past)
-    (class-asked (tables_of c.args.self.now) past c.args.session c.args.channel c.args.class c.live_span-span.result was c.live_span-span.ensures)
+    (class-asked (tables_of c.args.self.now) past c.args.session c.args.channel c.args.class c.live_span-span.result was c.live_span-span.ensures.within)
     (fewer-told (tables_of c.args.self.now) past (event.Class c.args.session c.args.channel c.args.class) was)))
+
+pub returns-in-Ok-clause-cut : goal.returns-in-Ok-clause-cut
+returns-in-Ok-clause-cut c =
+    c.in-Ok.ensures.cut
+    ∙ ap (λ n. map (with_cut c.args.self.now.events c.args.channel n c.live_span-span.result) c.args.self.now.channels.open_channels) c.in-Some-class_in_range.ensures.some.0
+    ∙ ap (λ s. map (with_cut c.args.self.now.events c.args.channel c.args.class s) c.args.self.now.channels.open_channels) c.live_span-span.ensures.value
 
 pub returns-in-Err-clause-judged : goal.returns-in-Err-clause-judged
 returns-in-Err-clause-judged c past was =

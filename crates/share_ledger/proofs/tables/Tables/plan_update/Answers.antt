@@ -77,7 +77,7 @@ returns-clause-step c =
           (class-planned planned_class w.in-Ok.plan _ w.in-Ok.ensures.answer
           ∙ ap (λ n. plan.Class n c.args.channel c.class_given-class.result c.live_span-span.result) c.len-at.ensures.value
           ∙ ap (λ n. plan.Class (length old.history.events) c.args.channel n c.live_span-span.result) c.class_given-class.ensures)
-          w.in-Ok.ensures.ready c.live_span-span.ensures))
+          w.in-Ok.ensures.ready c.live_span-span.ensures.within c.live_span-span.ensures.value))
       | in-Err-Memory w ↦ rw w.result-is tt
       | in-Err-NotOpen w ↦ rw w.result-is
           (if_made {E = Unit {0}} old c.args.self.now _ c.args.session (request.Update c.args.channel c.args.target) (Ok w.refused_update-in-Err-NotOpen.result)

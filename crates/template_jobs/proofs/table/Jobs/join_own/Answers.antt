@@ -4,6 +4,7 @@ use Rattle.template_jobs.specs.HeldJobs.{HeldJob}
 use Rattle.template_jobs.specs.Lists.{without_surplus}
 use Rattle.template_jobs.specs.Owners.{own_job}
 use Rattle.template_jobs.specs.Plans.{PlannedJob}
+use Rattle.template_jobs.specs.Spans.{widened_by}
 use Rattle.template_jobs.specs.Tables.{JobTable}
 use Rattle.template_jobs.specs.declared.owner.Owner.{Owner}
 use Rattle.template_jobs.proofs.Joined.{few-own, joining, joins-own}
@@ -28,16 +29,17 @@ invariant_of-self c =
       own_few = omega (arith, long, few, seen, length-map c.self.inside.owners.items own_job);
       future_few = c.self.invariant.future_few;
       live_few = c.self.invariant.live_few;
-      live_within = widened-all c.self.inside.span c.widened-span.result c.plan.inside.at c.self.inside.live.items c.widened-span.ensures c.self.invariant.live_within;
+      live_within = widened-all c.self.inside.span c.widened-span.result c.plan.inside.at c.self.inside.live.items c.widened-span.ensures.widens c.self.invariant.live_within;
       custom_within = own-joined c.self.inside.span c.widened-span.result c.plan.inside.at c.args.channel c.self.inside.custom.items c.put_own.new.jobs.items c.of-job.result
-          c.widened-span.ensures (ap (λ (job : HeldJob). job.live_at) c.of-job.ensures)
+          c.widened-span.ensures.widens (ap (λ (job : HeldJob). job.live_at) c.of-job.ensures)
           c.put_own.ensures c.self.invariant.custom_within;
     }
 
 pub returns-clause-applied : goal.returns-clause-applied
 returns-clause-applied c script is =
-    joins-own script _ _ c.args.plan.session c.args.plan.at c.args.plan.coinbase c.args.self.now c.args.channel c.args.plan.source c.put_own.new.jobs.items
+    joins-own script _ _ c.args.plan.session c.args.plan.at c.args.plan.coinbase c.args.self.now c.args.channel c.args.plan.source c.widened-span.result c.put_own.new.jobs.items
     (map own_job c.put_owner.new.owners.items) c.self.view_is c.requires.shelf
+    (c.widened-span.ensures.value ∙ ap (λ (plan : PlannedJob). widened_by plan.at c.self.inside.span) c.plan.view_is)
     (c.put_own.ensures
     ∙ ap (λ (job : HeldJob). without_surplus c.args.channel (c.self.inside.custom.items ++ job ∷ []))
     (c.of-job.ensures ∙ ap (λ (plan : PlannedJob). joining (c.self.inside.count + 1) 0 plan.at (Some plan.at) plan.source plan.coinbase) c.plan.view_is))

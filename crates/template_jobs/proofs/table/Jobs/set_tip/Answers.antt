@@ -1,4 +1,4 @@
-use Rattle.std.proofs.Common.{ap, sym, ◌∙◌}
+use Rattle.std.proofs.Common.{ap, refl, sym, ◌∙◌}
 use Rattle.std.specs.Option.{option_map}
 use Rattle.pool_history.specs.Conditions.{found}
 use Rattle.pool_history.specs.Jobs.{Job, future_in}
@@ -27,7 +27,7 @@ returns-clause-number c =
 
 pub returns-clause-takes : goal.returns-clause-takes
 returns-clause-takes c script =
-    takes-tip script _ c.args.self.now _ c.args.at c.args.tip.now c.swap.new.x.items c.swap.new.y.items c.clear-2.new.self.items c.self.view_is
+    takes-tip script _ c.args.self.now _ c.args.at (record { oldest = c.args.at; newest = c.args.at }) c.args.tip.now c.swap.new.x.items c.swap.new.y.items c.clear-2.new.self.items c.self.view_is refl
     (ap (λ v. v.items) c.swap.ensures.x_after ∙ c.clear.ensures.items)
     (ap (λ v. v.items) c.swap.ensures.y_after ∙ c.in-Some.ensures.live)
     c.clear-2.ensures.items
