@@ -1,48 +1,9 @@
-//! What the parts of a case spell.
+//! What the parts of a case spell: disks and picks.
 
 use anyhow::{Context, Result};
+use case_lines::bytes;
 use disk_io::{Failures, MemDisk};
-use std::alloc::{AllocError, Global};
-
-/// A part of what a case gives, counted from 0.
-pub(crate) fn part<'a>(given: &'a str, at: usize) -> Result<&'a str> {
-    let part = given.split('|').nth(at).context("a part is missing")?;
-    Ok(part.trim())
-}
-
-/// The bytes that hexadecimal words spell: `-` none, and `00*9` nine bytes.
-pub(crate) fn bytes(alloc: Global, words: &str) -> Result<Vec<u8>> {
-    let mut bytes = Vec::new(alloc);
-    for word in words.split_whitespace() {
-        if word != "-" {
-            put_word(alloc, &mut bytes, word)?;
-        }
-    }
-    Ok(bytes)
-}
-
-fn put_word(alloc: Global, bytes: &mut Vec<u8>, word: &str) -> Result<()> {
-    let (digits, times) = match word.split_once('*') {
-        Some((digits, times)) => (digits, times.parse()?),
-        None => (word, 1u32),
-    };
-    let once = hex::decode(alloc, digits)?;
-    for _ in 0..times {
-        bytes.extend_from_slice(&once)?;
-    }
-    Ok(())
-}
-
-/// Bytes as words spell them.
-pub(crate) fn shown(alloc: Global, bytes: &[u8]) -> Result<String, AllocError> {
-    match bytes {
-        [] => String::from_str(alloc, "-"),
-        [first, ..] if bytes.len() > 4 && bytes.iter().all(|byte| byte == first) => {
-            format!(in alloc; "{first:02x}*{}", bytes.len())
-        }
-        _ => Ok(hex::encode(alloc, bytes)?),
-    }
-}
+use std::alloc::Global;
 
 /// A disk of these bytes that fails: `3 5 part 1` at its calls 3 and 5, of which one byte is done, and
 /// `from 3 part 0` from then on. Without words it never does.

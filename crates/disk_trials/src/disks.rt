@@ -1,7 +1,8 @@
 //! Disks in memory, call by call.
 
-use crate::cases::{bytes, disk, part, pick, shown};
+use crate::cases::{disk, pick};
 use anyhow::{Context, Result, bail};
+use case_lines::{bytes, part, shown};
 use disk_io::{Disk, MemDisk};
 use std::alloc::Global;
 use std::fmt::Write;

@@ -1,7 +1,8 @@
 //! Ledgers on disks in memory, crash by crash.
 
-use crate::cases::{bytes, disk, part, pick, shown};
+use crate::cases::{disk, pick};
 use anyhow::{Result, bail};
+use case_lines::{bytes, part, shown};
 use disk_io::MemDisk;
 use ledger_disk::DiskLedger;
 use std::alloc::Global;

@@ -1,7 +1,7 @@
 //! The coinbases of templates and of miners' own jobs, with the pool's script 51.
 
-use crate::cases::{bytes, part, word};
 use anyhow::{Result, bail};
+use case_lines::{bytes, part, word};
 use coinbase::{Assembly, CustomRecipe, Recipe, Tx};
 use std::alloc::Global;
 use std::fmt::Write;

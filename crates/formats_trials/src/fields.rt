@@ -1,7 +1,7 @@
 //! Fields of each type: read, read with a byte more, cut, and written back.
 
-use crate::cases::{bytes, part, shown};
 use anyhow::{Result, bail};
+use case_lines::{bytes, part, shown};
 use std::alloc::Global;
 use std::fmt::Write;
 use std::str;

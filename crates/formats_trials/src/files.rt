@@ -1,8 +1,8 @@
 //! Whole inputs, and settings files.
 
-use crate::cases::{part, shown};
 use crate::turns::{host_of_file, numbers, put_piece, turns};
 use anyhow::{Result, bail};
+use case_lines::{part, shown};
 use pool_io::{MemSource, Script, Turn};
 use pool_settings::{Settings, open_settings};
 use std::alloc::Global;

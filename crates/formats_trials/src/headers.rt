@@ -1,8 +1,9 @@
 //! Headers, roots, classes and targets, by Bitcoin's public record.
 
-use crate::cases::{display, displayed, part, word};
+use crate::cases::{display, displayed};
 use anyhow::{Result, bail};
 use block_header::{Header, class_of_target, dsha, meets_class, meets_target, root_of, target_of};
+use case_lines::{part, word};
 use std::alloc::Global;
 use sv2_types::U256;
 
@@ -42,7 +43,7 @@ fn found_truth(alloc: Global, test: &str, given: &str) -> Result<String> {
 }
 
 fn hash_of(alloc: Global, words: &str) -> Result<[u8; 32]> {
-    let bytes = crate::cases::bytes(alloc, words)?;
+    let bytes = case_lines::bytes(alloc, words)?;
     match bytes.as_slice().try_into() {
         Ok(hash) => Ok(hash),
         Err(_) => bail!("a hash has 32 bytes"),

@@ -1,8 +1,8 @@
 //! Keepers and hosts in memory, call by call.
 
-use crate::cases::{bytes, part, shown};
 use crate::turns::{host_of_file, numbers, script, turns};
 use anyhow::{Result, bail};
+use case_lines::{bytes, part, shown};
 use pool_io::{Host, Keeper, KeptRecord, MemHost, MemKeeper, Source, SureKeeper, Took};
 use std::alloc::Global;
 use std::fmt::Write;

@@ -1,7 +1,8 @@
 //! Messages of the three protocols: their frames, their defects, and what is too long for them.
 
-use crate::cases::{Spelling, begun, bytes, part, spelled};
+use crate::cases::begun;
 use anyhow::{Result, bail, ensure};
+use case_lines::{Spelling, bytes, part, spelled};
 use declare_msgs::{Declare, DeclareMiningJob};
 use mining_msgs::{Mining, NewExtendedMiningJob, SetExtranoncePrefix};
 use std::alloc::Global;

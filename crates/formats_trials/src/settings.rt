@@ -1,8 +1,8 @@
 //! Settings: what they say, and what is refused.
 
-use crate::cases::{bytes, part};
 use crate::files::{padded, shown_fee};
 use anyhow::{Result, bail};
+use case_lines::{bytes, part};
 use pool_settings::{SettingsError, read_settings};
 use std::alloc::Global;
 

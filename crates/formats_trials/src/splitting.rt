@@ -2,8 +2,8 @@
 
 ghost use Rattle.std.specs.Prelude.{⊤};
 
-use crate::cases::{bytes, part};
 use anyhow::{Result, bail};
+use case_lines::{bytes, part};
 use std::alloc::{AllocError, Global};
 use std::fmt::Write;
 use sv2_frames::{Frame, FrameHeader, RunEnd, Splitter, TakeFrames, write_frame};

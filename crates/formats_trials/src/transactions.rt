@@ -1,7 +1,8 @@
 //! Transactions: their ids, their bytes again, and the first defect of what is none.
 
-use crate::cases::{Spelling, begun, display, part, spelled};
+use crate::cases::{begun, display};
 use anyhow::Result;
+use case_lines::{Spelling, part, spelled};
 use coinbase::{Tx, TxError};
 use std::alloc::Global;
 use std::fmt::Write;

@@ -1,7 +1,7 @@
 //! Turns, scripts and hosts in memory, from words.
 
-use crate::cases::bytes;
 use anyhow::Result;
+use case_lines::bytes;
 use pool_io::{MemFile, MemHost, Name, Piece, Script, Turn};
 use std::alloc::{AllocError, Global};
 

@@ -3,6 +3,7 @@
 ghost use Rattle.std.specs.Prelude.{◌≤◌, IfSome};
 
 use crate::plain_leads::PlainLeads;
+use crate::random::random_after;
 use pool_history::Lead;
 use prefix_space::{Space, SpaceError};
 use std::alloc::Global;
@@ -94,9 +95,7 @@ fn take_random(alloc: Global, seed: u64, count: u32) -> Option<String> {
     let mut plain = PlainLeads::new(alloc);
     let mut random = seed;
     for _ in 0..count {
-        random = random
-            .wrapping_mul(6_364_136_223_846_793_005)
-            .wrapping_add(1_442_695_040_888_963_407);
+        random = random_after(random);
         if (random >> 60) < 5 {
             give_back(&mut space, &mut plain, random >> 32)?;
             continue;

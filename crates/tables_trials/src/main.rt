@@ -10,6 +10,7 @@ mod plain;
 mod plain_leads;
 mod plain_settings;
 mod printed;
+mod random;
 mod records;
 mod sessions;
 mod shares;

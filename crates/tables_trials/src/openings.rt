@@ -1,6 +1,7 @@
 //! The table of open channels.
 
 use crate::plain_settings::PlainSettings;
+use crate::random::random_after;
 use channels::{Channel, Channels};
 use pool_history::{Class, Kind, LiveSpan, OpenAsk, Opened as Opening, Rules, Users};
 use std::alloc::Global;
@@ -148,9 +149,7 @@ fn set_random(alloc: Global, opened: &mut Opened, seed: u64, count: u64) -> Opti
     let mut plain = PlainSettings::new(alloc, channels.channel(1)?.class);
     let mut random = seed;
     for at in 0..count {
-        random = random
-            .wrapping_mul(6_364_136_223_846_793_005)
-            .wrapping_add(1_442_695_040_888_963_407);
+        random = random_after(random);
         if (random >> 60) < 4 {
             plain.turn_live(at, (random >> 56) % 8 == 0)?;
         } else {

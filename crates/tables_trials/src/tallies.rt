@@ -4,6 +4,7 @@
 ghost use Rattle.std.specs.Prelude.{◌+◌, ◌<◌, ◌≤◌, ◌^◌, IsTrue, length};
 
 use crate::plain::PlainTally;
+use crate::random::random_after;
 use payouts::{Rule, Settlement, Tally, quotient};
 use pool_summary::write_summary;
 use std::alloc::Global;
@@ -119,9 +120,7 @@ impl Tallies {
     fn push_random(&mut self, alloc: Global, seed: u64, count: u32) -> Option<String> {
         let mut random = seed;
         for _ in 0..count {
-            random = random
-                .wrapping_mul(6_364_136_223_846_793_005)
-                .wrapping_add(1_442_695_040_888_963_407);
+            random = random_after(random);
             let account = NAMES[(random >> 33) as usize % 4];
             let work = 1 + (random >> 40) % 50;
             if (random >> 50) % 7 == 0 {

@@ -1,7 +1,7 @@
 //! Streams of lines, in every cut.
 
-use crate::cases::{bytes, part};
 use anyhow::{Result, bail};
+use case_lines::{bytes, part};
 use line_reader::LineReader;
 use std::alloc::{AllocError, Global};
 use std::fmt::Write;

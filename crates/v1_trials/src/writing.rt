@@ -4,8 +4,8 @@ ghost use Rattle.std.specs.Prelude.{◌≡◌, false};
 ghost use Rattle.serde_json.specs.View.{view};
 ghost use Rattle.serde_json.specs.Written.{has_float};
 
-use crate::cases::{bytes, part};
 use anyhow::{Result, bail};
+use case_lines::{bytes, part};
 use hex::FromHex;
 use serde_json::Value;
 use std::alloc::{AllocError, Global};
