@@ -231,7 +231,7 @@ turned-all P at (Some job) all = (all job refl, tt)
 
 tipped : (script : List ℕ) (old : JobTable) (room at : ℕ) (tip : TipData)
     → TakesMove script (Tipped at tip) old
-    (record { count = old.count; own = old.own; future = []; live = turned_live at (of_template tip.template_id old.future); custom = []; tip = Some tip; room = room })
+    (record { count = old.count; own = old.own; future = []; live = turned_live at (of_template tip.template_id old.future); custom = []; tip = Some tip; span = record { oldest = at; newest = at }; room = room })
 tipped script old room at tip = record {
   kept = ap (λ l. record (kept_jobs old) { future = []; live = l; custom = []; tip = Some tip })
       (sym (live-map at (of_template tip.template_id old.future)) ∙ ap (Rattle.pool_history.specs.Jobs.made_live at) (sym (future_in-map old.future tip.template_id)));
@@ -246,12 +246,12 @@ pub takes-tip : (script : List ℕ) (shown old : JobTable) (room at : ℕ) (span
     → span ≡ record { oldest = at; newest = at }
     → future ≡ [] → live ≡ turned_live at (of_template tip.template_id shown.future) → custom ≡ []
     → TakesMove script (Tipped at tip) old
-    (record { count = shown.count; own = shown.own; future = future; live = live; custom = custom; tip = Some tip; room = room })
+    (record { count = shown.count; own = shown.own; future = future; live = live; custom = custom; tip = Some tip; span = span; room = room })
 takes-tip script shown old room at span tip future live custom same is a b c =
-    subst (λ (table : JobTable). TakesMove script (Tipped at tip) table (record { count = shown.count; own = shown.own; future = future; live = live; custom = custom; tip = Some tip; room = room })) same
-    (subst (λ l. TakesMove script (Tipped at tip) shown (record { count = shown.count; own = shown.own; future = l; live = live; custom = custom; tip = Some tip; room = room })) (sym a)
-    (subst (λ l. TakesMove script (Tipped at tip) shown (record { count = shown.count; own = shown.own; future = []; live = l; custom = custom; tip = Some tip; room = room })) (sym b)
-    (subst (λ l. TakesMove script (Tipped at tip) shown (record { count = shown.count; own = shown.own; future = []; live = turned_live at (of_template tip.template_id shown.future); custom = l; tip = Some tip; room = room })) (sym c)
+    subst (λ (table : JobTable). TakesMove script (Tipped at tip) table (record { count = shown.count; own = shown.own; future = future; live = live; custom = custom; tip = Some tip; span = span; room = room })) same
+    (subst (λ l. TakesMove script (Tipped at tip) shown (record { count = shown.count; own = shown.own; future = l; live = live; custom = custom; tip = Some tip; span = span; room = room })) (sym a)
+    (subst (λ l. TakesMove script (Tipped at tip) shown (record { count = shown.count; own = shown.own; future = []; live = l; custom = custom; tip = Some tip; span = span; room = room })) (sym b)
+    (subst (λ l. TakesMove script (Tipped at tip) shown (record { count = shown.count; own = shown.own; future = []; live = turned_live at (of_template tip.template_id shown.future); custom = l; tip = Some tip; span = span; room = room })) (sym c)
     (subst (λ s. TakesMove script (Tipped at tip) shown
     (record { count = shown.count; own = shown.own; future = []; live = turned_live at (of_template tip.template_id shown.future); custom = []; tip = Some tip; span = s; room = room })) (sym is)
     (tipped script shown room at tip)))))
