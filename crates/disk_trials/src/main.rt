@@ -9,9 +9,9 @@ use anyhow::{Result, bail};
 use case_lines::{Trial, try_files};
 use std::alloc::Global;
 
-struct Disks;
+struct DiskTrial;
 
-impl Trial for Disks {
+impl Trial for DiskTrial {
     fn found(alloc: Global, subject: &str, given: &str) -> Result<String> {
         match subject {
             "disks" => disks::found(alloc, given),
@@ -23,5 +23,5 @@ impl Trial for Disks {
 }
 
 fn main(rt: HostRuntime) -> Result<()> {
-    try_files::<Disks, HostRuntime>(&rt, &["disks", "ledgers", "openings"])
+    try_files::<DiskTrial, HostRuntime>(&rt, &["disks", "ledgers", "openings"])
 }
