@@ -59,8 +59,8 @@ unbegun_well fault.KeeperFault before now counts none = none (rose_by true befor
 unbegun_well fault.Memory before now counts none = tt
 
 -- a session that began
-over_well : {rules : Rules} {idle_turns : ℕ} {old new : Outsides} {reason : SessionEnd} → 0 < idle_turns
-    → IsSoloSession rules idle_turns old new reason
+over_well : {rules : Rules} {idle_turns : ℕ} {old new : Outsides} {reason : SessionEnd} {history : List Event} → 0 < idle_turns
+    → IsSoloSession rules idle_turns old new reason history
     → ((turns : List Turn) → old.source.left ≡ Some turns → IsGoodInput (solo_manner rules idle_turns) turns → IsGoodEnd reason)
     → ServesGoodInput rules idle_turns old new (solo.Over reason)
 over_well {rules = rules} {idle_turns = idle_turns} {old = old} {new = new} {reason = reason} waits session good turns is input free =
@@ -71,8 +71,8 @@ over_well {rules = rules} {idle_turns = idle_turns} {old = old} {new = new} {rea
     (enters_first sole_worker (solo_manner rules idle_turns) session.steps session.last session.follows))
     (good turns is input) free
 
-pub serves_session : {rules : Rules} {idle_turns : ℕ} {old new : Outsides} {reason : SessionEnd} → 0 < idle_turns
-    → IsSoloSession rules idle_turns old new reason
+pub serves_session : {rules : Rules} {idle_turns : ℕ} {old new : Outsides} {reason : SessionEnd} (history : List Event) → 0 < idle_turns
+    → IsSoloSession rules idle_turns old new reason history
     → ((turns : List Turn) → old.source.left ≡ Some turns → IsGoodInput (solo_manner rules idle_turns) turns → IsGoodEnd reason)
     → ServesSession rules idle_turns old new (solo.Over reason)
-serves_session waits session good = record { did = session; complete = over_well waits session good }
+serves_session history waits session good = record { did = (history, session); complete = over_well waits session good }

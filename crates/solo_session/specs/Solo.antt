@@ -1,5 +1,5 @@
 -- One session of both roles over a book of its own, from its keeper to its end (this project's own).
-use Rattle.std.specs.Prelude.{◌≡◌, ℕ, Option, Some, List, [], ◌∷◌}
+use Rattle.std.specs.Prelude.{◌≡◌, ℕ, Bool, Option, Some, List, [], ◌∷◌}
 use Rattle.pool_io.specs.declared.turn.Turn.{Turn}
 use Rattle.pool_io.specs.Outside.{AddsBytes, CountsFailure}
 use Rattle.pool_io.specs.Seen.{KeeperSeen, SinkSeen, SourceSeen}
@@ -12,7 +12,7 @@ use Rattle.pool_history.specs.declared.refusals.BookError.TheVariants as fault
 use Rattle.pool_history.specs.declared.settings.Rules.{Rules}
 use Rattle.pool_history.specs.Calls.{PoolCall, blames_keeper, has_keeper_failed}
 use Rattle.ledger_laws.specs.Keeping.{IsKept}
-use Rattle.share_ledger.specs.Books.{KeepsInstead}
+use Rattle.share_ledger.specs.Books.{BookSeen, KeepsInstead}
 use Rattle.session_steps.specs.declared.ends.SessionEnd.{SessionEnd}
 use Rattle.session_steps.specs.declared.manner.Manner.{Manner}
 use Rattle.session_steps.specs.States.{State, Over, new_state}
@@ -31,13 +31,17 @@ pub record Outsides : Type 0 where
   pub sink : SinkSeen
   pub keeper : KeeperSeen
 
--- a session of both roles by these rules
-abbrev pub solo_manner : Rules → ℕ → Manner
-solo_manner rules idle_turns = record {
+-- a session of both roles, whose miner may or may not roll the version
+abbrev pub manner_of : Bool → ℕ → Manner
+manner_of rolling idle_turns = record {
   role = role.Solo;
-  rolling = rules.version_rolling;
+  rolling = rolling;
   idle_turns = idle_turns;
 }
+
+-- the same by these rules
+abbrev pub solo_manner : Rules → ℕ → Manner
+solo_manner rules idle_turns = manner_of rules.version_rolling idle_turns
 
 -- the number of the one worker
 abbrev pub sole_worker : ℕ
@@ -52,15 +56,14 @@ CountsCalls before (call ∷ calls) now =
     × CountsFailure (has_keeper_failed call.outcome) before call.faults_after
     × CountsCalls call.faults_after calls now
 
--- Steps that begin a session of both roles and come to this end. They took what the source brought
--- and put what the sink got; their calls stand each at the whole history before it, are answered by
--- that history, and are all that followed on its Start. It is legal and has records, and the
--- keeper's are its ledger.
+-- Steps that begin a session of both roles, come to this end and leave this history. They took what
+-- the source brought and put what the sink got; their calls stand each at the whole history before
+-- it, are answered by that history, and are all that followed on its Start. It is legal and has
+-- records, and the keeper's are its ledger.
 pub record IsSoloSession (rules : Rules) (idle_turns : ℕ) (old new : Outsides)
-    (reason : SessionEnd) : Type 0 where
+    (reason : SessionEnd) (history : List Event) : Type 0 where
   pub steps : List SessionStep
   pub last : State
-  pub history : List Event
   pub follows : Follows sole_worker (new_state (solo_manner rules idle_turns)) steps last
   pub over : last.stage ≡ Over reason
   pub took : BringsSteps old.source.left new.source.left (turns_in steps)
@@ -85,7 +88,7 @@ pub record IsUnbegun (old new : Outsides) (cause : BookError) : Type 0 where
 abbrev pub IsServed : Rules → ℕ → Outsides → Outsides → SoloEnd → Type 0
 IsServed rules idle_turns old new (solo.Unbegun cause) = IsUnbegun old new cause
 IsServed rules idle_turns old new (solo.Over reason) =
-    IsSoloSession rules idle_turns old new reason
+    (history : List Event) × IsSoloSession rules idle_turns old new reason history
 
 -- all was served, or memory ran out
 abbrev pub IsServedWell : SoloEnd → Type 0
@@ -119,3 +122,18 @@ pub record ServesSession (rules : Rules) (idle_turns : ℕ) (old new : Outsides)
 abbrev pub BlamesNoInput : SoloEnd → Type 0
 BlamesNoInput (solo.Unbegun cause) = Unit {0}
 BlamesNoInput (solo.Over reason) = IsGoodEnd reason
+
+-- a book of these rules, of which nobody has asked anything
+pub record IsFreshBook (rules : Rules) (rolling : Bool) (book : BookSeen) : Type 0 where
+  pub events : book.events ≡ event.Start rules ∷ []
+  pub rolls : rolling ≡ rules.version_rolling
+
+-- a session over such a book leaves the book's history
+abbrev pub ServesFreshBook : ℕ → Bool → SourceSeen → SinkSeen → BookSeen → SourceSeen → SinkSeen
+    → BookSeen → SessionEnd → Type 0
+ServesFreshBook idle_turns rolling source sink book source_now sink_now book_now reason =
+    (rules : Rules) → IsFreshBook rules rolling book
+    → IsSoloSession rules idle_turns
+    (record { source = source; sink = sink; keeper = book.keeper })
+    (record { source = source_now; sink = sink_now; keeper = book_now.keeper }) reason
+    book_now.events

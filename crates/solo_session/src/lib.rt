@@ -6,5 +6,5 @@
 mod serving;
 mod sole;
 
-pub use serving::{Solo, SoloEnd, serve_solo};
+pub use serving::{ServedBook, Solo, SoloEnd, serve_book, serve_solo};
 pub use sole::{SoleBook, sole_calls_go_on};

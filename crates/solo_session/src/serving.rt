@@ -3,9 +3,9 @@
 ghost use Rattle.std.specs.Prelude.{◌≡◌, ◌<◌, IsTrue, List, Some};
 ghost use Rattle.pool_io.specs.declared.turn.Turn.{Turn};
 ghost use Rattle.pool_history.specs.Accounts.{are_in_range};
-ghost use Rattle.session_loop.specs.Good.{IsGoodInput};
+ghost use Rattle.session_loop.specs.Good.{IsGoodEnd, IsGoodInput};
 ghost use Rattle.share_ledger.specs.Books.{IsUnused};
-ghost use Rattle.solo_session.specs.Solo.{BlamesNoInput, ServesSession, solo_manner};
+ghost use Rattle.solo_session.specs.Solo.{BlamesNoInput, ServesFreshBook, ServesSession, manner_of, solo_manner};
 
 use crate::{SoleBook, sole_calls_go_on};
 use pool_core::SessionEnd;
@@ -61,11 +61,7 @@ pub fn serve_solo<S: Source, T: Sink, K: Keeper>(
     ensures good { (told : List Turn) → (S.seen source).left ≡ Some told
         → IsGoodInput (solo_manner rules limits.idle_turns) told → BlamesNoInput result.end }
 {
-    let manner = Manner {
-        role: Role::Solo,
-        rolling: rules.version_rolling,
-        idle_turns: limits.idle_turns,
-    };
+    let rolling = rules.version_rolling;
     let book = match Book::new(alloc, rules, keeper) {
         Ok(book) => book,
         Err((keeper, cause)) => {
@@ -77,18 +73,64 @@ pub fn serve_solo<S: Source, T: Sink, K: Keeper>(
             };
         }
     };
-    let mut streams = Streams { source, sink };
-    let mut sole = SoleBook { book, worker: 0 };
-    sole_calls_go_on();
-    let end = converse(alloc, &mut streams, &mut sole, manner);
-    sole.book.history_is_kept();
-    let SoleBook { book, worker: _ } = sole;
-    let Streams { source, sink } = streams;
+    let ServedBook {
+        source,
+        sink,
+        book,
+        end,
+    } = serve_book(alloc, book, source, sink, rolling, limits);
     let (keeper, _history) = book.into_parts();
     Solo {
         source,
         sink,
         keeper,
         end: SoloEnd::Over(end),
+    }
+}
+
+/// The streams and the book that were given, and how the session over them ended.
+pub struct ServedBook<S: Source, T: Sink, K: Keeper> {
+    pub source: S,
+    pub sink: T,
+    pub book: Book<K>,
+    pub end: SessionEnd,
+}
+
+/// Serves one session of both roles over a book of which nobody has asked anything, and hands the book
+/// back with the session's history. A miner's bits of the version count where the rules let them roll.
+pub fn serve_book<S: Source, T: Sink, K: Keeper>(
+    alloc: Global,
+    book: Book<K>,
+    source: S,
+    sink: T,
+    rolling: bool,
+    limits: Limits,
+) -> ServedBook<S, T, K>
+    requires waits { 0 < limits.idle_turns }
+    ensures served { ServesFreshBook limits.idle_turns rolling (S.seen source) (T.seen sink)
+        book (S.seen result.source) (T.seen result.sink) result.book result.end }
+
+    // Input that is to blame for nothing isn't blamed.
+    ensures good { (told : List Turn) → (S.seen source).left ≡ Some told
+        → IsGoodInput (manner_of rolling limits.idle_turns) told → IsGoodEnd result.end }
+{
+    book.history_is_kept();
+    let mut streams = Streams { source, sink };
+    let mut sole = SoleBook { book, worker: 0 };
+    sole_calls_go_on();
+    let manner = Manner {
+        role: Role::Solo,
+        rolling,
+        idle_turns: limits.idle_turns,
+    };
+    let end = converse(alloc, &mut streams, &mut sole, manner);
+    sole.book.history_is_kept();
+    let SoleBook { book, worker: _ } = sole;
+    let Streams { source, sink } = streams;
+    ServedBook {
+        source,
+        sink,
+        book,
+        end,
     }
 }

@@ -1,8 +1,7 @@
-use Rattle.std.proofs.Common.{ap, subst, refl, ◌∙◌, ◌++◌}
+use Rattle.std.proofs.Common.{refl, subst}
 use Rattle.session_steps.specs.Steps.{calls_in}
-use Rattle.solo_session.specs.Calling.{CallsBook, StandInTurn, added_in}
 use Rattle.solo_session.specs.Solo.{CountsCalls}
-use Rattle.solo_session.proofs.Chained.{acts_seen, counts_calls, ledger_on}
+use Rattle.solo_session.proofs.Chained.{ledger_on}
 use Rattle.solo_session.proofs.Completing.{serves_session, unbegun_well}
 use Rattle.solo_session.proofs.serving.serve_solo.Goals as goal
 
@@ -24,31 +23,26 @@ returns-in-Err-clause-good g c = λ told is input. tt
 
 pub returns-clause-served : goal.returns-clause-served
 returns-clause-served g c =
-    let begun = c.in-Ok.book in
-    let session = c.converse-end.ensures.session in
-    let sole = c.converse-end.new.acting in
-    let calls = calls_in session.runs.steps in
-    let acts = acts_seen sole (λ s. s.book) CallsBook (record { book = begun; worker = 0 }) calls session.runs.acts in
-    let goes = c.sole_calls_go_on.ensures begun sole.book calls acts in
-    serves_session c.requires.waits (record {
-      steps = session.runs.steps;
+    let session = c.serve_book-source.ensures.served c.args.rules (record { events = c.in-Ok.ensures.ok; rolls = refl }) in
+    serves_session c.serve_book-source.result.book.events c.requires.waits (record {
+      steps = session.steps;
       last = session.last;
-      history = sole.book.events;
-      follows = session.runs.follows;
+      follows = session.follows;
       over = session.over;
-      took = session.runs.took;
-      ended = session.runs.ended;
-      put = session.runs.put;
-      begins = goes.grows ∙ ap (λ h. h ++ added_in calls) c.in-Ok.ensures.ok;
-      turns = subst (λ h. StandInTurn h calls) c.in-Ok.ensures.ok goes.turns;
-      kept = c.history_is_kept.ensures.history;
+      took = session.took;
+      ended = session.ended;
+      put = session.put;
+      begins = session.begins;
+      turns = session.turns;
+      kept = session.kept;
+      reads = session.reads;
+      writes = session.writes;
       ledger = rw c.into_parts-keeper.ensures.keeper
-          (ledger_on (g.K.Keeper.seen c.args.keeper).records begun.keeper.records sole.book.keeper.records begun.events sole.book.events c.in-Ok.ensures.kept goes.kept);
-      reads = c.converse-end.ensures.reads;
-      writes = c.converse-end.ensures.writes;
+          (ledger_on (g.K.Keeper.seen c.args.keeper).records c.in-Ok.book.keeper.records c.serve_book-source.result.book.keeper.records c.in-Ok.book.events c.serve_book-source.result.book.events
+          c.in-Ok.ensures.kept (λ keeps. session.ledger));
       counts = rw c.into_parts-keeper.ensures.keeper
-          (subst (λ n. CountsCalls n calls sole.book.keeper.faults) c.in-Ok.ensures.counts (counts_calls begun sole.book calls acts));
-    }) c.converse-end.ensures.good
+          (subst (λ n. CountsCalls n (calls_in session.steps) c.serve_book-source.result.book.keeper.faults) c.in-Ok.ensures.counts session.counts);
+    }) c.serve_book-source.ensures.good
 
 pub returns-clause-good : goal.returns-clause-good
-returns-clause-good g c = c.converse-end.ensures.good
+returns-clause-good g c = c.serve_book-source.ensures.good
