@@ -6,7 +6,7 @@ use Rattle.std.proofs.lemmas.Nat.{from_le_bytes-to_le_bytes_4}
 use Rattle.fixed_command.specs.declared.judge.Job.{Job}
 use Rattle.command_line.specs.Numbers.{IsNumber}
 use Rattle.command_line.specs.declared.words.Form.{Form}
-use Rattle.command_line.specs.declared.words.Form.TheVariants.{SoloFixed, Frames, Solo, Serve, Audit, Migrate}
+use Rattle.command_line.specs.declared.words.Form.TheVariants.{SoloFixed, Frames, Solo, Serve, Audit, Migrate, Load}
 use Rattle.command_line.specs.Forms.{IsJob, IsSoloFixed, IsForm}
 use Rattle.command_line.specs.Running.{IsWithinLimits}
 
@@ -78,6 +78,20 @@ one_form words Serve Audit is also = absurd (let both = sym also.spelled ∙ is.
 one_form words Migrate Serve is also = absurd (let both = sym is.spelled ∙ also.spelled in cc)
 one_form words Serve Migrate is also = absurd (let both = sym also.spelled ∙ is.spelled in cc)
 one_form words Serve Serve is also = refl
+one_form words (Load number) (Load other) is also =
+    ap Load (one_number is.digits also.digits number other (let both = sym is.spelled ∙ also.spelled in cc) is.is_number also.is_number)
+one_form words (SoloFixed class job) (Load number) is also = absurd (let both = sym is.spelled ∙ also.spelled in cc)
+one_form words (Load number) (SoloFixed class job) is also = absurd (let both = sym also.spelled ∙ is.spelled in cc)
+one_form words Frames (Load number) is also = absurd (let both = sym is ∙ also.spelled in cc)
+one_form words (Load number) Frames is also = absurd (let both = sym also ∙ is.spelled in cc)
+one_form words Solo (Load number) is also = absurd (let both = sym is.spelled ∙ also.spelled in cc)
+one_form words (Load number) Solo is also = absurd (let both = sym also.spelled ∙ is.spelled in cc)
+one_form words Serve (Load number) is also = absurd (let both = sym is.spelled ∙ also.spelled in cc)
+one_form words (Load number) Serve is also = absurd (let both = sym also.spelled ∙ is.spelled in cc)
+one_form words Audit (Load number) is also = absurd (let both = sym is.spelled ∙ also.spelled in cc)
+one_form words (Load number) Audit is also = absurd (let both = sym also.spelled ∙ is.spelled in cc)
+one_form words Migrate (Load number) is also = absurd (let both = sym is.spelled ∙ also.spelled in cc)
+one_form words (Load number) Migrate is also = absurd (let both = sym also.spelled ∙ is.spelled in cc)
 
 pub within_limits : (words : List (List ℕ)) (form : Form) → IsForm words form → IsWithinLimits form
 within_limits words (SoloFixed class job) is = is.limit
@@ -86,3 +100,4 @@ within_limits words Solo is = tt
 within_limits words Serve is = tt
 within_limits words Audit is = tt
 within_limits words Migrate is = tt
+within_limits words (Load number) is = tt

@@ -4,7 +4,7 @@ use Rattle.std.specs.Int.{w32, to_le_bytes}
 use Rattle.hex.specs.Hex.{decode_sized}
 use Rattle.fixed_command.specs.declared.judge.Job.{Job}
 use Rattle.command_line.specs.declared.words.Form.{Form}
-use Rattle.command_line.specs.declared.words.Form.TheVariants.{SoloFixed, Frames, Solo, Serve, Audit, Migrate}
+use Rattle.command_line.specs.declared.words.Form.TheVariants.{SoloFixed, Frames, Solo, Serve, Audit, Migrate, Load}
 use Rattle.command_line.specs.Numbers.{IsNumber}
 
 -- the bytes are the job's previous hash, merkle root and nbits, as they stand in a header
@@ -52,6 +52,13 @@ pub record IsMigrate (words : List (List ℕ)) : Type 0 where
   pub new_ledger : List ℕ
   pub spelled : words ≡ codes "migrate" ∷ old_ledger ∷ new_ledger ∷ []
 
+-- `load NUMBER`: a number of 64 bits
+pub record IsLoad (words : List (List ℕ)) (number : ℕ) : Type 0 where
+  pub digits : List ℕ
+  pub spelled : words ≡ codes "load" ∷ digits ∷ []
+  pub is_number : IsNumber digits number
+  pub limit : number < 2 ^ 64
+
 -- the words are of this form
 abbrev pub IsForm : List (List ℕ) → Form → Type 0
 IsForm words (SoloFixed class job) = IsSoloFixed words class job
@@ -60,6 +67,7 @@ IsForm words Solo = IsSolo words
 IsForm words Serve = IsServe words
 IsForm words Audit = IsAudit words
 IsForm words Migrate = IsMigrate words
+IsForm words (Load number) = IsLoad words number
 
 -- the words are none of the forms
 abbrev pub HasNoForm : List (List ℕ) → Type 0

@@ -8,11 +8,12 @@ use Rattle.ledger_commands.specs.Auditing.{AuditRow}
 use Rattle.fixed_command.specs.Duty.{share_duty}
 use Rattle.frames_command.specs.Duty.{listing_duty}
 use Rattle.ledger_commands.specs.Migrating.{MigrateRow}
+use Rattle.load_command.specs.Row.{LoadRow}
 use Rattle.serve_command.specs.Row.{ServeRow, WorldSeen}
 use Rattle.pool_io.specs.Hosts.{HostSeen}
 use Rattle.solo_command.specs.Row.{SoloRow}
 use Rattle.command_line.specs.declared.words.Form.{Form}
-use Rattle.command_line.specs.declared.words.Form.TheVariants.{SoloFixed, Frames, Solo, Serve, Audit, Migrate}
+use Rattle.command_line.specs.declared.words.Form.TheVariants.{SoloFixed, Frames, Solo, Serve, Audit, Migrate, Load}
 use Rattle.command_line.specs.Forms.{IsAudit, IsMigrate, IsServe, IsSolo}
 
 -- a command over standard input and output: what it owes at each status, and that it asked for
@@ -40,6 +41,8 @@ OwesRow words Migrate old new status =
     ((names : IsMigrate words)
     × MigrateRow names.old_ledger names.new_ledger old.host new.host status)
     × (new.network ≡ old.network)
+OwesRow words (Load number) old new status =
+    LoadRow number old.host new.host status × (new.network ≡ old.network)
 
 -- the answer is the number of a status, and what the form owes at it stands
 pub record DoesForm (words : List (List ℕ)) (form : Form) (old new : WorldSeen) (answer : ℕ) :
@@ -61,3 +64,4 @@ IsWithinLimits Solo = Unit {0}
 IsWithinLimits Serve = Unit {0}
 IsWithinLimits Audit = Unit {0}
 IsWithinLimits Migrate = Unit {0}
+IsWithinLimits (Load number) = Unit {0}

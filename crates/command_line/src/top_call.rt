@@ -17,6 +17,7 @@ use crate::words::{Form, Word, audit_name, form_of, migrate_names, serve_names, 
 use fixed_command::judge_shares;
 use frames_command::list_frames;
 use ledger_commands::{audit_ledger, migrate_ledger};
+use load_command::load;
 use pool_io::Host;
 use pool_network::{Door, Network};
 use std::alloc::Global;
@@ -102,6 +103,7 @@ where
         Form::Serve => serve_named(rt, alloc, host, network, words),
         Form::Audit => audit_named(alloc, host, words),
         Form::Migrate => migrate_named(alloc, host, words),
+        Form::Load { number } => load(alloc, host, number),
     }
 }
 

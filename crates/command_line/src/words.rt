@@ -5,7 +5,7 @@ ghost use Rattle.std.specs.Prelude.{IfSome, IfNone, Ok, [], ◌∷◌, codes};
 ghost use Rattle.hex.specs.Hex.{decode_sized};
 ghost use Rattle.command_line.specs.Numbers.{IsNumber};
 ghost use Rattle.fixed_command.specs.declared.judge.Job.{Job as Work};
-ghost use Rattle.command_line.specs.Forms.{IsAudit, IsForm, IsFrames, IsJob, IsMigrate, IsServe, IsSolo, IsSoloFixed};
+ghost use Rattle.command_line.specs.Forms.{IsAudit, IsForm, IsFrames, IsJob, IsLoad, IsMigrate, IsServe, IsSolo, IsSoloFixed};
 
 use fixed_command::Job;
 use hex::FromHex;
@@ -60,6 +60,8 @@ pub enum Form {
     Audit,
     /// `migrate OLD NEW`
     Migrate,
+    /// `load NUMBER`
+    Load { number: u64 },
 }
 
 /// The form that the words have, if they have one.
@@ -81,6 +83,9 @@ pub fn form_of(words: &[Word]) -> Option<Form>
     }
     if migrate_names(words).is_some() {
         return Some(Form::Migrate);
+    }
+    if let Some(number) = load_number(words) {
+        return Some(Form::Load { number });
     }
     solo_fixed_form(words)
 }
@@ -142,6 +147,17 @@ pub fn audit_name(words: &[Word]) -> Option<&Word>
 {
     match words {
         [audit, ledger] if audit.says("audit") => Some(ledger),
+        _ => None,
+    }
+}
+
+/// The number behind `load`, where there is one.
+fn load_number(words: &[Word]) -> Option<u64>
+    ensures found { IfSome result (IsLoad words.now) }
+    ensures none { IfNone result ((n : ℕ) → IsLoad words.now n → ⊥) }
+{
+    match words {
+        [load, digits] if load.says("load") => number(digits.text()),
         _ => None,
     }
 }

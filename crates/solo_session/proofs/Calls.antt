@@ -1,25 +1,20 @@
 -- Calls of a book by itself.
-use Rattle.std.proofs.Common.{◌≡◌, ℕ, ◌+◌, ◌^◌, ◌≤◌, Bool, true, false, List, [], ◌∷◌, ◌++◌, Option, Some, None, Result, Ok, Err, length, refl, sym, ap, subst, ◌∙◌, append_assoc, append-nil, arith}
+use Rattle.std.proofs.Common.{◌≡◌, ℕ, ◌≤◌, false, List, [], ◌∷◌, ◌++◌, Option, Some, None, Result, Ok, Err, length, refl, sym, ap, subst, ◌∙◌, append_assoc, append-nil, arith}
 use Rattle.std.specs.Prelude.{IfOk, OnErr}
 use Rattle.std.proofs.lemmas.List.{length-take-le}
 use Rattle.pool_base.specs.Calls.{IsOutcome, Outcome, Replied, Faulted}
 use Rattle.pool_base.specs.Counts.{Rose}
 use Rattle.pool_io.specs.Outside.{CountsFailure}
 use Rattle.pool_history.specs.declared.asking.Request.{Request}
-use Rattle.pool_history.specs.declared.asking.Request.TheVariants as request
 use Rattle.pool_history.specs.declared.events.Event.{Event}
 use Rattle.pool_history.specs.declared.refusals.BookError.{BookError}
 use Rattle.pool_history.specs.declared.refusals.BookError.TheVariants as fault
 use Rattle.pool_history.specs.declared.replies.Reply.{Reply}
-use Rattle.pool_history.specs.declared.replies.Reply.TheVariants as reply
-use Rattle.pool_history.specs.declared.shares.Submission.{Submission}
 use Rattle.pool_history.specs.Answering.{Answer}
 use Rattle.pool_history.specs.Calls.{PoolCall, blames_keeper, wants_memory}
-use Rattle.pool_history.specs.Headers.{Briefing}
 use Rattle.pool_history.specs.Legal.{Legal}
 use Rattle.history_laws.specs.Answered.{AnswersKeepLegality, BriefsRoll}
 use Rattle.ledger_laws.specs.Requests.{IsWellFormedRequest}
-use Rattle.session_loop.specs.declared.acting.Acted.{Acted}
 use Rattle.session_loop.specs.Answerers.{Acts, RollsAsBriefed, outcome_of}
 use Rattle.share_ledger.specs.Books.{BookSeen, IsReplied, KeepsInstead, KeepsLedger, is_keeper_fault}
 use Rattle.solo_session.specs.Calling.{CallsBook, GoesOn, StandInTurn, added_in}

@@ -1,10 +1,8 @@
 -- What the calls of a book by itself do (this project's own).
-use Rattle.std.specs.Prelude.{◌≡◌, ℕ, Bool, false, Option, List, [], ◌∷◌, ◌++◌, length}
+use Rattle.std.specs.Prelude.{◌≡◌, List, [], ◌∷◌, ◌++◌, length}
 use Rattle.std.specs.List.{flat_map}
 use Rattle.pool_base.specs.Calls.{IsOutcome}
 use Rattle.pool_history.specs.declared.events.Event.{Event}
-use Rattle.pool_history.specs.declared.refusals.BookError.{BookError}
-use Rattle.pool_history.specs.declared.replies.Reply.{Reply}
 use Rattle.pool_io.specs.Outside.{CountsFailure}
 use Rattle.pool_history.specs.Answering.{Answer}
 use Rattle.pool_history.specs.Calls.{PoolCall, has_keeper_failed, wants_memory}

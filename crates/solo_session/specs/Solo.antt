@@ -1,5 +1,5 @@
 -- One session of both roles over a book of its own, from its keeper to its end (this project's own).
-use Rattle.std.specs.Prelude.{◌≡◌, ℕ, Bool, Option, Some, List, [], ◌∷◌}
+use Rattle.std.specs.Prelude.{◌≡◌, ℕ, Bool, Some, List, [], ◌∷◌}
 use Rattle.pool_io.specs.declared.turn.Turn.{Turn}
 use Rattle.pool_io.specs.Outside.{AddsBytes, CountsFailure}
 use Rattle.pool_io.specs.Seen.{KeeperSeen, SinkSeen, SourceSeen}
