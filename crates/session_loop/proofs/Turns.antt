@@ -1,6 +1,5 @@
 -- The turns of a session, by what its code did.
-use Rattle.std.proofs.Common.{◌≡◌, ℕ, ◌+◌, ◌-◌, ◌*◌, ◌<◌, ◌≤◌, ◌++◌, Bool, true, false, List, [], Option, Some, None, Result, Ok, Err, length, take, drop, refl, sym, ap, subst, ◌∙◌, append_assoc, arith}
-use Rattle.std.proofs.Math.Nat.{mul-le-mul_right}
+use Rattle.std.proofs.Common.{◌≡◌, ℕ, ◌-◌, ◌<◌, ◌≤◌, ◌++◌, Bool, true, false, List, [], Option, Some, None, Result, Ok, Err, length, take, drop, refl, sym, ap, subst, ◌∙◌, append_assoc, arith}
 use Rattle.std.specs.Prelude.{OnOk}
 use Rattle.std.proofs.lemmas.List.{take-append-drop, take_rest}
 use Rattle.session_steps.specs.declared.manner.Manner.{Manner}
@@ -10,9 +9,12 @@ use Rattle.pool_io.specs.declared.sink.SinkFailed.TheVariants as sink
 use Rattle.pool_io.specs.declared.source.Took.{Took}
 use Rattle.pool_io.specs.declared.source.Took.TheVariants as took
 use Rattle.pool_io.specs.declared.turn.Turn.{Turn}
-use Rattle.pool_io.specs.Outside.{CountsFailure, TakesTurn, is_failed_take}
+use Rattle.pool_io.specs.Outside.{TakesTurn}
 use Rattle.pool_io.specs.Steps.{BringsSteps, steps_of}
 use Rattle.pool_io.proofs.Stepping.{brought_bytes, brought_idle, brought_none, steps_of-ended}
+use Rattle.link_turns.specs.declared.waiting.Limit.TheVariants as limit
+use Rattle.link_turns.specs.declared.waiting.Waiting.{Waiting}
+use Rattle.link_turns.specs.Waits.{TakesOf}
 use Rattle.stream_commands.proofs.Puts.{Adds-none}
 use Rattle.pool_network.specs.Seen.{LinkSeen}
 use Rattle.sv2_frames.specs.Holding.{Holding, HoldsOver, IsCutWithin, frame_end}
@@ -33,10 +35,10 @@ use Rattle.session_loop.specs.Links.{PutsOut}
 use Rattle.session_loop.specs.Meeting.{MeetsHeld}
 use Rattle.session_loop.specs.Running.{Runs, TakesAll}
 use Rattle.session_steps.proofs.Deciding.{held_waits}
-use Rattle.session_loop.specs.Standing.{HoldsNoMore, Intake, IsListening, idled, intake_of, intake_with, new_intake, stage_or, state_at}
-use Rattle.session_loop.proofs.Chains.{runs_on, runs_put, runs_quiet, runs_step}
-use Rattle.session_loop.specs.Sessions.{IdlesOn, ReadsOn}
-use Rattle.session_loop.proofs.Moves.{put_end, put_stage_or}
+use Rattle.session_loop.specs.Standing.{GoesOnOrEnds, HasMetAll, HoldsNoMore, Intake, IsListening, counted, intake_of, intake_with, new_intake, stage_or, state_at}
+use Rattle.session_loop.proofs.Chains.{runs_none, runs_on, runs_put, runs_quiet, runs_step}
+use Rattle.session_loop.specs.Sessions.{ReadsOn}
+use Rattle.session_loop.proofs.Moves.{next_reads, put_end, put_stage_or}
 
 -- a refused setup ends the session, however its answer was put
 abbrev pub refused_end : Option SinkFailed → SessionEnd
@@ -119,36 +121,36 @@ failed_brings : (old new : Option (List Turn)) (buffer : List ℕ) → TakesTurn
 failed_brings None new buffer takes = tt
 failed_brings (Some turns) new buffer takes = (takes.0, takes.1, ap steps_of (sym takes.2))
 
--- one answer of a link, and what stays of the rest
-pub record TakesOf (answered : Took) (buffer : List ℕ) (old new : LinkSeen) : Type 0 where
-  pub turns : TakesTurn old.source.left new.source.left answered buffer
-  pub counts : CountsFailure (is_failed_take answered) old.source.faults new.source.faults
-  pub sink : new.sink ≡ old.sink
+-- what is held once all is met is cut within the limit, and no more than that
+cut_at_most : (holding : Holding) → HasMetAll holding → IsCutWithin (record { held = holding.held; limit = most_payload })
+cut_at_most holding met = subst (λ n. IsCutWithin (record { held = holding.held; limit = n })) met.limit met.cut
+
+held_at_most : (holding : Holding) → HasMetAll holding → length holding.held ≤ frame_end most_payload holding.held
+held_at_most holding met = subst (λ n. length holding.held ≤ frame_end n holding.held) met.limit met.no_more
 
 module _ (listener : Listener) (listening : IsListening listener) where
-  cut_at_most : IsCutWithin (record { held = listener.splitter.held; limit = most_payload })
-  cut_at_most = subst (λ n. IsCutWithin (record { held = listener.splitter.held; limit = n })) listening.limit listening.cut
-
-  held_at_most : length listener.splitter.held ≤ frame_end most_payload listener.splitter.held
-  held_at_most = subst (λ n. length listener.splitter.held ≤ frame_end n listener.splitter.held) listening.limit listening.no_more
-
   can_take : (c : Conversation) → CanTake (state_at Reading (intake_of listener) c)
   can_take c = record {
-    waiting = record { reading = refl; cut = cut_at_most.cut; not_over = held_waits listener.splitter.held cut_at_most held_at_most };
-    some = listening.some;
+    waiting = record {
+      reading = refl;
+      cut = (cut_at_most listener.splitter listening.met).cut;
+      not_over = held_waits listener.splitter.held (cut_at_most listener.splitter listening.met) (held_at_most listener.splitter listening.met);
+    };
+    some = listening.below.some;
   }
 
   module _ {A : Type 0} {worker : A → ℕ} {does : A → PoolCall → A → Type 0} {l l' : LinkSeen} {a : A} (c : Conversation) (buffer : List ℕ) where
-    pub took_runs : (n : ℕ) → 0 < length (take n buffer) → length (take n buffer) ≤ 4096 → length (take n buffer) ≤ listener.bytes → TakesOf (took.Bytes n) buffer l l'
-        → Runs worker does (state_at Reading (intake_of listener) c) (state_at Reading (intake_with (take n buffer) listener) c) l l' a a
-    took_runs n some piece within takes =
-        runs_step (steps.Took (take n buffer)) (record { can = can_take c; some = some; piece = piece; within = within }) refl
+    pub took_runs : (n : ℕ) → length (take n buffer) ≡ n → 0 < n → n ≤ 4096 → n ≤ listener.waiting.bytes → TakesOf (took.Bytes n) buffer l l'
+        → Runs worker does (state_at Reading (intake_of listener) c) (state_at Reading (intake_with (take n buffer) (counted (took.Bytes n) listener)) c) l l' a a
+    took_runs n len some piece within takes =
+        runs_step (steps.Took (take n buffer)) (record { can = can_take c; some = rw len some; piece = rw len piece; within = rw len within })
+        (ap (λ m. state_at Reading (record (intake_with (take n buffer) (counted (took.Bytes n) listener)) { bytes = listener.waiting.bytes - m }) c) (sym len))
         (brought_bytes l.source.left l.source.left l'.source.left [] n buffer (brought_none l.source.left) takes.turns) tt
         (rw (ap (λ (s : SinkSeen). s.held) takes.sink) (Adds-none l.sink.held)) takes.counts (ap (λ (s : SinkSeen). s.faults) takes.sink) refl refl
 
     pub idled_runs : TakesOf took.Idle buffer l l'
         → Runs worker does (state_at Reading (intake_of listener) c)
-        (state_at (news_stage c.entered (idled (intake_of listener)).idles) (idled (intake_of listener)) c) l l' a a
+        (state_at (news_stage c.entered (listener.waiting.idles - 1)) (intake_of (counted took.Idle listener)) c) l l' a a
     idled_runs takes =
         runs_step steps.Idled (can_take c) refl
         (brought_idle l.source.left l.source.left l'.source.left [] buffer (brought_none l.source.left) takes.turns) tt
@@ -184,16 +186,10 @@ on_any : (P : Type 0) (result : Result Unit SessionEnd) → P → OnOk result P
 on_any P (Ok _) p = p
 on_any P (Err _) p = tt
 
-pub idles_first : {A : Type 0} {worker : A → ℕ} {does : A → PoolCall → A → Type 0} {l l' l'' : LinkSeen} {a a' a'' : A} {before kept : Intake} {old new : Conversation} {result : Result Unit SessionEnd}
-    → Runs worker does (state_at Reading before old) (state_at (news_stage old.entered (idled before).idles) (idled before) old) l l' a a'
-    → IdlesOn worker does before kept old new l' l'' a' a'' result → ReadsOn worker does before kept old new l l'' a a'' result
-idles_first {before = before} {kept = kept} {result = result} first then = record { intake = idled before; kept_is = on_any (idled before ≡ kept) result (sym then.kept_is); runs = runs_on first then.runs }
-
--- bytes bring the end nearer, and so does an Idle turn
-pub bytes_nearer : (bytes turns idles count : ℕ) → 0 < count → count ≤ bytes → (bytes - count) * (turns + 1) + turns < bytes * (turns + 1) + idles
-bytes_nearer bytes turns idles count some fits =
-    let least : (bytes - count) + 1 ≤ bytes = omega (arith, some, fits) in
-    omega (arith, mul-le-mul_right (turns + 1) least)
+-- steps that leave the intake as it is
+pub reads_at : {A : Type 0} {worker : A → ℕ} {does : A → PoolCall → A → Type 0} {l l' : LinkSeen} {a a' : A} {before : Intake} (intake : Intake) {old new : Conversation} {result : Result Unit SessionEnd}
+    → Runs worker does (state_at Reading before old) (state_at (stage_or Reading new.entered result) intake new) l l' a a' → ReadsOn worker does before intake old new l l' a a' result
+reads_at intake {result = result} runs = record { intake = intake; kept_is = on_any (intake ≡ intake) result refl; runs = runs }
 
 -- what was fed and what is left of the piece are what was held and the piece
 pub fed_whole : (held held' rest : List ℕ) (count : ℕ) → held' ≡ held ++ take count rest → held' ++ take (length rest - count) (drop count rest) ≡ held ++ rest
@@ -201,21 +197,25 @@ fed_whole held held' rest count fed =
     ap (λ l. held' ++ l) (take_rest rest count) ∙ ap (λ l. l ++ drop count rest) fed
     ∙ append_assoc held (take count rest) (drop count rest) ∙ ap (λ l. held ++ l) (take-append-drop count rest)
 
--- what is held once all is fed is cut within the limit
-pub cut_held : (holding : Holding) (rest : List ℕ) → rest ≡ holding.held → holding.limit ≡ most_payload → IsCutWithin holding → IsCutWithin (record { held = rest; limit = most_payload })
-cut_held holding rest is limit cut = rw is (subst (λ n. IsCutWithin (record { held = holding.held; limit = n })) limit cut)
-
--- and it is no more than that
-pub no_more_held : (holding : Holding) (rest : List ℕ) → rest ≡ holding.held → holding.limit ≡ most_payload → HoldsNoMore holding → length rest ≤ frame_end most_payload rest
-no_more_held holding rest is limit no_more = rw is (subst (λ n. length holding.held ≤ frame_end n holding.held) limit no_more)
-
 -- what a splitter was fed with is no more than that
 pub fed_no_more : (limit : ℕ) (all : List ℕ) (new : Holding) → new.held ≡ take (frame_end limit all) all → new.limit ≡ limit → HoldsNoMore new
 fed_no_more limit all new fed same = rw (fed, same) (present_after limit all)
 
--- too many Idle turns came in a row
-pub next_idle_out : (entered : Bool) (idles : ℕ) → idles ≡ 0 → next_stage entered idles ≡ end_stage entered end.IdleOut
-next_idle_out entered idles none = rw none refl
+-- once all frames are met, the next turn is taken, or as many bytes came as are taken
+pub met_goes_on : {A : Type 0} {worker : A → ℕ} {does : A → PoolCall → A → Type 0} {l : LinkSeen} {a : A} (listener : Listener) (c : Conversation) (result : Result Unit SessionEnd)
+    → HasMetAll listener.splitter → 0 < listener.waiting.idles → GoesOnOrEnds listener.waiting result
+    → Runs worker does (state_at Reading (intake_of listener) c) (state_at (stage_or Reading c.entered result) (intake_of listener) c) l l a a
+met_goes_on listener c (Ok _) met waits goes = runs_none refl
+met_goes_on listener c (Err reason) met waits (limit.IdleOut, is, reason_is) = absurd (omega (arith, is, waits))
+met_goes_on listener c (Err reason) met waits (limit.BytesOut, is, reason_is) =
+    rw reason_is (spent_runs (intake_of listener) c (cut_at_most listener.splitter met) (held_at_most listener.splitter met) is.1)
+
+-- once an Idle turn's news are told, the same, or too many came in a row
+pub idle_goes_on : (entered : Bool) (waiting : Waiting) (result : Result Unit SessionEnd) → 0 < waiting.bytes → GoesOnOrEnds waiting result
+    → next_stage entered waiting.idles ≡ stage_or Reading entered result
+idle_goes_on entered waiting (Ok _) some goes = next_reads entered waiting.idles goes.0
+idle_goes_on entered waiting (Err reason) some (limit.IdleOut, is, reason_is) = rw (is, reason_is) refl
+idle_goes_on entered waiting (Err reason) some (limit.BytesOut, is, reason_is) = absurd (omega (arith, is.1, some))
 
 -- a session begins
 pub new_is : (c : Conversation) (manner : Manner) → c.session ≡ new_talk manner.role manner.rolling → c.entered ≡ false → c.cursor ≡ 0

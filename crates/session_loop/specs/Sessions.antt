@@ -7,7 +7,7 @@ use Rattle.session_steps.specs.declared.manner.Manner.{Manner}
 use Rattle.session_steps.specs.States.{Stage, State, Over, Reading, end_stage, new_state, news_stage}
 use Rattle.session_loop.specs.declared.conversation.Conversation.{Conversation}
 use Rattle.session_loop.specs.Running.{Runs}
-use Rattle.session_loop.specs.Standing.{Intake, idled, state_at, stage_or}
+use Rattle.session_loop.specs.Standing.{Intake, state_at, stage_or}
 
 -- steps that begin a session and come to this end, with all that they did to the link and to who
 -- answers
@@ -25,15 +25,6 @@ pub record ReadsOn {A : Type 0} (worker : A → ℕ) (does : A → PoolCall → 
   pub kept_is : OnOk result (intake ≡ kept)
   pub runs : Runs worker does (state_at Reading before old)
       (state_at (stage_or Reading new.entered result) intake new) link link' acting acting'
-
--- the same where an Idle turn came before
-pub record IdlesOn {A : Type 0} (worker : A → ℕ) (does : A → PoolCall → A → Type 0)
-    (before kept : Intake) (old new : Conversation)
-    (link link' : LinkSeen) (acting acting' : A) (result : Result Unit SessionEnd) : Type 0 where
-  pub kept_is : kept ≡ idled before
-  pub runs : Runs worker does
-      (state_at (news_stage old.entered (idled before).idles) (idled before) old)
-      (state_at (stage_or Reading new.entered result) (idled before) new) link link' acting acting'
 
 -- a session goes on from a stage to its end, but for its leaving
 pub record Serves {A : Type 0} (worker : A → ℕ) (does : A → PoolCall → A → Type 0)

@@ -1,7 +1,13 @@
 -- Where a session that is served stands (this project's own).
-use Rattle.std.specs.Prelude.{◌≡◌, ℕ, ◌+◌, ◌-◌, ◌*◌, ◌<◌, ◌≤◌, Bool, Result, Ok, Err, List, [], ◌++◌, length}
+use Rattle.std.specs.Prelude.{◌≡◌, ℕ, ◌≤◌, Bool, Option, None, Some, Result, Ok, Err, List, [], ◌++◌, length}
+use Rattle.pool_io.specs.declared.source.Took.{Took}
+use Rattle.link_turns.specs.declared.waiting.Limit.{Limit}
+use Rattle.link_turns.specs.declared.waiting.Limit.TheVariants as limit
+use Rattle.link_turns.specs.declared.waiting.Waiting.{Waiting}
+use Rattle.link_turns.specs.Waits.{IsBelowLimits, IsLimitOf, waiting_after}
 use Rattle.sv2_frames.specs.Holding.{Holding, IsCutWithin, frame_end}
 use Rattle.session_steps.specs.declared.ends.SessionEnd.{SessionEnd}
+use Rattle.session_steps.specs.declared.ends.SessionEnd.TheVariants as end
 use Rattle.session_steps.specs.States.{Stage, State, end_stage, most_bytes, most_payload}
 use Rattle.session_loop.specs.declared.conversation.Conversation.{Conversation}
 use Rattle.session_loop.specs.declared.listening.Listener.{Listener}
@@ -24,24 +30,21 @@ new_intake idle_turns = record {
 
 abbrev pub intake_of : Listener → Intake
 intake_of listener = record {
-  idle_turns = listener.idle_turns;
-  idles = listener.idles;
-  bytes = listener.bytes;
+  idle_turns = listener.waiting.idle_turns;
+  idles = listener.waiting.idles;
+  bytes = listener.waiting.bytes;
   unmet = listener.splitter.held;
 }
 
--- after a turn with these bytes
+-- with bytes that aren't met
 abbrev pub intake_with : List ℕ → Listener → Intake
-intake_with bytes listener = record {
-  idle_turns = listener.idle_turns;
-  idles = listener.idle_turns;
-  bytes = listener.bytes - length bytes;
-  unmet = listener.splitter.held ++ bytes;
-}
+intake_with bytes listener =
+    record (intake_of listener) { unmet = listener.splitter.held ++ bytes }
 
--- after an Idle turn
-abbrev pub idled : Intake → Intake
-idled intake = record intake { idles = intake.idles - 1 }
+-- once a turn is counted
+abbrev pub counted : Took → Listener → Listener
+counted answered listener =
+    record listener { waiting = waiting_after answered listener.waiting }
 
 -- the state at a stage
 abbrev pub state_at : Stage → Intake → Conversation → State
@@ -65,16 +68,24 @@ stage_or stage entered (Err reason) = end_stage entered reason
 abbrev pub HoldsNoMore : Holding → Type 0
 HoldsNoMore holding = length holding.held ≤ frame_end holding.limit holding.held
 
--- a turn may be taken: all frames that came are met, and neither limit is reached
-pub record IsListening (listener : Listener) : Type 0 where
-  pub cut : IsCutWithin listener.splitter
-  pub no_more : HoldsNoMore listener.splitter
-  pub limit : listener.splitter.limit ≡ most_payload
-  pub some : 0 < listener.bytes
-  pub fits : listener.bytes ≤ most_bytes
-  pub waits : 0 < listener.idles
-  pub most : listener.idles ≤ listener.idle_turns
+-- all frames that came are met
+pub record HasMetAll (holding : Holding) : Type 0 where
+  pub cut : IsCutWithin holding
+  pub no_more : HoldsNoMore holding
+  pub limit : holding.limit ≡ most_payload
 
--- a bound on the turns that are still taken
-abbrev pub turns_bound : Listener → ℕ
-turns_bound listener = listener.bytes * (listener.idle_turns + 1) + listener.idles
+-- a turn may be taken
+pub record IsListening (listener : Listener) : Type 0 where
+  pub met : HasMetAll listener.splitter
+  pub below : IsBelowLimits listener.waiting
+
+-- a limit is the end of a session
+abbrev pub end_at_limit : Limit → SessionEnd
+end_at_limit limit.IdleOut = end.IdleOut
+end_at_limit limit.BytesOut = end.BytesOut
+
+-- it is reached just where the session doesn't go on
+abbrev pub GoesOnOrEnds : Waiting → Result Unit SessionEnd → Type 0
+GoesOnOrEnds waiting (Ok _) = IsLimitOf waiting None
+GoesOnOrEnds waiting (Err reason) =
+    (reached : Limit) × IsLimitOf waiting (Some reached) × (reason ≡ end_at_limit reached)

@@ -1,34 +1,34 @@
 //! The turns that a session takes.
 
 ghost use Rattle.std.specs.Prelude.{◌≡◌, ◌<◌, ◌≤◌, ◌^◌, ℕ, [], length, IfOk, OnOk};
-ghost use Rattle.sv2_frames.specs.Holding.{IsCutWithin};
+ghost use Rattle.link_turns.specs.Waits.{turns_left};
 ghost use Rattle.session_steps.specs.States as states;
 
 use crate::acting::Acting;
 use crate::conversation::Conversation;
+use crate::ends::limit_end;
+use link_turns::Waiting;
 use pool_core::SessionEnd;
 use pool_io::Took;
 use pool_network::Link;
 use std::alloc::{AllocError, Global};
-use stream_commands::{MOST_BYTES, PIECE_LEN};
+use stream_commands::PIECE_LEN;
 use sv2_frames::Splitter;
 
 /// The most bytes of a payload.
 const MOST_PAYLOAD: u32 = 262_144;
 
-/// What came of a frame that isn't whole, how many Idle turns in a row and how many bytes are still
-/// waited for.
+/// What came of a frame that isn't whole, and what is still waited for.
 #[derive(Drop)]
 pub(crate) struct Listener {
     pub(crate) splitter: Splitter,
-    pub(crate) idle_turns: u64,
-    pub(crate) idles: u64,
-    pub(crate) bytes: u64,
+    pub(crate) waiting: Waiting,
 }
 
 impl Listener {
-    ghost use Rattle.session_loop.specs.Standing.{IsListening, intake_of, intake_with, new_intake, turns_bound};
-    ghost use Rattle.session_loop.specs.Sessions.{IdlesOn, ReadsOn};
+    ghost use Rattle.session_loop.specs.Standing.{GoesOnOrEnds, HasMetAll, IsListening, intake_of, intake_with, new_intake, stage_or, state_at};
+    ghost use Rattle.session_loop.specs.Running.{Runs};
+    ghost use Rattle.session_loop.specs.Sessions.{ReadsOn};
 
     pub(crate) fn new(alloc: Global, idle_turns: u64) -> Result<Listener, AllocError>
         requires { 0 < idle_turns }
@@ -37,13 +37,21 @@ impl Listener {
     {
         Ok(Listener {
             splitter: Splitter::new(alloc, MOST_PAYLOAD)?,
-            idle_turns,
-            idles: idle_turns,
-            bytes: MOST_BYTES,
+            waiting: Waiting::new(idle_turns),
         })
     }
 
-    /// Meets the bytes that came.
+    /// Another turn is taken, or a limit ends the session.
+    fn go_on(&self) -> Result<(), SessionEnd>
+        ensures { GoesOnOrEnds self.now.waiting result }
+    {
+        match self.waiting.limit() {
+            None => Ok(()),
+            Some(limit) => Err(limit_end(limit)),
+        }
+    }
+
+    /// Meets the bytes that came and were counted.
     fn piece<L: Link, A: Acting>(
         &mut self,
         conversation: &mut Conversation,
@@ -52,47 +60,42 @@ impl Listener {
         acting: &mut A,
     ) -> Result<(), SessionEnd>
         requires ready { A.ready acting.old }
-        requires listening { IsListening self.old }
-        requires some { 0 < length piece.now }
-        requires fits { length piece.now ≤ self.old.bytes }
+        requires met { HasMetAll self.old.splitter }
+        requires waits { 0 < self.old.waiting.idles }
+        requires most { self.old.waiting.idles ≤ self.old.waiting.idle_turns }
         ensures ready { A.ready acting.new }
         ensures listening { OnOk result (IsListening self.new) }
-        ensures nearer { OnOk result (turns_bound self.new < turns_bound self.old) }
+        ensures waiting { self.new.waiting ≡ self.old.waiting }
         ensures reads { ReadsOn A.worker A.does (intake_with piece.now self.old) (intake_of self.new)
             conversation.old conversation.new (L.seen link.old) (L.seen link.new) acting.old
             acting.new result }
     {
-        self.bytes -= piece.len() as u64;
-        self.idles = self.idle_turns;
         conversation.meet_all(&mut self.splitter, piece, link, acting)?;
-        if self.bytes == 0 {
-            return Err(SessionEnd::BytesOut);
-        }
-        Ok(())
+        self.go_on()
     }
 
-    /// No byte came for now: news may be owed.
+    /// No byte came for now, which was counted: news may be owed.
     fn idle<L: Link, A: Acting>(
-        &mut self,
+        &self,
         conversation: &mut Conversation,
         link: &mut L,
         acting: &mut A,
     ) -> Result<(), SessionEnd>
         requires ready { A.ready acting.old }
-        requires listening { IsListening self.old }
+        requires met { HasMetAll self.now.splitter }
+        requires some { 0 < self.now.waiting.bytes }
+        requires most { self.now.waiting.idles ≤ self.now.waiting.idle_turns }
         ensures ready { A.ready acting.new }
-        ensures listening { OnOk result (IsListening self.new) }
-        ensures nearer { OnOk result (turns_bound self.new < turns_bound self.old) }
-        ensures told { IdlesOn A.worker A.does (intake_of self.old) (intake_of self.new)
-            conversation.old conversation.new (L.seen link.old) (L.seen link.new) acting.old
-            acting.new result }
+        ensures listening { OnOk result (IsListening self.now) }
+        ensures runs { Runs A.worker A.does
+            (state_at (states.news_stage conversation.old.entered self.now.waiting.idles)
+            (intake_of self.now) conversation.old)
+            (state_at (stage_or states.Reading conversation.new.entered result)
+            (intake_of self.now) conversation.new)
+            (L.seen link.old) (L.seen link.new) acting.old acting.new }
     {
-        self.idles -= 1;
         conversation.news(link, acting)?;
-        if self.idles == 0 {
-            return Err(SessionEnd::IdleOut);
-        }
-        Ok(())
+        self.go_on()
     }
 
     /// No byte comes any more.
@@ -118,13 +121,12 @@ impl Listener {
         requires room { length buffer.old ≡ PIECE_LEN }
         ensures ready { A.ready acting.new }
         ensures listening { OnOk result (IsListening self.new) }
-        ensures nearer { OnOk result (turns_bound self.new < turns_bound self.old) }
+        ensures nearer { OnOk result (turns_left self.new.waiting < turns_left self.old.waiting) }
         ensures reads { ReadsOn A.worker A.does (intake_of self.old) (intake_of self.new)
             conversation.old conversation.new (L.seen link.old) (L.seen link.new) acting.old
             acting.new result }
     {
-        let room = buffer.len().min(self.bytes as usize);
-        match link.take(&mut buffer[..room]) {
+        match self.waiting.take(link, buffer) {
             Took::Bytes(count) => self.piece(conversation, &buffer[..count], link, acting),
             Took::Idle => self.idle(conversation, link, acting),
             Took::End => Err(self.end()),

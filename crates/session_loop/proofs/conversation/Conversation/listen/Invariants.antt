@@ -1,7 +1,8 @@
 use Rattle.std.proofs.Common.{◌≡◌, length}
+use Rattle.link_turns.specs.Waits.{turns_left}
 use Rattle.session_steps.specs.States.{Reading}
 use Rattle.session_loop.specs.Running.{Runs}
-use Rattle.session_loop.specs.Standing.{IsListening, intake_of, state_at, turns_bound}
+use Rattle.session_loop.specs.Standing.{IsListening, intake_of, state_at}
 use Rattle.session_loop.proofs.conversation.Conversation.listen.Given as goal
 
 abbrev pub invariant-loop-end : goal.invariant-loop-end
@@ -14,4 +15,4 @@ invariant-loop-end g l = record {
 }
 
 abbrev pub decreases-loop-end : goal.decreases-loop-end
-decreases-loop-end g l = turns_bound l.listener
+decreases-loop-end g l = turns_left l.listener.waiting

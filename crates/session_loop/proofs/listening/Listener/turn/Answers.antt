@@ -1,46 +1,38 @@
-use Rattle.std.proofs.Common.{◌≡◌, ◌<◌, ◌≤◌, length, take, drop, arith}
-use Rattle.std.proofs.lemmas.List.{length-take-le, take-append-le}
-use Rattle.session_loop.specs.Standing.{intake_of}
-use Rattle.session_loop.proofs.Turns.{ended_runs, idled_runs, idles_first, missed_runs, reads_first, took_runs}
+use Rattle.std.proofs.Common.{◌≤◌, arith}
+use Rattle.std.proofs.lemmas.List.{length-take-le}
+use Rattle.pool_io.specs.declared.source.Took.TheVariants as took
+use Rattle.session_loop.specs.Standing.{counted, intake_of}
+use Rattle.session_loop.proofs.Chains.{runs_on}
+use Rattle.session_loop.proofs.Turns.{ended_runs, idled_runs, missed_runs, reads_at, reads_first, took_runs}
 use Rattle.session_loop.proofs.listening.Listener.turn.Goals as goal
 
 pub returns-in-Bytes-clause-reads : goal.returns-in-Bytes-clause-reads
 returns-in-Bytes-clause-reads g c =
-    let count = c.in-Bytes.count in
-    let buffer = c.take.new.buffer in
     let bound = c.in-Bytes.ensures.bound in
-    let same = take-append-le count buffer (drop c.min-room.result c.args.buffer.now) bound.1 in
-    let len : length (take count buffer) ≡ count = length-take-le count buffer bound.1 in
-    let some : 0 < length (take count buffer) = omega (arith, len, bound.0) in
-    let fits : c.min-room.result ≤ length c.args.buffer.now = omega (arith, c.min-room.ensures) in
-    let room = length-take-le c.min-room.result c.args.buffer.now fits in
-    let piece : length (take count buffer) ≤ 4096 = omega (arith, len, bound.1, room, c.take.auto.buffer, c.min-room.ensures, c.requires.room) in
-    let within : length (take count buffer) ≤ c.args.self.now.bytes = omega (arith, len, bound.1, room, c.take.auto.buffer, c.min-room.ensures) in
+    let len = length-take-le c.in-Bytes.count c.take.new.buffer bound.1 in
+    let short : c.in-Bytes.count ≤ 4096 = omega (arith, bound.1, c.take.auto.buffer, c.requires.room) in
     reads_first
-    (took_runs c.args.self.now c.requires.listening c.args.conversation.now buffer count some piece within
-    (record { turns = c.in-Bytes.ensures.turns; counts = c.in-Bytes.ensures.counts; sink = c.in-Bytes.ensures.sink }))
-    (rw same at c.piece.ensures.reads)
+    (took_runs c.args.self.now c.requires.listening c.args.conversation.now c.take.new.buffer c.in-Bytes.count len bound.0 short c.in-Bytes.ensures.within.1 c.in-Bytes.ensures.takes)
+    (rw c.in-Bytes.ensures.counted at c.piece.ensures.reads)
 
 pub returns-in-Idle-clause-reads : goal.returns-in-Idle-clause-reads
 returns-in-Idle-clause-reads g c =
-    idles_first
-    (idled_runs c.args.self.now c.requires.listening c.args.conversation.now c.take.new.buffer
-    (record { turns = c.in-Idle.ensures.turns; counts = c.in-Idle.ensures.counts; sink = c.in-Idle.ensures.sink }))
-    c.idle.ensures.told
+    rw c.in-Idle.ensures.counted
+    (reads_at (intake_of (counted took.Idle c.args.self.now))
+    (runs_on (idled_runs c.args.self.now c.requires.listening c.args.conversation.now c.take.new.buffer c.in-Idle.ensures.takes)
+    (rw c.in-Idle.ensures.counted at c.idle.ensures.runs)))
 
 pub returns-in-End-clause-reads : goal.returns-in-End-clause-reads
 returns-in-End-clause-reads g c = record {
   intake = intake_of c.args.self.now;
   kept_is = tt;
   runs = rw c.end.ensures
-      (ended_runs c.args.self.now c.requires.listening c.args.conversation.now c.take.new.buffer
-      (record { turns = c.in-End.ensures.turns; counts = c.in-End.ensures.counts; sink = c.in-End.ensures.sink }));
+      (ended_runs c.args.self.now c.requires.listening c.args.conversation.now c.take.new.buffer c.in-End.ensures.takes);
 }
 
 pub returns-in-Failed-clause-reads : goal.returns-in-Failed-clause-reads
 returns-in-Failed-clause-reads g c = record {
   intake = intake_of c.args.self.now;
   kept_is = tt;
-  runs = missed_runs c.args.self.now c.requires.listening c.args.conversation.now c.take.new.buffer
-      (record { turns = c.in-Failed.ensures.turns; counts = c.in-Failed.ensures.counts; sink = c.in-Failed.ensures.sink });
+  runs = missed_runs c.args.self.now c.requires.listening c.args.conversation.now c.take.new.buffer c.in-Failed.ensures.takes;
 }
