@@ -1,1 +1,3 @@
+pub mod Partners
+pub mod Talks
 pub mod Waits

@@ -23,7 +23,7 @@ use Rattle.test_miner.specs.FeedHearing.{closed_feed, cut_feed, hear_first, hear
 use Rattle.test_miner.specs.FeedStates.{FeedState}
 use Rattle.test_miner.specs.Feeds.{FeedHearsPiece, FeedSaysScript, HearsInFeed, HoldsFeed, IsFeedLeftBy, IsNewFeed, IsReadyFeed, fed, fed_by, given_by, greeting_said, has_ended_feed, read_so_far, whole_greeting}
 use Rattle.test_miner.specs.Hearings.{AreHeardIn, Hearing, Frames, NoMore, IsHeardIn, IsReadTo, hear_frames, is_stopped}
-use Rattle.test_miner.specs.Partners.{HasTakenOrEnded}
+use Rattle.link_turns.specs.Partners.{HasTakenOrEnded}
 use Rattle.test_miner.specs.ScriptValues.{ScriptValue}
 use Rattle.test_miner.proofs.Heard.{heard_each, read_to}
 

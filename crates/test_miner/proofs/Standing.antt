@@ -14,7 +14,7 @@ use Rattle.test_miner.specs.declared.hearing.TheConstants.{MOST_PAYLOAD}
 use Rattle.test_miner.specs.Hearings.{AreHeardIn, Hearing, Frames, NoMore, IsHeardIn, hear_all, is_stopped}
 use Rattle.test_miner.specs.Saying.{setup_frame}
 use Rattle.test_miner.specs.Miners.{HearsPiece, HoldsMiner, IsLeftBy, IsNewMiner, IsReadyMiner, after, closed, has_ended, next, opening_said, said, said_in, share_said}
-use Rattle.test_miner.specs.Partners.{HasTakenOrEnded}
+use Rattle.link_turns.specs.Partners.{HasTakenOrEnded}
 use Rattle.test_miner.specs.States.{MinerState}
 
 -- one turn more was heard

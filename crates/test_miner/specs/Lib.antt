@@ -6,7 +6,6 @@ pub mod Hearings
 pub mod Laws
 pub mod Miners
 pub mod Notices
-pub mod Partners
 pub mod Saying
 pub mod ScriptReading
 pub mod ScriptValues

@@ -12,7 +12,7 @@ ghost use Rattle.test_miner.specs.Feeds.{
 
 use crate::feed::{FeedCourse, FeedEnd};
 use crate::hearing::MOST_PAYLOAD;
-use crate::partner::Partner;
+use link_turns::Partner;
 use crate::script::Script;
 use mining_msgs::{Mining, SetupConnectionSuccess};
 use std::alloc::{AllocError, Global};

@@ -9,7 +9,6 @@ mod hearing;
 mod laws;
 mod miner;
 mod notice;
-mod partner;
 mod saying;
 mod script;
 mod trying;
@@ -23,6 +22,6 @@ pub use laws::{
 };
 pub use miner::{Miner, MinerTask};
 pub use notice::{Notice, notice_in};
-pub use partner::Partner;
+pub use link_turns::Partner;
 pub use script::{Script, ScriptError, ScriptTemplate};
 pub use trying::{CurrentJob, MinedShare, Tries, Try};

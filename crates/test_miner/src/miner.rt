@@ -14,7 +14,7 @@ ghost use Rattle.test_miner.specs.Saying.{share_bytes};
 
 use crate::course::{Course, MinerEnd};
 use crate::hearing::{Ear, MOST_PAYLOAD};
-use crate::partner::Partner;
+use link_turns::Partner;
 use crate::saying::{put_opening, put_setup, put_share};
 use std::alloc::{AllocError, Global};
 use sv2_frames::{RunEnd, Splitter};

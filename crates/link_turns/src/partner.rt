@@ -3,7 +3,7 @@
 ghost use Rattle.std.specs.Prelude.{◌≡◌, ℕ, List, [], ◌∷◌, ◌++◌, None, IfOk, OnOk};
 ghost use Rattle.pool_io.specs.declared.turn.Turn.{Turn};
 ghost use Rattle.pool_io.specs.declared.turn.Turn.TheVariants as turn;
-ghost use Rattle.test_miner.specs.Partners.{HasTakenOrEnded};
+ghost use Rattle.link_turns.specs.Partners.{HasTakenOrEnded};
 
 use std::alloc::AllocError;
 
