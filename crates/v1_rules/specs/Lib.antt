@@ -1,0 +1,10 @@
+pub mod Asked
+pub mod Configuring
+pub mod Difficulty
+pub mod Heard
+pub mod Laws
+pub mod Lines
+pub mod Messages
+pub mod Sessions
+pub mod State
+pub mod Submitting
