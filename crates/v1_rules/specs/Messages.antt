@@ -11,14 +11,17 @@ use Rattle.v1_rules.specs.Lines.{line_reaction, yes}
 use Rattle.v1_rules.specs.State.{Terms, V1State, HeldJobs, Tip, Waiting, Naming, Saying, Answer, Refusal, CodeRefusal, Difficulty, Job, Silence, Reaction, saying, silent}
 use Rattle.v1_rules.specs.Submitting.{held_job}
 
+-- a notice that is subscribed to, under the lead
+abbrev pub notice_of : List ℕ → List ℕ → Data
+notice_of method lead = array (items_of (string method ∷ hex_value lead ∷ []))
+
 -- the answer to a subscribe: what is subscribed to, the lead, and how many bytes are rolled
 abbrev pub subscription_value : List ℕ → ℕ → Data
 subscription_value lead rolled =
-    let name = hex_value lead in
-    let pair : List ℕ → Data = λ method. array (items_of (string method ∷ name ∷ [])) in
     array (items_of (
-    array (items_of (pair (codes "mining.set_difficulty") ∷ pair (codes "mining.notify") ∷ []))
-    ∷ name ∷ number (unsigned rolled) ∷ []))
+    array (items_of (
+    notice_of (codes "mining.set_difficulty") lead ∷ notice_of (codes "mining.notify") lead ∷ []))
+    ∷ hex_value lead ∷ number (unsigned rolled) ∷ []))
 
 -- what is said to the last subscribe, where it isn't answered
 abbrev pub to_subscriber : Option Data → (Data → Saying) → List Saying

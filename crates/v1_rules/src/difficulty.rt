@@ -1,6 +1,6 @@
 //! Difficulties, and the classes that they stand for.
 
-ghost use Rattle.std.specs.Prelude.{◌≡◌, ◌≤◌, ◌^◌, OnSome, option_map};
+ghost use Rattle.std.specs.Prelude.{◌≡◌, ◌≤◌, ◌^◌, IfSome, option_map};
 ghost use Rattle.serde_json.specs.View.{view};
 ghost use Rattle.v1_rules.specs.Difficulty as difficulties;
 
@@ -39,7 +39,9 @@ pub fn class_of_difficulty(base: u8, difficulty: u64) -> u8
 
 /// The difficulty that a parameter asks for: a whole number from 1 to 2^60.
 pub fn asked_difficulty(param: Option<&Value>) -> Option<u64>
-    ensures { result ≡ difficulties.asked_difficulty (option_map (λ value. view value.now) param.entry) }
+    ensures value { result
+        ≡ difficulties.asked_difficulty (option_map (λ value. view value.now) param.entry) }
+    ensures range { IfSome result (λ number. (1 ≤ number) × (number ≤ 2 ^ 60)) }
 {
     let number = param?.as_u64()?;
     if 1 <= number && number <= MOST_DIFFICULTY {

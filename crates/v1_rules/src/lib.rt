@@ -3,6 +3,7 @@
 //! what one does, the laws what holds of all, and the functions compute the parts.
 #![tactic(auto)]
 
+mod answers;
 mod difficulty;
 mod laws;
 mod masks;
@@ -10,6 +11,7 @@ mod messages;
 mod methods;
 mod shares;
 
+pub use answers::subscription_value;
 pub use difficulty::{asked_difficulty, class_of_difficulty, difficulty_of};
 pub use laws::{
     few_jobs_are_held, masks_are_cut, no_request_is_lost, requests_are_answered_once,
