@@ -12,8 +12,8 @@ ghost use Rattle.test_miner.specs.Feeds.{
 
 use crate::feed::{FeedCourse, FeedEnd};
 use crate::hearing::MOST_PAYLOAD;
-use link_turns::Partner;
 use crate::script::Script;
+use link_turns::Partner;
 use mining_msgs::{Mining, SetupConnectionSuccess};
 use std::alloc::{AllocError, Global};
 use sv2_frames::{Frame, RunEnd, Splitter, TakeFrames};

@@ -20,8 +20,8 @@ pub use hearing::Ear;
 pub use laws::{
     ends_tell_credits, feed_says_script, one_share_waits, shares_are_numbered, shares_meet_class,
 };
+pub use link_turns::Partner;
 pub use miner::{Miner, MinerTask};
 pub use notice::{Notice, notice_in};
-pub use link_turns::Partner;
 pub use script::{Script, ScriptError, ScriptTemplate};
 pub use trying::{CurrentJob, MinedShare, Tries, Try};

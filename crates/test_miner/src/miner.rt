@@ -14,8 +14,8 @@ ghost use Rattle.test_miner.specs.Saying.{share_bytes};
 
 use crate::course::{Course, MinerEnd};
 use crate::hearing::{Ear, MOST_PAYLOAD};
-use link_turns::Partner;
 use crate::saying::{put_opening, put_setup, put_share};
+use link_turns::Partner;
 use std::alloc::{AllocError, Global};
 use sv2_frames::{RunEnd, Splitter};
 use sv2_types::Str255;
