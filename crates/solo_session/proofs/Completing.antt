@@ -23,7 +23,7 @@ use Rattle.session_limits.proofs.Filling.{few_entered, only_enters}
 use Rattle.session_limits.proofs.Rising.{CountsThrough, rose_by}
 use Rattle.session_limits.proofs.Whole.{neither, unhindered_well}
 use Rattle.solo_session.specs.Calling.{StandInTurn}
-use Rattle.solo_session.specs.Solo.{CountsCalls, IsServedWell, IsSoloSession, Outsides, ServesGoodInput, ServesSession, failures_of, sole_worker, solo_manner}
+use Rattle.solo_session.specs.Solo.{CountsCalls, IsServedWell, IsSoloSession, Outsides, ServesBook, ServesGoodInput, ServesSession, failures_of, sole_worker, solo_manner}
 use Rattle.solo_session.specs.declared.serving.SoloEnd.TheVariants as solo
 
 -- the counts round the calls go through them
@@ -75,3 +75,9 @@ pub serves_session : {rules : Rules} {idle_turns : ℕ} {old new : Outsides} {re
     → ((turns : List Turn) → old.source.left ≡ Some turns → IsGoodInput (solo_manner rules idle_turns) turns → IsGoodEnd reason)
     → ServesSession rules idle_turns old new (solo.Over reason)
 serves_session history waits session good = record { did = (history, session); complete = over_well waits session good }
+
+pub serves_book : {rules : Rules} {idle_turns : ℕ} {old new : Outsides} {reason : SessionEnd} {history : List Event} → 0 < idle_turns
+    → IsSoloSession rules idle_turns old new reason history
+    → ((turns : List Turn) → old.source.left ≡ Some turns → IsGoodInput (solo_manner rules idle_turns) turns → IsGoodEnd reason)
+    → ServesBook rules idle_turns old new reason history
+serves_book waits session good = record { did = session; complete = over_well waits session good }

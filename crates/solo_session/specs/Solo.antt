@@ -128,12 +128,18 @@ pub record IsFreshBook (rules : Rules) (rolling : Bool) (book : BookSeen) : Type
   pub events : book.events ≡ event.Start rules ∷ []
   pub rolls : rolling ≡ rules.version_rolling
 
+-- a session over a book, and the history that it leaves; good input is served well
+pub record ServesBook (rules : Rules) (idle_turns : ℕ) (old new : Outsides) (reason : SessionEnd)
+    (history : List Event) : Type 0 where
+  pub did : IsSoloSession rules idle_turns old new reason history
+  pub complete : ServesGoodInput rules idle_turns old new (solo.Over reason)
+
 -- a session over such a book leaves the book's history
 abbrev pub ServesFreshBook : ℕ → Bool → SourceSeen → SinkSeen → BookSeen → SourceSeen → SinkSeen
     → BookSeen → SessionEnd → Type 0
 ServesFreshBook idle_turns rolling source sink book source_now sink_now book_now reason =
     (rules : Rules) → IsFreshBook rules rolling book
-    → IsSoloSession rules idle_turns
+    → ServesBook rules idle_turns
     (record { source = source; sink = sink; keeper = book.keeper })
     (record { source = source_now; sink = sink_now; keeper = book_now.keeper }) reason
     book_now.events

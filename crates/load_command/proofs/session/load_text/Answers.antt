@@ -10,4 +10,4 @@ returns-in-Done c =
     (λ text. IsLoadText c.args.number STEPS text.items) c.text_of.result c.text_of.ensures
     (λ text. loaded c.args.number STEPS c.in_ok-source.source c.of-sink.result c.in_ok-book.book.keeper _ c.serve_book-book.result.end c.serve_book-book.result.book.events
     c.in_ok-source.ensures (c.of-sink.ensures ∙ c.new.ensures.items) c.in-Done.is
-    (c.serve_book-book.ensures.served load_rules (record { events = c.in_ok-book.ensures; rolls = refl })) text.items)
+    (c.serve_book-book.ensures.served load_rules (record { events = c.in_ok-book.ensures; rolls = refl })).did text.items)

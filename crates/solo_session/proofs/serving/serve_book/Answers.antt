@@ -1,9 +1,11 @@
-use Rattle.std.proofs.Common.{ap, subst, ◌∙◌, ◌++◌}
+use Rattle.std.proofs.Common.{ap, subst, sym, ◌∙◌, ◌++◌}
+use Rattle.session_loop.specs.Good.{IsGoodInput}
 use Rattle.session_steps.specs.States.{new_state}
 use Rattle.session_steps.specs.Steps.{Follows, calls_in}
 use Rattle.solo_session.specs.Calling.{CallsBook, StandInTurn, added_in}
 use Rattle.solo_session.specs.Solo.{manner_of, sole_worker}
 use Rattle.solo_session.proofs.Chained.{acts_seen, counts_calls}
+use Rattle.solo_session.proofs.Completing.{serves_book}
 use Rattle.solo_session.proofs.serving.serve_book.Goals as goal
 
 pub returns-clause-served : goal.returns-clause-served
@@ -14,7 +16,7 @@ returns-clause-served g c rules fresh =
     let calls = calls_in session.runs.steps in
     let acts = acts_seen sole (λ s. s.book) CallsBook (record { book = begun; worker = 0 }) calls session.runs.acts in
     let goes = c.sole_calls_go_on.ensures begun sole.book calls acts in
-    record {
+    serves_book c.requires.waits (record {
       steps = session.runs.steps;
       last = session.last;
       follows = subst (λ b. Follows sole_worker (new_state (manner_of b c.args.limits.idle_turns)) session.runs.steps session.last) fresh.rolls session.runs.follows;
@@ -29,4 +31,4 @@ returns-clause-served g c rules fresh =
       reads = c.converse-end.ensures.reads;
       writes = c.converse-end.ensures.writes;
       counts = counts_calls begun sole.book calls acts;
-    }
+    }) (λ turns is input. c.converse-end.ensures.good turns is (subst (λ b. IsGoodInput (manner_of b c.args.limits.idle_turns) turns) (sym fresh.rolls) input))

@@ -23,7 +23,8 @@ returns-in-Err-clause-good g c = λ told is input. tt
 
 pub returns-clause-served : goal.returns-clause-served
 returns-clause-served g c =
-    let session = c.serve_book-source.ensures.served c.args.rules (record { events = c.in-Ok.ensures.ok; rolls = refl }) in
+    let served = c.serve_book-source.ensures.served c.args.rules (record { events = c.in-Ok.ensures.ok; rolls = refl }) in
+    let session = served.did in
     serves_session c.serve_book-source.result.book.events c.requires.waits (record {
       steps = session.steps;
       last = session.last;
