@@ -39,15 +39,21 @@ pub(crate) fn load_text(alloc: Global, number: u64) -> Result<Vec<u8>, AllocErro
         book,
         end,
     } = serve_book(alloc, book, source, sink, true, LIMITS);
+    let mut summary = Vec::new(alloc);
+    book.summary(&mut summary)?;
+    let (_keeper, history) = book.into_parts();
     match end {
-        SessionEnd::Done => text_of(alloc, number, book),
-        _ => Err(AllocError),
+        SessionEnd::Done => text_of(alloc, number, &history, &summary),
+        SessionEnd::Memory => Err(AllocError),
+        // The frames are good, they reach no limit, and nothing fails in memory.
+        _ => unreachable!(),
     }
 }
 
 /// A book of the rules that a generated session goes by.
 fn load_book(alloc: Global) -> Result<Book<SureKeeper>, AllocError>
-    ensures { IfOk result (λ book. book.events ≡ event.Start loads.load_rules ∷ []) }
+    ensures events { IfOk result (λ book. book.events ≡ event.Start loads.load_rules ∷ []) }
+    ensures counts { IfOk result (λ book. book.keeper.faults ≡ 0) }
 {
     match Book::new(alloc, load_rules(alloc)?, SureKeeper::new(alloc)) {
         Ok(book) => Ok(book),
@@ -83,16 +89,19 @@ fn load_source(alloc: Global, number: u64) -> Result<SureSource, AllocError>
     Ok(SureSource::of(turns))
 }
 
-/// What a book was left with, as text.
-fn text_of(alloc: Global, number: u64, book: Book<SureKeeper>) -> Result<Vec<u8>, AllocError>
-    ensures { IfOk result (λ text. text.items ≡ loads.load_text number STEPS book.events) }
+/// What was left, as text: the counts of a history, and its summary.
+fn text_of(
+    alloc: Global,
+    number: u64,
+    history: &History,
+    summary: &[u8],
+) -> Result<Vec<u8>, AllocError>
+    ensures { IfOk result (λ text. text.items
+        ≡ loads.counts_text number STEPS history.now.events ++ summary.now) }
 {
-    let mut summary = Vec::new(alloc);
-    book.summary(&mut summary)?;
-    let (_keeper, history) = book.into_parts();
     let mut text = Vec::new(alloc);
-    put_counts(number, &history, &mut text)?;
-    text.extend_from_slice(&summary)?;
+    put_counts(number, history, &mut text)?;
+    text.extend_from_slice(summary)?;
     Ok(text)
 }
 
