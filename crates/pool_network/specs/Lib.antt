@@ -4,3 +4,4 @@ pub mod MemoryLinks
 pub mod MemoryNetworks
 pub mod Networks
 pub mod Seen
+pub mod Worlds

@@ -3,6 +3,7 @@ use Rattle.std.specs.Prelude.{◌≡◌, ℕ, List, [], ◌∷◌, ◌++◌, Opt
 use Rattle.pool_io.specs.declared.host.HostError.{HostError}
 use Rattle.pool_io.specs.declared.host.HostError.TheVariants as host
 use Rattle.pool_io.specs.Lending.{Lending}
+use Rattle.pool_io.specs.Outside.{CountsFailure, is_failed_gift}
 use Rattle.pool_network.specs.declared.network.Reaching.{Reaching}
 use Rattle.pool_network.specs.Seen.{DoorSeen, LinkSeen}
 
@@ -36,3 +37,9 @@ abbrev pub GivesNext : {A : Type 0} → Option (List A) → Option (List A) → 
 GivesNext None new given = new ≡ None
 GivesNext {A} (Some told) new given =
     (left : List A) × (new ≡ Some left) × (told ≡ given ++ left)
+
+-- a call that named an address was refused: nothing else changed
+pub record IsRefusedReaching (call : Reaching) (old new : NetworkSeen) (error : HostError) : Type 0 where
+  pub stays : new ≡ record old { faults = new.faults; calls = new.calls }
+  pub calls : new.calls ≡ calls_after {A = Unit {0}} call (Err error) old.calls
+  pub counts : CountsFailure (is_failed_gift {A = Unit {0}} (Err error)) old.faults new.faults

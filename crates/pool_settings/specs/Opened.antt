@@ -1,12 +1,6 @@
 -- What the opening of a settings file does, and what it answers (this project's own).
-use Rattle.std.specs.Prelude.{ℕ, ◌≡◌, List, Some, Result, Ok, Err}
-use Rattle.pool_io.specs.declared.opening.Opening.TheVariants as opening
-use Rattle.pool_io.specs.declared.turn.Turn.{Turn}
-use Rattle.pool_io.specs.Hosts.{CameBack, HostSeen, IsRefusedFile}
-use Rattle.pool_io.specs.Openings.{openings_and}
-use Rattle.pool_io.specs.Outside.{CountsFailure}
-use Rattle.pool_io.specs.Seen.{SourceSeen}
-use Rattle.pool_io.specs.Steps.{steps_of}
+use Rattle.std.specs.Prelude.{ℕ, ◌≡◌, List, Result, Ok, Err}
+use Rattle.pool_io.specs.Hosts.{HostSeen, IsRefusedFile}
 use Rattle.pool_settings.specs.declared.settings.Settings.{Settings}
 use Rattle.pool_settings.specs.Reading.{AreInRange, AreSettings}
 use Rattle.stream_commands.specs.Statuses.{status_of_refusal}
@@ -14,7 +8,7 @@ use Rattle.stream_commands.specs.declared.status.Status.{Status}
 use Rattle.stream_commands.specs.declared.status.Status.TheVariants as status
 use Rattle.pool_settings.specs.declared.opening.NoSettings.{NoSettings}
 use Rattle.pool_settings.specs.declared.opening.NoSettings.TheVariants as no_settings
-use Rattle.stream_commands.specs.Reading.{DecideReading, ReadsWhole, is_read_fault}
+use Rattle.stream_commands.specs.Files.{ReadsFile}
 use Rattle.stream_commands.specs.declared.reading.Unread.{Unread}
 use Rattle.stream_commands.specs.declared.reading.Unread.TheVariants as unread
 
@@ -43,19 +37,11 @@ abbrev pub AnswersFile : Result (List ℕ) Unread → Result Settings NoSettings
 AnswersFile (Ok bytes) answer = AnswersBytes bytes answer
 AnswersFile (Err cause) answer = answer ≡ Err (cause_of_unread cause)
 
--- The file was opened, read up to its end or to what ended the reading, and handed back; the answer
--- is what was read.
+-- The file was read up to its end, or to what ended the reading; the answer is what was read.
 pub record ReadsSettings (name : List ℕ) (old new : HostSeen) (answer : Result Settings NoSettings) :
     Type 0 where
-  pub source : SourceSeen
   pub read : Result (List ℕ) Unread
-  pub back : CameBack old.streams.sources new.streams.sources source
-  pub streams : new.streams ≡ record old.streams { sources = new.streams.sources }
-  pub openings : new.openings ≡ openings_and old.openings (opening.Source name)
-  pub reads : ReadsWhole most_settings_bytes (old.openings.brings name) source.left read
-  pub decided : (told : List Turn) → old.openings.brings name ≡ Some told
-      → DecideReading most_settings_bytes (steps_of told) read
-  pub counts : CountsFailure (is_read_fault read) 0 source.faults
+  pub file : ReadsFile most_settings_bytes name old new read
   pub answers : AnswersFile read answer
 
 -- what the opening of the file of this name did, by its answer

@@ -6,7 +6,7 @@ ghost use Rattle.pool_settings.specs.Opened.{OpensSettings, AnswersFile, status_
 use crate::{Settings, SettingsError, read_settings};
 use pool_io::{Host, HostError};
 use std::alloc::Global;
-use stream_commands::{Contents, Status, Unread, read_whole, refusal_status};
+use stream_commands::{Contents, FileError, Status, Unread, read_file, refusal_status};
 use thiserror::Error;
 
 /// The most bytes of a settings file.
@@ -55,13 +55,11 @@ pub fn open_settings<H: Host>(
 ) -> Result<Settings, NoSettings>
     ensures { OpensSettings name.now (H.seen host.old) (H.seen host.new) result }
 {
-    let mut source = match host.open_source(name) {
-        Ok(source) => source,
-        Err(error) => return Err(NoSettings::Host(error)),
-    };
-    let read = read_whole(alloc, MOST_BYTES, &mut source);
-    host.done_source(source);
-    settings_from(alloc, read)
+    match read_file(alloc, host, name, MOST_BYTES) {
+        Ok(contents) => settings_from(alloc, Ok(contents)),
+        Err(FileError::Unread(cause)) => settings_from(alloc, Err(cause)),
+        Err(FileError::Host(error)) => Err(NoSettings::Host(error)),
+    }
 }
 
 /// What was read, as settings.

@@ -28,7 +28,9 @@ use Rattle.stream_commands.specs.Texts.{PutsText}
 use Rattle.stream_commands.specs.Reading.{IsOutside, is_read_fault}
 use Rattle.stream_commands.specs.declared.reading.Unread.{Unread}
 use Rattle.stream_commands.specs.declared.reading.Unread.TheVariants as unread
-use Rattle.serve_command.specs.Row.{BringsSettings, FinishesServing, GivesKeeperBack, HasFailure, HasNoOutput, HasNoStart, HasReason, PrintedOnHost, PrintsReport, ServeRow, ServesAfterSettings, ServesByNames, ServesOnBook, ServesWithKeeper, WorldSeen, places_by, service_by}
+use Rattle.serve_command.specs.Row.{BringsSettings, FinishesServing, GivesKeeperBack, HasFailure, HasNoStart, HasReason, ServeRow, ServesAfterSettings, ServesByNames, ServesOnBook, ServesWithKeeper, places_by, service_by}
+use Rattle.pool_network.specs.Worlds.{WorldSeen}
+use Rattle.stream_commands.specs.Printing.{HasNoOutput, PrintedOnHost, PrintsText}
 use Rattle.serve_command.specs.Serving.{IsUnserved, ReachedSeen, Served, ServesOnNetwork, Unserved}
 use Rattle.serve_command.specs.Statuses.{status_by_faults, status_of_served, status_of_start}
 use Rattle.serve_command.specs.Words.{report_text}
@@ -103,7 +105,7 @@ module _ (old new : WorldSeen) where
         (subst (λ n. CountsFailure (is_failed_gift {A = Unit {0}} (Err error)) n new.host.streams.faults) (ap (λ (s : StreamsSeen). s.faults) out.streams)
         (subst (λ n. CountsFailure (is_failed_gift {A = Unit {0}} (Err error)) given.streams.faults n) (ap (λ (s : StreamsSeen). s.faults) (sym same)) none.counts))
 
-    printed_by : (text : List ℕ) (middle : HostSeen) (printed : Status) (prints : PrintedOnHost text given middle printed) → new.host.streams ≡ middle.streams
+    printed_by : (text : List ℕ) (middle : HostSeen) (printed : Status) (prints : PrintedOnHost text status.Done given middle printed) → new.host.streams ≡ middle.streams
         → PutsText (record { faults = 0; held = given.streams.output }) prints.put text status.Done printed → HasFailure old new printed
     printed_by text middle printed prints same (inl done) = subst (HasFailure old new) (sym done.0) tt
     printed_by text middle printed prints same (inr front) = elim front.cause [
@@ -116,7 +118,7 @@ module _ (old new : WorldSeen) where
       | inr memory ↦ subst (HasFailure old new) (sym memory.0) tt
     ]
 
-    printed_or : (text : List ℕ) (middle : HostSeen) (printed : Status) → PrintsReport text given middle printed → new.host.streams ≡ middle.streams
+    printed_or : (text : List ℕ) (middle : HostSeen) (printed : Status) → PrintsText text status.Done given middle printed → new.host.streams ≡ middle.streams
         → HasFailure old new printed
     printed_or text middle printed (inl prints) same = printed_by text middle printed prints same prints.puts
     printed_or text middle printed (inr none) same =
@@ -126,7 +128,7 @@ module _ (old new : WorldSeen) where
     no_output middle host.Failed none = ap (λ (o : Openings). o.keepers) none.openings
     no_output middle host.Memory none = ap (λ (o : Openings). o.keepers) none.openings
 
-    still_out : (text : List ℕ) (middle : HostSeen) (printed : Status) → PrintsReport text given middle printed
+    still_out : (text : List ℕ) (middle : HostSeen) (printed : Status) → PrintsText text status.Done given middle printed
         → middle.openings.keepers ≡ given.openings.keepers
     still_out text middle printed (inl prints) = ap (λ (o : Openings). o.keepers) prints.openings
     still_out text middle printed (inr none) = no_output middle none.0 none.2
@@ -187,7 +189,7 @@ module _ (name : List ℕ) (old : WorldSeen) where
   no_settings_file read none reads read_well fits refuted brings = by (old.host.openings.brings name) refl brings where
     by : (o : Option (List Turn)) → old.host.openings.brings name ≡ o → BringsSettings o → ⊥
     by None is b = b
-    by (Some turns) is b = elim ((reads.decided turns is).whole b.1) [
+    by (Some turns) is b = elim ((reads.file.decided turns is).whole b.1) [
       | inl ok ↦ refuted (bytes_in (steps_of turns)) b.0 b.2 (subst (λ r. AnswersFile r (Err none)) ok reads.answers)
       | inr outside ↦ not_outside none read_well fits reads.read outside reads.answers
     ]
@@ -201,7 +203,7 @@ module _ (name : List ℕ) (old : WorldSeen) where
       no_settings_file read no_settings.Bad opens (λ is. cc) (λ is. cc) (λ bytes settings are answers. answers settings are)
   without read no_settings.IdleOut opens = no_settings_file read no_settings.IdleOut opens (λ is. cc) (λ is. cc) (λ bytes settings are answers. answers)
   without read no_settings.ReadFault opens =
-      (opens.source, opens.back, read_failed opens.read opens.source.faults opens.answers opens.counts)
+      (opens.file.source, opens.file.back, read_failed opens.read opens.file.source.faults opens.answers opens.file.counts)
   without read no_settings.Memory opens = tt
 
   -- with settings, what failed behind their reading is what failed
@@ -210,11 +212,11 @@ module _ (name : List ℕ) (old : WorldSeen) where
   behind read settings reads new status.Done failed = tt
   behind read settings reads new status.Memory failed = tt
   behind read settings reads new status.WriteFault failed =
-      (failed.0, subst (λ sinks. CameBack sinks new.host.streams.sinks failed.0) (ap (λ (s : StreamsSeen). s.sinks) reads.streams) failed.1, failed.2)
+      (failed.0, subst (λ sinks. CameBack sinks new.host.streams.sinks failed.0) (ap (λ (s : StreamsSeen). s.sinks) reads.file.streams) failed.1, failed.2)
   behind read settings reads new status.KeeperFault failed =
-      (failed.0, subst (λ keepers. CameBack keepers new.host.openings.keepers failed.0) (ap (λ (o : Openings). o.keepers) reads.openings) failed.1, failed.2)
+      (failed.0, subst (λ keepers. CameBack keepers new.host.openings.keepers failed.0) (ap (λ (o : Openings). o.keepers) reads.file.openings) failed.1, failed.2)
   behind read settings reads new status.HostFault failed = elim failed [
-    | inl rose ↦ inl (subst (λ n. Rose n new.host.streams.faults) (ap (λ (s : StreamsSeen). s.faults) reads.streams) rose)
+    | inl rose ↦ inl (subst (λ n. Rose n new.host.streams.faults) (ap (λ (s : StreamsSeen). s.faults) reads.file.streams) rose)
     | inr other ↦ inr other
   ]
   behind read settings reads new status.Usage failed = absurd failed

@@ -2,11 +2,10 @@
 use Rattle.std.specs.Prelude.{ℕ, ◌<◌, ◌≡◌, ◌⊎◌, List, [], ◌∷◌, Option, None, Some, Result, Ok, Err}
 use Rattle.pool_base.specs.Counts.{Rose}
 use Rattle.pool_io.specs.declared.host.HostError.{HostError}
-use Rattle.pool_io.specs.declared.opening.Opening.TheVariants as opening
 use Rattle.pool_io.specs.declared.turn.Turn.{Turn}
-use Rattle.pool_io.specs.Hosts.{CameBack, HostSeen, IsKeeperGiven, IsRefused, IsRefusedKeeper}
-use Rattle.pool_io.specs.Lending.{Lending, nothing_left}
-use Rattle.pool_io.specs.Openings.{openings_after, openings_and, with_keeper_back}
+use Rattle.pool_io.specs.Hosts.{CameBack, HostSeen, IsKeeperGiven, IsRefusedKeeper}
+use Rattle.pool_io.specs.Lending.{Lending}
+use Rattle.pool_io.specs.Openings.{with_keeper_back}
 use Rattle.pool_io.specs.Outside.{CountsFailure}
 use Rattle.pool_io.specs.Seen.{KeeperSeen, SinkSeen, SourceSeen}
 use Rattle.pool_io.specs.Steps.{bytes_in, steps_of}
@@ -15,6 +14,7 @@ use Rattle.pool_history.specs.declared.refusals.BookError.{BookError}
 use Rattle.pool_history.specs.Calls.{blames_keeper}
 use Rattle.pool_network.specs.Networks.{GivesNext, NetworkSeen}
 use Rattle.pool_network.specs.Seen.{DoorSeen}
+use Rattle.pool_network.specs.Worlds.{WorldSeen}
 use Rattle.pool_settings.specs.declared.settings.Settings.{Settings}
 use Rattle.pool_settings.specs.Reading.{AreSettings}
 use Rattle.stream_commands.specs.Statuses.{status_of_refusal}
@@ -23,7 +23,7 @@ use Rattle.stream_commands.specs.declared.status.Status.TheVariants as status
 use Rattle.pool_settings.specs.Opened.{OpensSettings, most_settings_bytes, status_of_no_settings}
 use Rattle.pool_settings.specs.declared.opening.NoSettings.{NoSettings}
 use Rattle.share_ledger.specs.Books.{BookSeen, KeepsInstead}
-use Rattle.stream_commands.specs.Texts.{PutsText}
+use Rattle.stream_commands.specs.Printing.{PrintsText}
 use Rattle.stream_commands.specs.Reading.{IsWhole}
 use Rattle.pool_server.specs.Parts.{Service, service_of}
 use Rattle.serve_command.specs.Serving.{Places, ReachedSeen, Served, ServesOnNetwork, SomeDoorFailed, Unserved}
@@ -41,32 +41,6 @@ places_by settings = record {
   workers = settings.workers;
 }
 
--- all that contracts see of a host and a network
-pub record WorldSeen : Type 0 where
-  pub host : HostSeen
-  pub network : NetworkSeen
-
--- The host gave its output, a text was put to it, or a front of it, and it came back.
-pub record PrintedOnHost (text : List ℕ) (old new : HostSeen) (printed : Status) : Type 0 where
-  pub put : SinkSeen
-  pub puts : PutsText (record { faults = 0; held = old.streams.output }) put text status.Done printed
-  pub sinks : CameBack old.streams.sinks new.streams.sinks put
-  pub streams : new.streams ≡ record old.streams {
-    sinks = new.streams.sinks;
-    output = nothing_left old.streams.output;
-  }
-  pub openings : new.openings ≡ openings_and old.openings opening.Output
-
--- it gave none
-abbrev pub HasNoOutput : HostSeen → HostSeen → HostError → Type 0
-HasNoOutput old new error =
-    IsRefused old new (openings_after {A = Unit {0}} opening.Output (Err error) old.openings) error
-
-abbrev pub PrintsReport : List ℕ → HostSeen → HostSeen → Status → Type 0
-PrintsReport text old new printed =
-    PrintedOnHost text old new printed
-    ⊎ ((error : HostError) × (printed ≡ status_of_refusal error) × HasNoOutput old new error)
-
 -- the keeper came back, and nothing else changed
 pub record GivesKeeperBack (old new : HostSeen) (keeper : KeeperSeen) : Type 0 where
   pub streams : new.streams ≡ old.streams
@@ -76,7 +50,7 @@ pub record GivesKeeperBack (old new : HostSeen) (keeper : KeeperSeen) : Type 0 w
 pub record IsReported (text : List ℕ) (old new : HostSeen) (keeper : KeeperSeen) (printed : Status) :
     Type 0 where
   pub middle : HostSeen
-  pub prints : PrintsReport text old middle printed
+  pub prints : PrintsText text status.Done old middle printed
   pub back : GivesKeeperBack middle new keeper
 
 -- what follows on the serving

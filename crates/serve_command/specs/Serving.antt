@@ -7,7 +7,7 @@ use Rattle.pool_io.specs.Hosts.{CameBack}
 use Rattle.pool_io.specs.Outside.{CountsFailure, is_failed_gift}
 use Rattle.pool_network.specs.declared.network.Reaching.{Reaching}
 use Rattle.pool_network.specs.declared.network.Reaching.TheVariants as reaching
-use Rattle.pool_network.specs.Networks.{GivesNext, NetworkSeen, calls_after}
+use Rattle.pool_network.specs.Networks.{GivesNext, IsRefusedReaching, NetworkSeen, calls_after}
 use Rattle.pool_network.specs.Seen.{DoorSeen, LinkSeen}
 use Rattle.share_ledger.specs.Books.{BookSeen}
 use Rattle.session_steps.specs.declared.ends.SessionEnd.{SessionEnd}
@@ -66,13 +66,6 @@ pub record ServedOnNetwork (service : Service) (places : Places) (old new : Netw
   pub keeper_failed : 0 < ledger_faults → Rose begun.keeper.faults ended.keeper.faults
   pub doors_failed : 0 < door_faults → SomeDoorFailed doors doors_back
 
--- the network gave no link: nothing else changed
-pub record HasNoLink (places : Places) (old new : NetworkSeen) (error : HostError) : Type 0 where
-  pub stays : new ≡ record old { faults = new.faults; calls = new.calls }
-  pub calls : new.calls
-      ≡ calls_after {A = Unit {0}} (reaching.Dial places.feed) (Err error) old.calls
-  pub counts : CountsFailure (is_failed_gift {A = Unit {0}} (Err error)) old.faults new.faults
-
 -- it gave a link and no doors: the link came back as it was given
 pub record HasNoDoors (places : Places) (old new : NetworkSeen) (error : HostError) : Type 0 where
   pub link : LinkSeen
@@ -99,7 +92,7 @@ pub record HasNoMemory (places : Places) (old new : NetworkSeen) (error : HostEr
 -- no session began
 abbrev pub IsUnserved : Places → NetworkSeen → NetworkSeen → HostError → Type 0
 IsUnserved places old new error =
-    HasNoLink places old new error ⊎ HasNoDoors places old new error
+    IsRefusedReaching (reaching.Dial places.feed) old new error ⊎ HasNoDoors places old new error
     ⊎ HasNoMemory places old new error
 
 -- what became of a book: it was served on, or no session began

@@ -1,17 +1,15 @@
 //! What is printed when all sessions are over.
 
-ghost use Rattle.std.specs.Prelude.{◌≡◌, ◌==◌, ◌++◌, IfOk};
-ghost use Rattle.pool_io.specs.Outside.{CountsFailure};
+ghost use Rattle.std.specs.Prelude.{◌≡◌, ◌++◌, IfOk};
 ghost use Rattle.stream_commands.specs.declared.status.Status.TheVariants as status;
-ghost use Rattle.stream_commands.specs.Texts.{PutsText};
-ghost use Rattle.serve_command.specs.Row.{PrintsReport};
+ghost use Rattle.stream_commands.specs.Printing.{PrintsText};
 ghost use Rattle.serve_command.specs.Words.{report_text, word_of_end};
 
 use pool_core::SessionEnd;
-use pool_io::{Host, Keeper, Sink};
+use pool_io::{Host, Keeper};
 use share_ledger::Book;
 use std::alloc::{AllocError, Global};
-use stream_commands::{Status, put_text, refusal_status};
+use stream_commands::{Status, print_text};
 
 /// The word for how a session ended.
 fn end_word(end: SessionEnd) -> &'static str
@@ -49,22 +47,6 @@ fn report_of<K: Keeper>(
     Ok(text)
 }
 
-/// Puts the report to a sink.
-fn put_report<K: Keeper, T: Sink>(
-    alloc: Global,
-    book: &Book<K>,
-    feed_end: SessionEnd,
-    sink: &mut T,
-) -> Status
-    ensures { PutsText (T.seen sink.old) (T.seen sink.new) (report_text feed_end book.now.events)
-        status.Done result }
-{
-    match report_of(alloc, book, feed_end) {
-        Ok(text) => put_text(sink, &text, Status::Done),
-        Err(_) => Status::Memory,
-    }
-}
-
 /// Puts the report to standard output.
 pub(crate) fn print_report<H: Host>(
     alloc: Global,
@@ -72,14 +54,11 @@ pub(crate) fn print_report<H: Host>(
     book: &Book<H::K>,
     feed_end: SessionEnd,
 ) -> Status
-    ensures { PrintsReport (report_text feed_end book.now.events) (H.seen host.old)
+    ensures { PrintsText (report_text feed_end book.now.events) status.Done (H.seen host.old)
         (H.seen host.new) result }
 {
-    let mut sink = match host.output() {
-        Ok(sink) => sink,
-        Err(error) => return refusal_status(error),
-    };
-    let printed = put_report(alloc, book, feed_end, &mut sink);
-    host.done_sink(sink);
-    printed
+    match report_of(alloc, book, feed_end) {
+        Ok(text) => print_text(host, &text, Status::Done),
+        Err(_) => Status::Memory,
+    }
 }

@@ -1,9 +1,11 @@
 pub mod Between
 pub mod Duties
 pub mod Ending
+pub mod Files
 pub mod Gathering
 pub mod Limits
 pub mod Owing
+pub mod Printing
 pub mod Reading
 pub mod Rows
 pub mod Sound

@@ -1,5 +1,5 @@
 -- What the putting of a text is answered with (this project's own).
-use Rattle.std.specs.Prelude.{ℕ, ◌≡◌, ◌⊎◌, List, Option}
+use Rattle.std.specs.Prelude.{ℕ, ◌≡◌, ◌⊎◌, List}
 use Rattle.pool_base.specs.Lists.{Begins}
 use Rattle.pool_io.specs.Outside.{AddsBytes, next_count}
 use Rattle.pool_io.specs.Seen.{SinkSeen}

@@ -1,13 +1,16 @@
 //! What all commands over a source and a sink share: their limits, their ends, the put of a whole
-//! buffer or text, the reading of all input up to a limit, and the one loop that drives a command
-//! from turn to turn. It opens nothing, and knows nothing of what a command says.
+//! buffer or text, the reading of all input or of a file up to a limit, the printing of a text, and
+//! the one loop that drives a command from turn to turn. It opens nothing but what a host gives, and
+//! knows nothing of what a command says.
 #![tactic(auto)]
 
 mod command;
 mod driver;
 mod end;
+mod files;
 mod gatherer;
 mod hosting;
+mod printing;
 mod putting;
 mod reading;
 mod status;
@@ -17,8 +20,10 @@ mod text;
 pub use command::{Stop, StreamCommand};
 pub use driver::drive;
 pub use end::End;
+pub use files::{FileError, read_file};
 pub use gatherer::Gatherer;
 pub use hosting::run_on_host;
+pub use printing::print_text;
 pub use putting::put_all;
 pub use reading::{Contents, Unread, read_whole};
 pub use status::{Status, refusal_status};
