@@ -31,10 +31,10 @@ said_for asked task has_taken has_ended old new one none words (Some reason) nil
     (same ∙ taken.0, told past said (rw (nil, append-nil said) taken.1))
 
 -- one turn more was taken
-turns_bytes : (a b c : Option (List Turn)) (past : List Turn) (n : ℕ) (buffer : List ℕ) → length (take n buffer) ≡ n → n ≤ 4096
+turns_bytes : (a b c : Option (List Turn)) (past : List Turn) (n : ℕ) (buffer : List ℕ) → length (take n buffer) ≡ n → 0 < n → n ≤ 4096
     → TakesTurns a b past → TakesTurn b c (took.Bytes n) buffer → TakesTurns a c (turn.Piece (take n buffer) ∷ past)
-turns_bytes None b c past n buffer len short taken takes = tt
-turns_bytes (Some told) b c past n buffer len short taken takes =
+turns_bytes None b c past n buffer len some short taken takes = tt
+turns_bytes (Some told) b c past n buffer len some short taken takes =
     let more = rw taken.1 at takes in
     let whole : take n (take n buffer) ≡ take n buffer = subst (λ m. take m (take n buffer) ≡ take n buffer) len (take-length (take n buffer)) in (
       more.0,
@@ -43,6 +43,7 @@ turns_bytes (Some told) b c past n buffer len short taken takes =
         taken.0,
         taken.2,
         (
+          rw len some,
           rw len short,
           rw len (record {
             piece = more.2.piece;
@@ -91,7 +92,7 @@ module _ {S : Type 0} (has_taken : S → List Turn → List ℕ → Type 0) (bou
       let turns : 0 < bounds.idle_turns = omega (arith, talking.counts.idles, below.waits) in
       let room : length (bytes_in steps) + length bytes ≤ bounds.bytes = omega (arith, len, fits, talking.counts.bytes) in
       record {
-        took = turns_bytes first.source.left l.source.left l'.source.left talking.past n buffer len short talking.took takes.turns;
+        took = turns_bytes first.source.left l.source.left l'.source.left talking.past n buffer len some short talking.took takes.turns;
         within = free_bytes bounds steps talking.free bytes turns room;
         counts = record {
           turns = talking.counts.turns;

@@ -1,5 +1,5 @@
 -- What was taken of a link, what a partner said to it, and how that ends (this project's own).
-use Rattle.std.specs.Prelude.{◌≡◌, ◌⊎◌, ℕ, ◌+◌, ◌≤◌, Bool, true, false, Option, Some, None, IfSome, Result, Ok, Err, List, [], ◌∷◌, ◌++◌, length, map}
+use Rattle.std.specs.Prelude.{◌≡◌, ◌⊎◌, ℕ, ◌+◌, ◌<◌, ◌≤◌, Bool, true, false, Option, Some, None, IfSome, Result, Ok, Err, List, [], ◌∷◌, ◌++◌, length, map}
 use Rattle.pool_base.specs.Lists.{Begins}
 use Rattle.pool_io.specs.declared.source.Took.TheVariants as took
 use Rattle.pool_io.specs.declared.turn.Turn.{Turn}
@@ -19,10 +19,11 @@ use Rattle.link_turns.specs.Waits.{IsLimitOf, most_bytes}
 abbrev pub bounds_of : ℕ → Bounds
 bounds_of idle_turns = record { idle_turns = idle_turns; bytes = most_bytes }
 
--- one turn was taken, with room for 4,096 bytes
+-- one turn was taken: bytes, at least one and at most 4,096; none for now; or the end
 abbrev pub TakesOne : List Turn → List Turn → Turn → Type 0
 TakesOne old new (turn.Piece bytes) =
-    (length bytes ≤ 4096) × TakesFrom old new (took.Bytes (length bytes)) bytes
+    (0 < length bytes) × (length bytes ≤ 4096)
+    × TakesFrom old new (took.Bytes (length bytes)) bytes
 TakesOne old new turn.Idle = TakesFrom old new took.Idle []
 TakesOne old new turn.End = TakesFrom old new took.End []
 

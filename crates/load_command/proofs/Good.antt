@@ -24,7 +24,8 @@ use Rattle.session_limits.specs.Ends.{session_bounds}
 use Rattle.solo_session.specs.Solo.{solo_manner}
 use Rattle.load_command.specs.Loads.{load_idle_turns, load_rules}
 use Rattle.load_frames.specs.Frames.{is_job_step, job_frames, load_frames, news_frames, opening_message, openings_frames, random_at, setup_frame, setup_message, share_message, step_frames, steps_frames, template_message, templates_at, tip_message, user_name}
-use Rattle.load_frames.proofs.Fitting.{opening_fits, setup_fits, share_fits, template_fits, tip_fits}
+use Rattle.load_frames.proofs.Fitting.{opening_fits, share_fits, template_fits, tip_fits}
+use Rattle.mining_msgs.proofs.PlainSetups.{plain_setup_fits}
 
 -- a message's frame
 abbrev pub frame_for : List Row → Message → FrameValue
@@ -75,7 +76,7 @@ all_later (frame ∷ a) b all more = (all.0, all_later a b all.1 more)
 
 -- each message
 setup_brought : IsBrought mining_table setup_message
-setup_brought = is_brought mining_table setup_message (omega arith) refl setup_fits (omega arith)
+setup_brought = is_brought mining_table setup_message (omega arith) refl (plain_setup_fits 0 (omega arith)) (omega arith)
 
 name_is_ascii : (number : ℕ) → IsAscii (user_name number)
 name_is_ascii number zero = omega arith

@@ -45,6 +45,10 @@ is_credit _ = false
 abbrev pub accepted_in : List Event → ℕ
 accepted_in history = count_by is_credit history
 
+-- how many submissions a generated session has
+abbrev pub load_steps : ℕ
+load_steps = 20000
+
 -- how many submissions there were, and how many of them were accepted and refused
 abbrev pub counts_text : ℕ → ℕ → List Event → List ℕ
 counts_text number steps history =

@@ -7,18 +7,7 @@ use Rattle.sv2_types.specs.Fields.{U8, U16, U32, U64, UINT256, BOOL, F32, STR0_2
 use Rattle.sv2_messages.specs.declared.kinds.TheConstants as kinds
 use Rattle.sv2_messages.specs.Messages.{FitsFrame}
 use Rattle.sv2_messages.specs.Tables.{mining_table, template_table}
-use Rattle.load_frames.specs.Frames.{setup_message, share_message, template_message}
-
-pub setup_fits : FitsFrame mining_table setup_message
-setup_fits =
-    record {
-      types = U8 ∷ U16 ∷ U16 ∷ U32 ∷ STR0_255 ∷ U16 ∷ STR0_255 ∷ STR0_255 ∷ STR0_255 ∷ STR0_255 ∷ [];
-      row = refl;
-      fields = record {
-        admitted = (omega arith, (omega arith, (omega arith, (omega arith, ((omega arith, IsUtf8-nil), (omega arith, ((omega arith, IsUtf8-nil), ((omega arith, IsUtf8-nil), ((omega arith, IsUtf8-nil), ((omega arith, IsUtf8-nil), tt))))))))));
-        within = omega arith;
-      };
-    }
+use Rattle.load_frames.specs.Frames.{share_message, template_message}
 
 pub opening_fits : (number : ℕ) (user target : List ℕ) → number < 2 ^ 32 → length user ≡ 2 → IsUtf8 user → length target ≡ 32
     → FitsFrame mining_table (record {

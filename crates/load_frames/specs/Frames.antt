@@ -8,15 +8,11 @@ use Rattle.sv2_types.specs.Fields.{Bytes, Number, Parts, Truth}
 use Rattle.sv2_messages.specs.declared.kinds.TheConstants as kinds
 use Rattle.sv2_messages.specs.Messages.{Message, message_frame}
 use Rattle.sv2_messages.specs.Tables.{mining_table, template_table}
+use Rattle.mining_msgs.specs.PlainSetup.{plain_setup}
 
--- protocol 0, versions 2 and 2, no flags, no texts, port 0
+-- without flags
 abbrev pub setup_message : Message
-setup_message = record {
-  kind = kinds.SETUP_CONNECTION;
-  fields =
-      Number 0 ∷ Number 2 ∷ Number 2 ∷ Number 0 ∷ Bytes [] ∷ Number 0 ∷ Bytes [] ∷ Bytes [] ∷
-      Bytes [] ∷ Bytes [] ∷ [];
-}
+setup_message = plain_setup 0
 
 abbrev pub setup_frame : List ℕ
 setup_frame = message_frame mining_table setup_message

@@ -4,7 +4,7 @@ ghost use Rattle.std.specs.Prelude.{◌≡◌, ◌≤◌, ◌<◌, ◌++◌, OnO
 ghost use Rattle.load_frames.specs.Frames as frames;
 
 use block_header::target_of;
-use mining_msgs::{Mining, OpenExtendedMiningChannel, SetupConnection, SubmitSharesExtended};
+use mining_msgs::{Mining, OpenExtendedMiningChannel, SubmitSharesExtended, put_plain_setup};
 use std::alloc::AllocError;
 use sv2_types::{Seq32, U256};
 use template_msgs::{NewTemplate, SetNewPrevHash, Template};
@@ -13,28 +13,14 @@ use template_msgs::{NewTemplate, SetNewPrevHash, Template};
 pub(crate) fn put_setup(out: &mut Vec<u8>) -> Result<(), AllocError>
     ensures { OnOk result (out.new.items ≡ out.old.items ++ frames.setup_frame) }
 {
-    // In a tuple, since no proof covers a local of an enum whose structs borrow.
-    let setup = (
-        Mining::SetupConnection(SetupConnection {
-            protocol: 0,
-            min_version: 2,
-            max_version: 2,
-            flags: 0,
-            endpoint_host: "",
-            endpoint_port: 0,
-            vendor: "",
-            hardware_version: "",
-            firmware: "",
-            device_id: "",
-        }),
-    );
-    setup.0.frame(out)
+    put_plain_setup(out, 0)
 }
 
 /// Appends the request with a number for a channel.
 pub(crate) fn put_opening(out: &mut Vec<u8>, number: u32) -> Result<(), AllocError>
     ensures { OnOk result (out.new.items ≡ out.old.items ++ frames.opening_frame number) }
 {
+    // In a tuple, since no proof covers a local of an enum whose structs borrow.
     let opening = (
         Mining::OpenExtendedMiningChannel(OpenExtendedMiningChannel {
             request_id: number,

@@ -1,1 +1,2 @@
+pub mod PlainSetup
 pub mod Seen

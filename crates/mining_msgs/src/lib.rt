@@ -6,6 +6,7 @@ mod channels;
 mod custom_jobs;
 mod jobs;
 mod message;
+mod plain_setup;
 mod reading;
 mod setup;
 mod shares;
@@ -18,6 +19,7 @@ pub use channels::{
 pub use custom_jobs::{SetCustomMiningJob, SetCustomMiningJobError, SetCustomMiningJobSuccess};
 pub use jobs::{NewExtendedMiningJob, NewMiningJob, SetNewPrevHash};
 pub use message::Mining;
+pub use plain_setup::put_plain_setup;
 pub use reading::read;
 pub use setup::{SetupConnection, SetupConnectionError, SetupConnectionSuccess};
 pub use shares::{

@@ -18,7 +18,7 @@ use Rattle.test_miner.specs.declared.feed.FeedEnd.{FeedEnd}
 use Rattle.test_miner.specs.declared.feed.FeedEnd.TheVariants as feed_end
 use Rattle.test_miner.specs.declared.feed_machine.Feed.{Feed}
 use Rattle.test_miner.specs.declared.feed_machine.FeedEar.{FeedEar}
-use Rattle.test_miner.specs.declared.hearing.TheConstants.{MOST_PAYLOAD}
+use Rattle.test_miner.specs.Bounds.{most_payload}
 use Rattle.test_miner.specs.FeedHearing.{closed_feed, cut_feed, hear_first, hear_in_feed, hear_later, is_setup, judged, refused_by_kind, solution_in, solved, solved_by}
 use Rattle.test_miner.specs.FeedStates.{FeedState}
 use Rattle.test_miner.specs.Feeds.{FeedHearsPiece, FeedSaysScript, HearsInFeed, HoldsFeed, IsFeedLeftBy, IsNewFeed, IsReadyFeed, fed, fed_by, given_by, greeting_said, has_ended_feed, read_so_far, whole_greeting}
@@ -71,7 +71,7 @@ ended None is = absurd cc
 ended (Some end) is = refl
 
 left_by : (end : RunEnd) (stream : List ℕ) (frames : List FrameValue) (more : Bool) (new : Feed) → EndsRun end stream frames more new.splitter
-    → new.splitter.limit ≡ MOST_PAYLOAD → new.ear.lacks_memory ≡ false → more ≡ is_none new.ear.course.end → IsFeedLeftBy end new
+    → new.splitter.limit ≡ most_payload → new.ear.lacks_memory ≡ false → more ≡ is_none new.ear.course.end → IsFeedLeftBy end new
 left_by Done stream frames more new ends limit memory wants =
     record { limit = limit; cut = ends.2; goes_on = unended new.ear.course.end (sym ends.0 ∙ wants); memory = memory }
 left_by Stopped stream frames more new ends limit memory wants = ended new.ear.course.end (sym ends.0 ∙ wants)
@@ -83,7 +83,7 @@ feed_heard old new bytes end ready run memory =
     let goes : is_none old.ear.course.end ≡ true = ap (λ (e : Option FeedEnd). is_none e) ready.goes_on in
     let heard =
     heard_each (λ (ear : FeedEar). ear.course) (λ (ear : FeedEar). ear.lacks_memory) hear_in_feed (λ (state : FeedState). is_none state.end) run.frames old.ear new.ear run.more run.took ready.memory goes memory in
-    let limit : new.splitter.limit ≡ MOST_PAYLOAD = run.limit ∙ ready.limit in
+    let limit : new.splitter.limit ≡ most_payload = run.limit ∙ ready.limit in
     let read = read_to end (old.splitter.held ++ bytes) run.frames run.more new.splitter run.unread run.ends run.stream in
     record {
       frames = run.frames;
@@ -100,7 +100,7 @@ feed_heard old new bytes end ready run memory =
 
 -- one turn more was heard
 holds_more : (old new : Feed) (turn : Turn) (hearing : Hearing) (turns : List Turn) (told more : List ℕ) → HoldsFeed old turns told
-    → new.ear.course.script ≡ old.ear.course.script → IsHeardIn MOST_PAYLOAD old.splitter.held turn hearing new.splitter.held → new.ear.course ≡ fed hearing old.ear.course
+    → new.ear.course.script ≡ old.ear.course.script → IsHeardIn most_payload old.splitter.held turn hearing new.splitter.held → new.ear.course ≡ fed hearing old.ear.course
     → more ≡ greeting_said old.ear.course.script old.ear.course.is_set_up new.ear.course.is_set_up → (is_stopped hearing ≡ true → is_some new.ear.course.end ≡ true)
     → HoldsFeed new (turn ∷ turns) (told ++ more)
 holds_more old new turn hearing turns told more holds same heard knows says stops =
@@ -114,7 +114,7 @@ holds_more old new turn hearing turns told more holds same heard knows says stop
     record {
       past = hearing ∷ holds.past;
       heard =
-          subst (λ (s : ScriptValue). AreHeardIn (has_ended_feed s) MOST_PAYLOAD (turn ∷ turns) (hearing ∷ holds.past) new.splitter.held) (sym same)
+          subst (λ (s : ScriptValue). AreHeardIn (has_ended_feed s) most_payload (turn ∷ turns) (hearing ∷ holds.past) new.splitter.held) (sym same)
           (old.splitter.held, holds.heard, heard, λ stopped. ap (λ (s : FeedState). is_some s.end) (sym now) ∙ stops stopped);
       knows = subst (λ (s : ScriptValue). new.ear.course ≡ fed_by s (hearing ∷ holds.past)) (sym same) now;
       given = subst (λ (s : ScriptValue). told ++ more ≡ given_by s (hearing ∷ holds.past)) (sym same) told_more;

@@ -1,26 +1,11 @@
 -- The messages of a miner can be written.
 use Rattle.std.proofs.Common.{◌≡◌, ℕ, ◌<◌, ◌≤◌, ◌^◌, List, [], ◌∷◌, length, refl, arith}
 use Rattle.std.proofs.lemmas.List.{length-append}
-use Rattle.std.proofs.lemmas.Str.{IsUtf8-nil}
 use Rattle.std.specs.Str.{IsUtf8}
-use Rattle.sv2_types.specs.Fields.{U8, U16, U32, UINT256, F32, STR0_255, Number, Bytes}
+use Rattle.sv2_types.specs.Fields.{U16, U32, UINT256, F32, STR0_255, Number, Bytes}
 use Rattle.sv2_messages.specs.declared.kinds.TheConstants as kinds
 use Rattle.sv2_messages.specs.Messages.{FitsFrame}
 use Rattle.sv2_messages.specs.Tables.{mining_table}
-
-pub setup_fits : FitsFrame mining_table (record {
-  kind = kinds.SETUP_CONNECTION;
-  fields = Number 0 ∷ Number 2 ∷ Number 2 ∷ Number 1 ∷ Bytes [] ∷ Number 0 ∷ Bytes [] ∷ Bytes [] ∷ Bytes [] ∷ Bytes [] ∷ [];
-})
-setup_fits =
-    record {
-      types = U8 ∷ U16 ∷ U16 ∷ U32 ∷ STR0_255 ∷ U16 ∷ STR0_255 ∷ STR0_255 ∷ STR0_255 ∷ STR0_255 ∷ [];
-      row = refl;
-      fields = record {
-        admitted = (omega arith, (omega arith, (omega arith, (omega arith, ((omega arith, IsUtf8-nil), (omega arith, ((omega arith, IsUtf8-nil), ((omega arith, IsUtf8-nil), ((omega arith, IsUtf8-nil), ((omega arith, IsUtf8-nil), tt))))))))));
-        within = omega arith;
-      };
-    }
 
 pub opening_fits : (user target : List ℕ) → length user ≤ 255 → IsUtf8 user → length target ≡ 32
     → FitsFrame mining_table (record {

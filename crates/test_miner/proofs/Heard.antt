@@ -11,7 +11,7 @@ use Rattle.sv2_frames.specs.Stream.{AreWithin, TakesEach, stream_of}
 use Rattle.test_miner.specs.declared.course.MinerEnd.{MinerEnd}
 use Rattle.test_miner.specs.declared.hearing.Ear.{Ear}
 use Rattle.test_miner.specs.declared.miner.Miner.{Miner}
-use Rattle.test_miner.specs.declared.hearing.TheConstants.{MOST_PAYLOAD}
+use Rattle.test_miner.specs.Bounds.{most_payload}
 use Rattle.test_miner.specs.Hearings.{HearsBy, HearsFrame, IsReadTo, hear_frame, hear_frames}
 use Rattle.test_miner.specs.Miners.{HearsPiece, IsLeftBy, IsReadyMiner}
 use Rattle.test_miner.specs.States.{MinerState}
@@ -64,7 +64,7 @@ read_to (TooLong len) stream frames more after unread ends split = (unread, spli
 
 -- where the miner stands then
 left_by : (end : RunEnd) (stream : List ℕ) (frames : List FrameValue) (more : Bool) (old new : Miner) → EndsRun end stream frames more new.splitter
-    → IsReadyMiner old → new.task ≡ old.task → new.splitter.limit ≡ MOST_PAYLOAD → new.ear.lacks_memory ≡ false → more ≡ is_none new.ear.course.end → IsLeftBy end new
+    → IsReadyMiner old → new.task ≡ old.task → new.splitter.limit ≡ most_payload → new.ear.lacks_memory ≡ false → more ≡ is_none new.ear.course.end → IsLeftBy end new
 left_by Done stream frames more old new ends ready task limit memory wants = record {
   can_mine = rw task ready.can_mine;
   limit = limit;
@@ -80,7 +80,7 @@ pub piece_heard : (old new : Miner) (bytes : List ℕ) (end : RunEnd) → IsRead
 piece_heard old new bytes end ready run task memory =
     let goes : is_none old.ear.course.end ≡ true = ap (λ (e : Option MinerEnd). is_none e) ready.goes_on in
     let heard = heard_each (λ (ear : Ear). ear.course) (λ (ear : Ear). ear.lacks_memory) hear_frame (λ (state : MinerState). is_none state.end) run.frames old.ear new.ear run.more run.took ready.memory goes memory in
-    let limit : new.splitter.limit ≡ MOST_PAYLOAD = run.limit ∙ ready.limit in
+    let limit : new.splitter.limit ≡ most_payload = run.limit ∙ ready.limit in
     let read = read_to end (old.splitter.held ++ bytes) run.frames run.more new.splitter run.unread run.ends run.stream in
     record {
       frames = run.frames;

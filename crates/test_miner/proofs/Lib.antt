@@ -7,3 +7,4 @@ mod ScriptRead
 mod Sharing
 mod Standing
 mod Tried
+mod Said

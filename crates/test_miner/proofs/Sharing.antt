@@ -11,12 +11,12 @@ use Rattle.mining_msgs.specs.declared.jobs.SetNewPrevHash.{SetNewPrevHash}
 use Rattle.test_miner.specs.declared.course.MinerEnd.{MinerEnd}
 use Rattle.test_miner.specs.declared.course.MinerEnd.TheVariants.{Mined, Ended}
 use Rattle.test_miner.specs.declared.miner.MinerTask.{MinerTask}
-use Rattle.test_miner.specs.declared.miner.TheConstants.{TRIES}
 use Rattle.test_miner.specs.declared.notice.Notice.{Notice}
 use Rattle.test_miner.specs.declared.notice.Notice.TheVariants.{SetUp, Refused, Opened, Job, Tip, Credited, Rejected, NoMessage, Other}
 use Rattle.test_miner.specs.declared.trying.CurrentJob.{CurrentJob}
 use Rattle.test_miner.specs.declared.trying.MinedShare.{MinedShare}
 use Rattle.test_miner.specs.declared.trying.Try.{Try}
+use Rattle.test_miner.specs.Bounds.{tries_a_turn}
 use Rattle.test_miner.specs.Courses.{credit, credited_once, cut_off, due, hear, hear_next, is_number, job_named, job_taken, open_channel, reject, set_up, share_at, share_on, tip_taken, tried_on, with_job, with_named, with_tries}
 use Rattle.test_miner.specs.Hearings.{Hearing, Frames, NoMore, hear_all}
 use Rattle.test_miner.specs.Laws.{Answered, AreNumbered, EndsTellCredits, MeetClass, OneShareWaits, SharesAreNumbered, SharesMeetClass, TellsCredits, answered, answered_by, answered_by_all, is_among, shares, waits_too, with_share, without}
@@ -59,7 +59,7 @@ shares_meet_on (Some current) class tries state older rest =
 
 shares_meet_in : (task : MinerTask) (end : RunEnd) (state : MinerState) (older : List MinedShare) → MeetClass task.class older
     → MeetClass task.class (with_share (share_in task end state) older)
-shares_meet_in task Done state older rest = shares_meet_on (due state) task.class TRIES state older rest
+shares_meet_in task Done state older rest = shares_meet_on (due state) task.class tries_a_turn state older rest
 shares_meet_in task Stopped state older rest = rest
 shares_meet_in task (TooLong len) state older rest = rest
 
@@ -275,7 +275,7 @@ knows_tried_on (Some current) class tries state answers older wanted is knows =
 
 knows_closed : (task : MinerTask) (end : RunEnd) (state : MinerState) (answers : Answered) (older : List MinedShare) → Knows state answers (length older) task.count
     → Knows (closed task end state) (waits_too (share_in task end state) answers) (length (with_share (share_in task end state) older)) task.count
-knows_closed task Done state answers older knows = knows_tried_on (due state) task.class TRIES state answers older task.count refl knows
+knows_closed task Done state answers older knows = knows_tried_on (due state) task.class tries_a_turn state answers older task.count refl knows
 knows_closed task Stopped state answers older knows = knows
 knows_closed task (TooLong len) state answers older knows = knows_cut state answers (length older) task.count knows
 
@@ -305,7 +305,7 @@ numbered_on (Some current) class tries state older submitted rest = by_found (fi
 
 numbered_in : (task : MinerTask) (end : RunEnd) (state : MinerState) (older : List MinedShare) → state.submitted ≡ length older → AreNumbered older
     → AreNumbered (with_share (share_in task end state) older)
-numbered_in task Done state older submitted rest = numbered_on (due state) task.class TRIES state older submitted rest
+numbered_in task Done state older submitted rest = numbered_on (due state) task.class tries_a_turn state older submitted rest
 numbered_in task Stopped state older submitted rest = rest
 numbered_in task (TooLong len) state older submitted rest = rest
 

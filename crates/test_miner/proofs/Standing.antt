@@ -10,7 +10,7 @@ use Rattle.sv2_frames.specs.declared.running.RunEnd.TheVariants.{Done, Stopped, 
 use Rattle.test_miner.specs.declared.course.MinerEnd.{MinerEnd}
 use Rattle.test_miner.specs.declared.miner.Miner.{Miner}
 use Rattle.test_miner.specs.declared.miner.MinerTask.{MinerTask}
-use Rattle.test_miner.specs.declared.hearing.TheConstants.{MOST_PAYLOAD}
+use Rattle.test_miner.specs.Bounds.{most_payload}
 use Rattle.test_miner.specs.Hearings.{AreHeardIn, Hearing, Frames, NoMore, IsHeardIn, hear_all, is_stopped}
 use Rattle.test_miner.specs.Saying.{setup_frame}
 use Rattle.test_miner.specs.Miners.{HearsPiece, HoldsMiner, IsLeftBy, IsNewMiner, IsReadyMiner, after, closed, has_ended, next, opening_said, said, said_in, share_said}
@@ -19,7 +19,7 @@ use Rattle.test_miner.specs.States.{MinerState}
 
 -- one turn more was heard
 pub holds_more : (old new : Miner) (turn : Turn) (hearing : Hearing) (turns : List Turn) (told more : List ℕ) → HoldsMiner old turns told → new.task ≡ old.task
-    → IsHeardIn MOST_PAYLOAD old.splitter.held turn hearing new.splitter.held → new.ear.course ≡ next old.task hearing old.ear.course
+    → IsHeardIn most_payload old.splitter.held turn hearing new.splitter.held → new.ear.course ≡ next old.task hearing old.ear.course
     → more ≡ said_in old.task hearing old.ear.course → (is_stopped hearing ≡ true → is_some new.ear.course.end ≡ true)
     → HoldsMiner new (turn ∷ turns) (told ++ more)
 holds_more old new turn hearing turns told more holds task heard knows says stops =
@@ -29,7 +29,7 @@ holds_more old new turn hearing turns told more holds task heard knows says stop
     record {
       past = hearing ∷ holds.past;
       heard =
-          subst (λ (t : MinerTask). AreHeardIn (has_ended t) MOST_PAYLOAD (turn ∷ turns) (hearing ∷ holds.past) new.splitter.held) (sym task)
+          subst (λ (t : MinerTask). AreHeardIn (has_ended t) most_payload (turn ∷ turns) (hearing ∷ holds.past) new.splitter.held) (sym task)
           (old.splitter.held, holds.heard, heard, λ stopped. ap (λ (s : MinerState). is_some s.end) (sym now) ∙ stops stopped);
       knows = subst (λ (t : MinerTask). new.ear.course ≡ after t (hearing ∷ holds.past)) (sym task) now;
       says = subst (λ (t : MinerTask). told ++ more ≡ said t (hearing ∷ holds.past)) (sym task) told_more;

@@ -10,9 +10,10 @@ use Rattle.sv2_frames.specs.Holding.{IsCutWithin}
 use Rattle.sv2_messages.specs.declared.kinds.TheConstants as kinds
 use Rattle.sv2_messages.specs.Messages.{message_frame}
 use Rattle.sv2_messages.specs.Tables.{mining_table}
+use Rattle.test_miner.specs.declared.feed.FeedEnd.{FeedEnd}
 use Rattle.test_miner.specs.declared.feed_machine.Feed.{Feed}
 use Rattle.test_miner.specs.declared.feed_machine.FeedEar.{FeedEar}
-use Rattle.test_miner.specs.declared.hearing.TheConstants.{MOST_PAYLOAD}
+use Rattle.test_miner.specs.Bounds.{most_payload}
 use Rattle.test_miner.specs.FeedHearing.{closed_feed, cut_feed, hear_in_feed, new_feed}
 use Rattle.test_miner.specs.FeedStates.{FeedState}
 use Rattle.test_miner.specs.Hearings.{AreHeardIn, BringsFrames, Hearing, Frames, NoMore, HearsBy, hear_frames}
@@ -68,21 +69,29 @@ has_ended_feed script past = is_some (fed_by script past).end
 -- it has taken just these turns, the newest first, and has said just these bytes
 pub record HoldsFeed (feed : Feed) (turns : List Turn) (told : List ℕ) : Type 0 where
   pub past : List Hearing
-  pub heard : AreHeardIn (has_ended_feed feed.ear.course.script) MOST_PAYLOAD turns past
+  pub heard : AreHeardIn (has_ended_feed feed.ear.course.script) most_payload turns past
       feed.splitter.held
   pub knows : feed.ear.course ≡ fed_by feed.ear.course.script past
   pub given : told ≡ given_by feed.ear.course.script past
 
+-- the same, and it hasn't ended
+abbrev pub IsFeeding : Feed → List Turn → List ℕ → Type 0
+IsFeeding feed turns told = HoldsFeed feed turns told × (feed.ear.course.end ≡ None)
+
+-- the same, and it has ended so
+abbrev pub HasFed : Feed → List Turn → List ℕ → FeedEnd → Type 0
+HasFed feed turns told end = HoldsFeed feed turns told × (feed.ear.course.end ≡ Some end)
+
 -- it has said nothing yet
 pub record IsNewFeed (feed : Feed) : Type 0 where
-  pub splitter : feed.splitter ≡ record { held = []; limit = MOST_PAYLOAD }
+  pub splitter : feed.splitter ≡ record { held = []; limit = most_payload }
   pub cut : IsCutWithin feed.splitter
   pub course : feed.ear.course ≡ new_feed feed.ear.course.script
   pub memory : feed.ear.lacks_memory ≡ false
 
 -- it is between two turns, and has not ended
 pub record IsReadyFeed (feed : Feed) : Type 0 where
-  pub limit : feed.splitter.limit ≡ MOST_PAYLOAD
+  pub limit : feed.splitter.limit ≡ most_payload
   pub cut : IsCutWithin feed.splitter
   pub goes_on : feed.ear.course.end ≡ None
   pub memory : feed.ear.lacks_memory ≡ false
@@ -96,7 +105,7 @@ IsFeedLeftBy (TooLong len) new = new.ear.course.end ≡ None
 -- the frames of a piece were heard
 pub record FeedHearsPiece (old : Feed) (bytes : List ℕ) (end : RunEnd) (new : Feed) : Type 0 where
   pub frames : List FrameValue
-  pub brought : BringsFrames MOST_PAYLOAD old.splitter.held bytes frames end new.splitter.held
+  pub brought : BringsFrames most_payload old.splitter.held bytes frames end new.splitter.held
   pub knows : new.ear.course ≡ hear_frames hear_in_feed frames old.ear.course
   pub left : IsFeedLeftBy end new
 

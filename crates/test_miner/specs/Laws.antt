@@ -1,6 +1,6 @@
 -- What follows for the shares of a miner, whatever turns its link gives (this project's own).
-use Rattle.std.specs.Prelude.{◌≡◌, ℕ, ◌≤◌, ◌==◌, Bool, if◌then◌else◌, is_some, Option, None, Some, List, [], ◌∷◌, length, filter, not}
-use Rattle.std.specs.List.{list_any}
+use Rattle.std.specs.Prelude.{◌≡◌, ℕ, ◌≤◌, ◌==◌, Bool, if◌then◌else◌, is_some, Option, None, Some, List, [], ◌∷◌, ◌++◌, length, filter, not, false, reverse}
+use Rattle.std.specs.List.{flat_map, list_any}
 use Rattle.block_header.specs.Hash.{dsha, Meets}
 use Rattle.sv2_frames.specs.Framing.{FrameValue}
 use Rattle.test_miner.specs.declared.course.MinerEnd.{MinerEnd}
@@ -11,8 +11,9 @@ use Rattle.test_miner.specs.declared.notice.Notice.TheVariants.{SetUp, Refused, 
 use Rattle.test_miner.specs.declared.trying.MinedShare.{MinedShare}
 use Rattle.test_miner.specs.Courses.{hear, is_number}
 use Rattle.test_miner.specs.Hearings.{Hearing, Frames, NoMore, hear_all}
-use Rattle.test_miner.specs.Miners.{after, share_in}
+use Rattle.test_miner.specs.Miners.{after, opening_said, said, share_in}
 use Rattle.test_miner.specs.Notices.{notice_in}
+use Rattle.test_miner.specs.Saying.{setup_frame, share_frame}
 use Rattle.test_miner.specs.States.{MinerState}
 use Rattle.test_miner.specs.Trying.{header_tried}
 
@@ -116,3 +117,11 @@ abbrev pub EndsTellCredits : Type 0
 EndsTellCredits =
     (task : MinerTask) (past : List Hearing)
     → TellsCredits task (length (answered task past).credited) (after task past).end
+
+-- All that a miner says: its setup, the opening of its channel once its connection is accepted, and
+-- then the submissions of its shares, each once and in their order.
+abbrev pub MinerSaysShares : Type 0
+MinerSaysShares =
+    (task : MinerTask) (past : List Hearing)
+    → said task past ≡ setup_frame ++ (opening_said task false (after task past).is_set_up
+    ++ flat_map share_frame (reverse (shares task past)))

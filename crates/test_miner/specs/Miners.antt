@@ -1,16 +1,16 @@
 -- The test miner: what it knows and what it has said after any turns of its link (this project's
 -- own).
-use Rattle.std.specs.Prelude.{◌≡◌, ◌<◌, ◌≤◌, ℕ, Bool, true, false, is_some, Option, None, List, [], ◌∷◌, ◌++◌}
+use Rattle.std.specs.Prelude.{◌≡◌, ◌<◌, ◌≤◌, ℕ, Bool, true, false, is_some, Option, None, Some, List, [], ◌∷◌, ◌++◌}
 use Rattle.pool_io.specs.declared.turn.Turn.{Turn}
 use Rattle.sv2_frames.specs.declared.running.RunEnd.{RunEnd}
 use Rattle.sv2_frames.specs.declared.running.RunEnd.TheVariants.{Done, Stopped, TooLong}
 use Rattle.sv2_frames.specs.Framing.{FrameValue}
 use Rattle.sv2_frames.specs.Holding.{IsCutWithin}
+use Rattle.test_miner.specs.declared.course.MinerEnd.{MinerEnd}
 use Rattle.test_miner.specs.declared.miner.Miner.{Miner}
 use Rattle.test_miner.specs.declared.miner.MinerTask.{MinerTask}
-use Rattle.test_miner.specs.declared.hearing.TheConstants.{MOST_PAYLOAD}
-use Rattle.test_miner.specs.declared.miner.TheConstants.{TRIES}
 use Rattle.test_miner.specs.declared.trying.MinedShare.{MinedShare}
+use Rattle.test_miner.specs.Bounds.{most_payload, tries_a_turn}
 use Rattle.test_miner.specs.Courses.{cut_off, new_state, share_found, tries_made}
 use Rattle.test_miner.specs.Hearings.{AreHeardIn, BringsFrames, Hearing, Frames, NoMore, hear_all}
 use Rattle.test_miner.specs.Saying.{opening_frame, setup_frame, share_bytes}
@@ -19,13 +19,13 @@ use Rattle.test_miner.specs.States.{MinerState}
 -- A turn whose bytes were read so far is closed: where they were read to the last, tries are made; a
 -- header over the limit ends the run.
 abbrev pub closed : MinerTask → RunEnd → MinerState → MinerState
-closed task Done state = tries_made task.class TRIES state
+closed task Done state = tries_made task.class tries_a_turn state
 closed task Stopped state = state
 closed task (TooLong len) state = cut_off state
 
 -- the share that a turn finds
 abbrev pub share_in : MinerTask → RunEnd → MinerState → Option MinedShare
-share_in task Done state = share_found task.class TRIES state
+share_in task Done state = share_found task.class tries_a_turn state
 share_in task Stopped state = None
 share_in task (TooLong len) state = None
 
@@ -67,9 +67,18 @@ has_ended task past = is_some (after task past).end
 -- it has taken just these turns, the newest first, and has said just these bytes
 pub record HoldsMiner (miner : Miner) (turns : List Turn) (told : List ℕ) : Type 0 where
   pub past : List Hearing
-  pub heard : AreHeardIn (has_ended miner.task) MOST_PAYLOAD turns past miner.splitter.held
+  pub heard : AreHeardIn (has_ended miner.task) most_payload turns past miner.splitter.held
   pub knows : miner.ear.course ≡ after miner.task past
   pub says : told ≡ said miner.task past
+
+-- the same, and it hasn't ended
+abbrev pub IsMining : Miner → List Turn → List ℕ → Type 0
+IsMining miner turns told = HoldsMiner miner turns told × (miner.ear.course.end ≡ None)
+
+-- the same, and it has ended so
+abbrev pub HasMined : Miner → List Turn → List ℕ → MinerEnd → Type 0
+HasMined miner turns told end =
+    HoldsMiner miner turns told × (miner.ear.course.end ≡ Some end)
 
 -- a miner can be asked for this
 pub record CanMine (task : MinerTask) : Type 0 where
@@ -79,7 +88,7 @@ pub record CanMine (task : MinerTask) : Type 0 where
 -- it has said nothing yet
 pub record IsNewMiner (miner : Miner) : Type 0 where
   pub can_mine : CanMine miner.task
-  pub splitter : miner.splitter ≡ record { held = []; limit = MOST_PAYLOAD }
+  pub splitter : miner.splitter ≡ record { held = []; limit = most_payload }
   pub cut : IsCutWithin miner.splitter
   pub course : miner.ear.course ≡ new_state miner.task.count
   pub memory : miner.ear.lacks_memory ≡ false
@@ -87,7 +96,7 @@ pub record IsNewMiner (miner : Miner) : Type 0 where
 -- it is between two turns, and has not ended
 pub record IsReadyMiner (miner : Miner) : Type 0 where
   pub can_mine : CanMine miner.task
-  pub limit : miner.splitter.limit ≡ MOST_PAYLOAD
+  pub limit : miner.splitter.limit ≡ most_payload
   pub cut : IsCutWithin miner.splitter
   pub goes_on : miner.ear.course.end ≡ None
   pub memory : miner.ear.lacks_memory ≡ false
@@ -101,6 +110,6 @@ IsLeftBy (TooLong len) new = new.ear.course.end ≡ None
 -- the frames of a piece were heard
 pub record HearsPiece (old : Miner) (bytes : List ℕ) (end : RunEnd) (new : Miner) : Type 0 where
   pub frames : List FrameValue
-  pub brought : BringsFrames MOST_PAYLOAD old.splitter.held bytes frames end new.splitter.held
+  pub brought : BringsFrames most_payload old.splitter.held bytes frames end new.splitter.held
   pub knows : new.ear.course ≡ hear_all frames old.ear.course
   pub left : IsLeftBy end new

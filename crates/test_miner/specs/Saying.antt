@@ -6,16 +6,12 @@ use Rattle.sv2_types.specs.Fields.{Number, Bytes}
 use Rattle.sv2_messages.specs.declared.kinds.TheConstants as kinds
 use Rattle.sv2_messages.specs.Messages.{message_frame}
 use Rattle.sv2_messages.specs.Tables.{mining_table}
+use Rattle.mining_msgs.specs.PlainSetup.{plain_setup}
 use Rattle.test_miner.specs.declared.trying.MinedShare.{MinedShare}
 
--- protocol 0, versions 2 and 2, flag bit 0 (standard jobs), no texts, port 0
+-- with flag bit 0: standard jobs
 abbrev pub setup_frame : List ℕ
-setup_frame = message_frame mining_table (record {
-  kind = kinds.SETUP_CONNECTION;
-  fields =
-      Number 0 ∷ Number 2 ∷ Number 2 ∷ Number 1 ∷ Bytes [] ∷ Number 0 ∷ Bytes [] ∷ Bytes [] ∷
-      Bytes [] ∷ Bytes [] ∷ [];
-})
+setup_frame = message_frame mining_table (plain_setup 1)
 
 -- request 1 of the user, hash rate zero, the target of the class
 abbrev pub opening_frame : List ℕ → ℕ → List ℕ

@@ -120,8 +120,7 @@ fn put_success(out: &mut Vec<u8>) -> Result<(), AllocError>
 }
 
 impl Partner for Feed {
-    ghost use Rattle.std.specs.Prelude.{◌≡◌, None, Some};
-    ghost use Rattle.test_miner.specs.Feeds.{HoldsFeed, IsNewFeed, IsReadyFeed};
+    ghost use Rattle.test_miner.specs.Feeds.{HasFed, IsFeeding, IsNewFeed, IsReadyFeed};
 
     type Task = Script;
 
@@ -133,11 +132,9 @@ impl Partner for Feed {
 
     ghost is_ready = { IsReadyFeed };
 
-    ghost has_taken = { λ feed turns told. HoldsFeed feed turns told
-        × (feed.ear.course.end ≡ None) };
+    ghost has_taken = { IsFeeding };
 
-    ghost has_ended = { λ feed turns told end. HoldsFeed feed turns told
-        × (feed.ear.course.end ≡ Some end) };
+    ghost has_ended = { HasFed };
 
     fn start(&mut self, _out: &mut Vec<u8>) -> Result<(), AllocError> {
         Ok(())

@@ -4,10 +4,17 @@
 ghost use Rattle.test_miner.specs.Feeds.{FeedSaysScript};
 ghost use Rattle.test_miner.specs.Laws.{
   EndsTellCredits,
+  MinerSaysShares,
   OneShareWaits,
   SharesAreNumbered,
   SharesMeetClass,
 };
+
+/// A miner says its setup, the opening of its channel once its connection is accepted, and the
+/// submissions of its shares, each once and in their order.
+pub fn miner_says_shares()
+    ensures { MinerSaysShares }
+{}
 
 /// Each share's header meets the class.
 pub fn shares_meet_class()

@@ -18,7 +18,8 @@ pub use feed::{FeedCourse, FeedEnd, Verdict};
 pub use feed_machine::{Feed, FeedEar};
 pub use hearing::Ear;
 pub use laws::{
-    ends_tell_credits, feed_says_script, one_share_waits, shares_are_numbered, shares_meet_class,
+    ends_tell_credits, feed_says_script, miner_says_shares, one_share_waits, shares_are_numbered,
+    shares_meet_class,
 };
 pub use link_turns::Partner;
 pub use miner::{Miner, MinerTask};

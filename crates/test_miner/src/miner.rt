@@ -1,6 +1,7 @@
 //! The test miner.
 
 ghost use Rattle.std.specs.Prelude.{◌≡◌, ◌≤◌, ◌<◌, ◌++◌, IfOk, OnOk};
+ghost use Rattle.test_miner.specs.Bounds.{tries_a_turn};
 ghost use Rattle.test_miner.specs.Courses.{tries_made, share_found};
 ghost use Rattle.test_miner.specs.Miners.{
   HearsPiece,
@@ -94,9 +95,9 @@ impl Miner {
         ensures splitter { self.new.splitter ≡ self.old.splitter }
         ensures lacks { self.new.ear.lacks_memory ≡ self.old.ear.lacks_memory }
         ensures course { self.new.ear.course
-            ≡ tries_made self.old.task.class TRIES self.old.ear.course }
+            ≡ tries_made self.old.task.class tries_a_turn self.old.ear.course }
         ensures share { OnOk result (out.new.items ≡ out.old.items
-            ++ share_bytes (share_found self.old.task.class TRIES self.old.ear.course)) }
+            ++ share_bytes (share_found self.old.task.class tries_a_turn self.old.ear.course)) }
     {
         match self.ear.course.make_tries(self.task.class, TRIES) {
             Some(share) => put_share(out, share),
@@ -125,8 +126,7 @@ impl Miner {
 }
 
 impl Partner for Miner {
-    ghost use Rattle.std.specs.Prelude.{◌≡◌, None, Some};
-    ghost use Rattle.test_miner.specs.Miners.{HoldsMiner, IsNewMiner, IsReadyMiner};
+    ghost use Rattle.test_miner.specs.Miners.{HasMined, IsMining, IsNewMiner, IsReadyMiner};
 
     type Task = MinerTask;
 
@@ -138,11 +138,9 @@ impl Partner for Miner {
 
     ghost is_ready = { IsReadyMiner };
 
-    ghost has_taken = { λ miner turns told. HoldsMiner miner turns told
-        × (miner.ear.course.end ≡ None) };
+    ghost has_taken = { IsMining };
 
-    ghost has_ended = { λ miner turns told end. HoldsMiner miner turns told
-        × (miner.ear.course.end ≡ Some end) };
+    ghost has_ended = { HasMined };
 
     fn start(&mut self, out: &mut Vec<u8>) -> Result<(), AllocError> {
         put_setup(out)

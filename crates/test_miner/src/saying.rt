@@ -5,7 +5,7 @@ ghost use Rattle.test_miner.specs.Saying.{opening_frame, setup_frame, share_fram
 
 use crate::trying::MinedShare;
 use block_header::target_of;
-use mining_msgs::{Mining, OpenStandardMiningChannel, SetupConnection, SubmitSharesStandard};
+use mining_msgs::{Mining, OpenStandardMiningChannel, SubmitSharesStandard, put_plain_setup};
 use std::alloc::AllocError;
 use sv2_types::Str255;
 
@@ -13,22 +13,7 @@ use sv2_types::Str255;
 pub(crate) fn put_setup(out: &mut Vec<u8>) -> Result<(), AllocError>
     ensures { OnOk result (out.new.items ≡ out.old.items ++ setup_frame) }
 {
-    // In a tuple, since no proof covers a local of an enum whose structs borrow.
-    let setup = (
-        Mining::SetupConnection(SetupConnection {
-            protocol: 0,
-            min_version: 2,
-            max_version: 2,
-            flags: 1,
-            endpoint_host: "",
-            endpoint_port: 0,
-            vendor: "",
-            hardware_version: "",
-            firmware: "",
-            device_id: "",
-        }),
-    );
-    setup.0.frame(out)
+    put_plain_setup(out, 1)
 }
 
 /// Appends the request for a standard channel of this user and class.
@@ -36,6 +21,7 @@ pub(crate) fn put_opening(out: &mut Vec<u8>, user: &Str255, class: u8) -> Result
     requires { class ≤ 60 }
     ensures { OnOk result (out.new.items ≡ out.old.items ++ opening_frame user.now class) }
 {
+    // In a tuple, since no proof covers a local of an enum whose structs borrow.
     let opening = (
         Mining::OpenStandardMiningChannel(OpenStandardMiningChannel {
             request_id: 1,
