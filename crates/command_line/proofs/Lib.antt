@@ -1,2 +1,3 @@
+pub mod FiveWords
 pub mod JobBytes
 pub mod OneForm

@@ -1,14 +1,14 @@
 -- Words have one class and one job.
-use Rattle.std.proofs.Common.{◌≡◌, ℕ, List, ◌++◌, take, drop, refl, sym, ap, ◌∙◌}
+use Rattle.std.proofs.Common.{◌≡◌, ℕ, List, [], ◌++◌, take, drop, get_or, refl, sym, ap, ◌∙◌, inl, inr, arith}
 use Rattle.std.specs.Int.{w32, to_le_bytes, from_le_bytes}
 use Rattle.std.proofs.lemmas.List.{take_at, drop_at}
 use Rattle.std.proofs.lemmas.Nat.{from_le_bytes-to_le_bytes_4}
 use Rattle.fixed_command.specs.declared.judge.Job.{Job}
 use Rattle.command_line.specs.Numbers.{IsNumber}
 use Rattle.command_line.specs.declared.words.Form.{Form}
-use Rattle.command_line.specs.declared.words.Form.TheVariants.{SoloFixed, Frames, Solo, Serve, Audit, Migrate, Load}
-use Rattle.command_line.specs.Forms.{IsJob, IsSoloFixed, IsForm}
-use Rattle.command_line.specs.Running.{IsWithinLimits}
+use Rattle.command_line.specs.declared.words.Form.TheVariants.{SoloFixed, Frames, Solo, Serve, Audit, Migrate, Load, Mine, Feed}
+use Rattle.command_line.specs.Forms.{AskAtAddress, IsForm, IsJob, IsSoloFixed}
+use Rattle.command_line.specs.Running.{IsAlone, IsWithinLimits}
 
 one_number : (text other : List ℕ) (m n : ℕ) → text ≡ other → IsNumber text m → IsNumber other n → m ≡ n
 one_number text other m n same a b = sym a.value ∙ ap (λ t. Rattle.std.specs.Str.Parse.digits_value 10 t) same ∙ b.value
@@ -38,6 +38,10 @@ module _ (words : List (List ℕ)) (class other : ℕ) (job work : Job) (a : IsS
       let decoded = sym a.decoded ∙ ap (λ d. Rattle.hex.specs.Hex.decode_sized d 68) same_words.1 ∙ b.decoded in
       let bytes : a.bytes ≡ b.bytes = cc in
       one_job a.bytes b.bytes job work bytes a.is_job b.is_job
+
+-- a letter of the first word
+abbrev letter : ℕ → List (List ℕ) → ℕ
+letter place words = get_or (get_or words 0 []) place 0
 
 -- the words are of one form
 pub one_form : (words : List (List ℕ)) (form other : Form) → IsForm words form → IsForm words other → form ≡ other
@@ -92,6 +96,41 @@ one_form words Audit (Load number) is also = absurd (let both = sym is.spelled �
 one_form words (Load number) Audit is also = absurd (let both = sym also.spelled ∙ is.spelled in cc)
 one_form words Migrate (Load number) is also = absurd (let both = sym is.spelled ∙ also.spelled in cc)
 one_form words (Load number) Migrate is also = absurd (let both = sym also.spelled ∙ is.spelled in cc)
+one_form words (SoloFixed level job) (Mine class count) is also = absurd (let other : 115 ≡ 109 = ap (letter 0) (sym is.spelled ∙ also.spelled) in omega (arith, other))
+one_form words (Mine class count) (SoloFixed level job) is also = absurd (let other : 109 ≡ 115 = ap (letter 0) (sym is.spelled ∙ also.spelled) in omega (arith, other))
+one_form words (SoloFixed class job) Feed is also = absurd (let other : 115 ≡ 102 = ap (letter 0) (sym is.spelled ∙ also.spelled) in omega (arith, other))
+one_form words Feed (SoloFixed class job) is also = absurd (let other : 102 ≡ 115 = ap (letter 0) (sym is.spelled ∙ also.spelled) in omega (arith, other))
+one_form words Frames (Mine class count) is also = absurd (let other : 102 ≡ 109 = ap (letter 0) (sym is ∙ also.spelled) in omega (arith, other))
+one_form words (Mine class count) Frames is also = absurd (let other : 109 ≡ 102 = ap (letter 0) (sym is.spelled ∙ also) in omega (arith, other))
+one_form words Frames Feed is also = absurd (let other : 114 ≡ 101 = ap (letter 1) (sym is ∙ also.spelled) in omega (arith, other))
+one_form words Feed Frames is also = absurd (let other : 101 ≡ 114 = ap (letter 1) (sym is.spelled ∙ also) in omega (arith, other))
+one_form words Solo (Mine class count) is also = absurd (let other : 115 ≡ 109 = ap (letter 0) (sym is.spelled ∙ also.spelled) in omega (arith, other))
+one_form words (Mine class count) Solo is also = absurd (let other : 109 ≡ 115 = ap (letter 0) (sym is.spelled ∙ also.spelled) in omega (arith, other))
+one_form words Solo Feed is also = absurd (let other : 115 ≡ 102 = ap (letter 0) (sym is.spelled ∙ also.spelled) in omega (arith, other))
+one_form words Feed Solo is also = absurd (let other : 102 ≡ 115 = ap (letter 0) (sym is.spelled ∙ also.spelled) in omega (arith, other))
+one_form words Audit (Mine class count) is also = absurd (let other : 97 ≡ 109 = ap (letter 0) (sym is.spelled ∙ also.spelled) in omega (arith, other))
+one_form words (Mine class count) Audit is also = absurd (let other : 109 ≡ 97 = ap (letter 0) (sym is.spelled ∙ also.spelled) in omega (arith, other))
+one_form words Audit Feed is also = absurd (let other : 97 ≡ 102 = ap (letter 0) (sym is.spelled ∙ also.spelled) in omega (arith, other))
+one_form words Feed Audit is also = absurd (let other : 102 ≡ 97 = ap (letter 0) (sym is.spelled ∙ also.spelled) in omega (arith, other))
+one_form words Migrate (Mine class count) is also = absurd (let other : 103 ≡ 110 = ap (letter 2) (sym is.spelled ∙ also.spelled) in omega (arith, other))
+one_form words (Mine class count) Migrate is also = absurd (let other : 110 ≡ 103 = ap (letter 2) (sym is.spelled ∙ also.spelled) in omega (arith, other))
+one_form words Migrate Feed is also = absurd (let other : 109 ≡ 102 = ap (letter 0) (sym is.spelled ∙ also.spelled) in omega (arith, other))
+one_form words Feed Migrate is also = absurd (let other : 102 ≡ 109 = ap (letter 0) (sym is.spelled ∙ also.spelled) in omega (arith, other))
+one_form words Serve (Mine class count) is also = absurd (let other : 115 ≡ 109 = ap (letter 0) (sym is.spelled ∙ also.spelled) in omega (arith, other))
+one_form words (Mine class count) Serve is also = absurd (let other : 109 ≡ 115 = ap (letter 0) (sym is.spelled ∙ also.spelled) in omega (arith, other))
+one_form words Serve Feed is also = absurd (let other : 115 ≡ 102 = ap (letter 0) (sym is.spelled ∙ also.spelled) in omega (arith, other))
+one_form words Feed Serve is also = absurd (let other : 102 ≡ 115 = ap (letter 0) (sym is.spelled ∙ also.spelled) in omega (arith, other))
+one_form words (Load number) (Mine class count) is also = absurd (let other : 108 ≡ 109 = ap (letter 0) (sym is.spelled ∙ also.spelled) in omega (arith, other))
+one_form words (Mine class count) (Load number) is also = absurd (let other : 109 ≡ 108 = ap (letter 0) (sym is.spelled ∙ also.spelled) in omega (arith, other))
+one_form words (Load number) Feed is also = absurd (let other : 108 ≡ 102 = ap (letter 0) (sym is.spelled ∙ also.spelled) in omega (arith, other))
+one_form words Feed (Load number) is also = absurd (let other : 102 ≡ 108 = ap (letter 0) (sym is.spelled ∙ also.spelled) in omega (arith, other))
+one_form words (Mine class count) (Mine other most) is also =
+    let joined = sym is.spelled ∙ also.spelled in
+    ap (λ z. Mine z count) (one_number is.class_digits also.class_digits class other (let same : is.class_digits ≡ also.class_digits = cc in same) is.is_class also.is_class)
+    ∙ ap (Mine other) (one_number is.count_digits also.count_digits count most (let same : is.count_digits ≡ also.count_digits = cc in same) is.is_count also.is_count)
+one_form words (Mine class count) Feed is also = absurd (let other : 109 ≡ 102 = ap (letter 0) (sym is.spelled ∙ also.spelled) in omega (arith, other))
+one_form words Feed (Mine class count) is also = absurd (let other : 102 ≡ 109 = ap (letter 0) (sym is.spelled ∙ also.spelled) in omega (arith, other))
+one_form words Feed Feed is also = refl
 
 pub within_limits : (words : List (List ℕ)) (form : Form) → IsForm words form → IsWithinLimits form
 within_limits words (SoloFixed class job) is = is.limit
@@ -101,3 +140,17 @@ within_limits words Serve is = tt
 within_limits words Audit is = tt
 within_limits words Migrate is = tt
 within_limits words (Load number) is = tt
+within_limits words (Mine class count) is = (is.easy, is.some)
+within_limits words Feed is = tt
+
+-- words that ask for nothing at an address are of a form that doesn't
+pub alone : (words : List (List ℕ)) (form : Form) → IsForm words form → (AskAtAddress words → ⊥) → IsAlone form
+alone words (SoloFixed class job) is none = tt
+alone words Frames is none = tt
+alone words Solo is none = tt
+alone words Serve is none = none (inl is)
+alone words Audit is none = tt
+alone words Migrate is none = tt
+alone words (Load number) is none = tt
+alone words (Mine class count) is none = none (inr (inl (class, count, is)))
+alone words Feed is none = none (inr (inr is))

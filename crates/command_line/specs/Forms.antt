@@ -1,10 +1,10 @@
 -- The forms of a command line.
-use Rattle.std.specs.Prelude.{ℕ, ◌≡◌, ◌<◌, ◌≤◌, ◌^◌, List, [], ◌∷◌, ◌++◌, length, Ok, codes}
+use Rattle.std.specs.Prelude.{ℕ, ◌≡◌, ◌⊎◌, ◌<◌, ◌≤◌, ◌^◌, List, [], ◌∷◌, ◌++◌, length, Ok, codes}
 use Rattle.std.specs.Int.{w32, to_le_bytes}
 use Rattle.hex.specs.Hex.{decode_sized}
 use Rattle.fixed_command.specs.declared.judge.Job.{Job}
 use Rattle.command_line.specs.declared.words.Form.{Form}
-use Rattle.command_line.specs.declared.words.Form.TheVariants.{SoloFixed, Frames, Solo, Serve, Audit, Migrate, Load}
+use Rattle.command_line.specs.declared.words.Form.TheVariants.{SoloFixed, Frames, Solo, Serve, Audit, Migrate, Load, Mine, Feed}
 use Rattle.command_line.specs.Numbers.{IsNumber}
 
 -- the bytes are the job's previous hash, merkle root and nbits, as they stand in a header
@@ -59,6 +59,29 @@ pub record IsLoad (words : List (List ℕ)) (number : ℕ) : Type 0 where
   pub is_number : IsNumber digits number
   pub limit : number < 2 ^ 64
 
+-- `mine ADDRESS USER CLASS COUNT`: a user of 1 to 255 bytes, a class of at most 24, and a count of 1 to
+-- 1,000,000
+pub record IsMine (words : List (List ℕ)) (class count : ℕ) : Type 0 where
+  pub address : List ℕ
+  pub user : List ℕ
+  pub class_digits : List ℕ
+  pub count_digits : List ℕ
+  pub spelled : words
+      ≡ codes "mine" ∷ address ∷ user ∷ class_digits ∷ count_digits ∷ []
+  pub has_user : 0 < length user
+  pub short_user : length user ≤ 255
+  pub is_class : IsNumber class_digits class
+  pub easy : class ≤ 24
+  pub is_count : IsNumber count_digits count
+  pub some : 0 < count
+  pub most : count ≤ 1000000
+
+-- `feed SCRIPT ADDRESS`: the name of a file, and an address
+pub record IsFeed (words : List (List ℕ)) : Type 0 where
+  pub script : List ℕ
+  pub address : List ℕ
+  pub spelled : words ≡ codes "feed" ∷ script ∷ address ∷ []
+
 -- the words are of this form
 abbrev pub IsForm : List (List ℕ) → Form → Type 0
 IsForm words (SoloFixed class job) = IsSoloFixed words class job
@@ -68,7 +91,14 @@ IsForm words Serve = IsServe words
 IsForm words Audit = IsAudit words
 IsForm words Migrate = IsMigrate words
 IsForm words (Load number) = IsLoad words number
+IsForm words (Mine class count) = IsMine words class count
+IsForm words Feed = IsFeed words
 
 -- the words are none of the forms
 abbrev pub HasNoForm : List (List ℕ) → Type 0
 HasNoForm words = (form : Form) → IsForm words form → ⊥
+
+-- the words ask for something at an address
+abbrev pub AskAtAddress : List (List ℕ) → Type 0
+AskAtAddress words =
+    IsServe words ⊎ ((class : ℕ) × (count : ℕ) × IsMine words class count) ⊎ IsFeed words

@@ -1,5 +1,5 @@
 -- What the top call owes for the words of its command line (this project's own).
-use Rattle.std.specs.Prelude.{ℕ, ◌≡◌, ◌≤◌, List}
+use Rattle.std.specs.Prelude.{ℕ, ◌≡◌, ◌<◌, ◌≤◌, List}
 use Rattle.stream_commands.specs.declared.status.Status.{Status}
 use Rattle.stream_commands.specs.Duties.{Duty}
 use Rattle.stream_commands.specs.Rows.{AsksForStreams, StreamRow}
@@ -8,13 +8,16 @@ use Rattle.ledger_commands.specs.Auditing.{AuditRow}
 use Rattle.fixed_command.specs.Duty.{share_duty}
 use Rattle.frames_command.specs.Duty.{listing_duty}
 use Rattle.ledger_commands.specs.Migrating.{MigrateRow}
+use Rattle.feed_command.specs.Row.{FeedRow}
 use Rattle.load_command.specs.Row.{LoadRow}
-use Rattle.serve_command.specs.Row.{ServeRow, WorldSeen}
+use Rattle.mine_command.specs.Row.{MineRow}
+use Rattle.serve_command.specs.Row.{ServeRow}
 use Rattle.pool_io.specs.Hosts.{HostSeen}
+use Rattle.pool_network.specs.Worlds.{WorldSeen}
 use Rattle.solo_command.specs.Row.{SoloRow}
 use Rattle.command_line.specs.declared.words.Form.{Form}
-use Rattle.command_line.specs.declared.words.Form.TheVariants.{SoloFixed, Frames, Solo, Serve, Audit, Migrate, Load}
-use Rattle.command_line.specs.Forms.{IsAudit, IsMigrate, IsServe, IsSolo}
+use Rattle.command_line.specs.declared.words.Form.TheVariants.{SoloFixed, Frames, Solo, Serve, Audit, Migrate, Load, Mine, Feed}
+use Rattle.command_line.specs.Forms.{IsAudit, IsFeed, IsMigrate, IsMine, IsServe, IsSolo}
 
 -- a command over standard input and output: what it owes at each status, and that it asked for
 -- these alone
@@ -22,8 +25,8 @@ abbrev pub OwesStreams : Duty → HostSeen → HostSeen → Status → Type 0
 OwesStreams duty old new status = StreamRow duty old.streams new.streams status
     × AsksForStreams old.openings new.openings status
 
--- what each form of words owes at each status: a row a command; no other than `serve` asks the
--- network for anything
+-- what each form of words owes at each status: a row a command; none but `serve`, `mine`
+-- and `feed` asks the network for anything
 abbrev pub OwesRow : List (List ℕ) → Form → WorldSeen → WorldSeen → Status → Type 0
 OwesRow words (SoloFixed class job) old new status =
     OwesStreams (share_duty class job) old.host new.host status × (new.network ≡ old.network)
@@ -43,6 +46,12 @@ OwesRow words Migrate old new status =
     × (new.network ≡ old.network)
 OwesRow words (Load number) old new status =
     LoadRow number old.host new.host status × (new.network ≡ old.network)
+OwesRow words (Mine class count) old new status =
+    (names : IsMine words class count)
+    × MineRow names.address (record { user = names.user; class = class; count = count }) old new
+    status
+OwesRow words Feed old new status =
+    (names : IsFeed words) × FeedRow names.script names.address old new status
 
 -- the answer is the number of a status, and what the form owes at it stands
 pub record DoesForm (words : List (List ℕ)) (form : Form) (old new : WorldSeen) (answer : ℕ) :
@@ -54,6 +63,8 @@ pub record DoesForm (words : List (List ℕ)) (form : Form) (old new : WorldSeen
 -- the form asks for nothing at an address
 abbrev pub IsAlone : Form → Type 0
 IsAlone Serve = ⊥
+IsAlone (Mine class count) = ⊥
+IsAlone Feed = ⊥
 IsAlone _ = Unit {0}
 
 -- the numbers of a form are within their limits
@@ -65,3 +76,5 @@ IsWithinLimits Serve = Unit {0}
 IsWithinLimits Audit = Unit {0}
 IsWithinLimits Migrate = Unit {0}
 IsWithinLimits (Load number) = Unit {0}
+IsWithinLimits (Mine class count) = (class ≤ 24) × (0 < count)
+IsWithinLimits Feed = Unit {0}

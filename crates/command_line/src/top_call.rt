@@ -6,18 +6,24 @@ ghost use Rattle.stream_commands.specs.declared.status.Status.{Status as Answer}
 ghost use Rattle.stream_commands.specs.Statuses.{status_code};
 ghost use Rattle.ledger_commands.specs.Auditing.{AuditRow};
 ghost use Rattle.ledger_commands.specs.Migrating.{MigrateRow};
+ghost use Rattle.feed_command.specs.Row.{FeedRow};
+ghost use Rattle.mine_command.specs.Row.{MineRow};
 ghost use Rattle.serve_command.specs.Row.{ServeRow};
 ghost use Rattle.pool_io.specs.Hosts.{IsHandedBack};
 ghost use Rattle.solo_command.specs.Row.{SoloRow};
 ghost use Rattle.command_line.specs.declared.words.Form.{Form as Asked};
-ghost use Rattle.command_line.specs.Forms.{HasNoForm, IsAudit, IsForm, IsMigrate, IsServe, IsSolo};
+ghost use Rattle.command_line.specs.Forms.{AskAtAddress, HasNoForm, IsAudit, IsFeed, IsForm, IsMigrate, IsMine, IsServe, IsSolo};
 ghost use Rattle.command_line.specs.Running.{DoesForm, IsAlone, IsWithinLimits, OwesRow};
 
-use crate::words::{Form, Word, audit_name, form_of, migrate_names, serve_names, solo_names};
+use crate::words::{
+    Form, Word, audit_name, feed_names, form_of, migrate_names, serve_names, solo_names,
+};
+use feed_command::feed;
 use fixed_command::judge_shares;
 use frames_command::list_frames;
 use ledger_commands::{audit_ledger, migrate_ledger};
 use load_command::load;
+use mine_command::mine;
 use pool_io::Host;
 use pool_network::{Door, Network};
 use std::alloc::Global;
@@ -55,14 +61,14 @@ where
         (record { host = H.seen host.new; network = N.seen network.new }) result) }
 
     // Whatever the words: there are no other statuses, and everything that the host and the network
-    // gave has come back. Nothing but `serve` asks for anything at an address, and where the words
-    // don't ask for it, 7 is answered exactly where the host's count rose, by one.
+    // gave has come back. Nothing but `serve`, `mine` and `feed` asks for anything at an address, and
+    // where the words are none of theirs, 7 is answered exactly where the host's count rose, by one.
     ensures statuses { (status : Answer) × (result ≡ status_code status) }
     ensures back { IsHandedBack (H.seen host.old) (H.seen host.new) }
     ensures links { (N.seen network.new).links.lent ≡ (N.seen network.old).links.lent }
     ensures doors { (N.seen network.new).doors.lent ≡ (N.seen network.old).doors.lent }
-    ensures alone { (IsServe words.now → ⊥) → N.seen network.new ≡ N.seen network.old }
-    ensures counts { (IsServe words.now → ⊥) → CountsFailure (result == 7)
+    ensures alone { (AskAtAddress words.now → ⊥) → N.seen network.new ≡ N.seen network.old }
+    ensures counts { (AskAtAddress words.now → ⊥) → CountsFailure (result == 7)
         (H.seen host.old).streams.faults (H.seen host.new).streams.faults }
 {
     match form_of(words) {
@@ -104,6 +110,8 @@ where
         Form::Audit => audit_named(alloc, host, words),
         Form::Migrate => migrate_named(alloc, host, words),
         Form::Load { number } => load(alloc, host, number),
+        Form::Mine { class, count } => mine_named(alloc, host, network, words, class, count),
+        Form::Feed => feed_named(alloc, host, network, words),
     }
 }
 
@@ -133,6 +141,59 @@ where
             let settings_name = settings.text();
             let ledger_name = ledger.text();
             serve_command::serve_by_settings(rt, alloc, host, network, settings_name, ledger_name)
+        }
+        None => unreachable!(),
+    }
+}
+
+/// Mines for the user at the address that the words name.
+fn mine_named<H: Host, N: Network>(
+    alloc: Global,
+    host: &mut H,
+    network: &mut N,
+    words: &[Word],
+    class: u8,
+    count: u32,
+) -> Status
+    requires names { IsMine words.now class count }
+    ensures row { (names : IsMine words.now class count) × MineRow names.address
+        (record { user = names.user; class = class; count = count })
+        (record { host = H.seen host.old; network = N.seen network.old })
+        (record { host = H.seen host.new; network = N.seen network.new }) result }
+    ensures back { IsHandedBack (H.seen host.old) (H.seen host.new) }
+    ensures links { (N.seen network.new).links.lent ≡ (N.seen network.old).links.lent }
+    ensures doors { (N.seen network.new).doors.lent ≡ (N.seen network.old).doors.lent }
+{
+    match words {
+        [_, address, user, _, _] => {
+            let address_text = address.text();
+            let user_text = user.text();
+            mine(alloc, host, network, address_text, user_text, class, count)
+        }
+        _ => unreachable!(),
+    }
+}
+
+/// Gives the script that the words name to the first who calls at their address.
+fn feed_named<H: Host, N: Network>(
+    alloc: Global,
+    host: &mut H,
+    network: &mut N,
+    words: &[Word],
+) -> Status
+    requires names { IsFeed words.now }
+    ensures row { (names : IsFeed words.now) × FeedRow names.script names.address
+        (record { host = H.seen host.old; network = N.seen network.old })
+        (record { host = H.seen host.new; network = N.seen network.new }) result }
+    ensures back { IsHandedBack (H.seen host.old) (H.seen host.new) }
+    ensures links { (N.seen network.new).links.lent ≡ (N.seen network.old).links.lent }
+    ensures doors { (N.seen network.new).doors.lent ≡ (N.seen network.old).doors.lent }
+{
+    match feed_names(words) {
+        Some((script, address)) => {
+            let script_name = script.text();
+            let address_text = address.text();
+            feed(alloc, host, network, script_name, address_text)
         }
         None => unreachable!(),
     }

@@ -1,11 +1,11 @@
 //! The words of a command line, and the forms that they may have.
 
-ghost use Rattle.std.specs.Prelude.{◌≡◌, ◌↔◌, ◌<◌, ◌^◌, ℕ, List, string_bytes, length, IsTrue};
+ghost use Rattle.std.specs.Prelude.{◌≡◌, ◌↔◌, ◌<◌, ◌≤◌, ◌^◌, ℕ, List, string_bytes, length, IsTrue};
 ghost use Rattle.std.specs.Prelude.{IfSome, IfNone, Ok, [], ◌∷◌, codes};
 ghost use Rattle.hex.specs.Hex.{decode_sized};
 ghost use Rattle.command_line.specs.Numbers.{IsNumber};
 ghost use Rattle.fixed_command.specs.declared.judge.Job.{Job as Work};
-ghost use Rattle.command_line.specs.Forms.{IsAudit, IsForm, IsFrames, IsJob, IsLoad, IsMigrate, IsServe, IsSolo, IsSoloFixed};
+ghost use Rattle.command_line.specs.Forms.{IsAudit, IsFeed, IsForm, IsFrames, IsJob, IsLoad, IsMigrate, IsMine, IsServe, IsSolo, IsSoloFixed};
 
 use fixed_command::Job;
 use hex::FromHex;
@@ -62,6 +62,10 @@ pub enum Form {
     Migrate,
     /// `load NUMBER`
     Load { number: u64 },
+    /// `mine ADDRESS USER CLASS COUNT`
+    Mine { class: u8, count: u32 },
+    /// `feed SCRIPT ADDRESS`
+    Feed,
 }
 
 /// The form that the words have, if they have one.
@@ -86,6 +90,12 @@ pub fn form_of(words: &[Word]) -> Option<Form>
     }
     if let Some(number) = load_number(words) {
         return Some(Form::Load { number });
+    }
+    if feed_names(words).is_some() {
+        return Some(Form::Feed);
+    }
+    if let Some((class, count)) = mine_numbers(words) {
+        return Some(Form::Mine { class, count });
     }
     solo_fixed_form(words)
 }
@@ -127,6 +137,15 @@ pub fn migrate_names(words: &[Word]) -> Option<(&Word, &Word)>
     names_behind(words, "migrate")
 }
 
+/// The words behind `feed`, where there are two: the name of the script, and the address.
+pub fn feed_names(words: &[Word]) -> Option<(&Word, &Word)>
+    ensures found { IfSome result (λ names. words.now
+        ≡ codes "feed" ∷ names.0.now ∷ names.1.now ∷ []) }
+    ensures none { IfNone result (IsFeed words.now → ⊥) }
+{
+    names_behind(words, "feed")
+}
+
 /// The two words behind this one, where there are just two.
 fn names_behind<'a>(words: &'a [Word], command: &str) -> Option<(&'a Word, &'a Word)>
     ensures found { IfSome result (λ names. words.now
@@ -160,6 +179,38 @@ fn load_number(words: &[Word]) -> Option<u64>
         [load, digits] if load.says("load") => number(digits.text()),
         _ => None,
     }
+}
+
+/// The class and the count of `mine ADDRESS USER CLASS COUNT`, if the words are of that form.
+fn mine_numbers(words: &[Word]) -> Option<(u8, u32)>
+    ensures found { IfSome result (λ numbers. IsMine words.now numbers.0 numbers.1) }
+    ensures none { IfNone result ((class count : ℕ) → IsMine words.now class count → ⊥) }
+{
+    let [mine, _, user, class, count] = words else {
+        return None;
+    };
+    if !mine.says("mine") || !is_user(user) {
+        return None;
+    }
+    let class = number_within(class, 0, 24)?;
+    let count = number_within(count, 1, 1_000_000)?;
+    Some((class as u8, count as u32))
+}
+
+/// Whether a word can be a miner's user: 1 to 255 bytes.
+fn is_user(word: &Word) -> bool
+    ensures { IsTrue result ↔ ((0 < length word.now) × (length word.now ≤ 255)) }
+{
+    let text = word.text();
+    !text.is_empty() && text.len() <= 255
+}
+
+/// A number from the one to the other.
+fn number_within(word: &Word, least: u64, most: u64) -> Option<u64>
+    ensures found { IfSome result (λ n. IsNumber word.now n × (least ≤ n) × (n ≤ most)) }
+    ensures none { IfNone result ((n : ℕ) → IsNumber word.now n → least ≤ n → n ≤ most → ⊥) }
+{
+    number(word.text()).filter(|n| least <= *n && *n <= most)
 }
 
 /// The form `solo fixed CLASS JOBHEX`, if the words have it.

@@ -1,4 +1,4 @@
-use Rattle.command_line.proofs.OneForm.{one_form}
+use Rattle.command_line.proofs.OneForm.{alone, one_form}
 use Rattle.command_line.proofs.top_call.run.Goals as goal
 
 pub returns-in-Some-clause-does : goal.returns-in-Some-clause-does
@@ -7,3 +7,10 @@ returns-in-Some-clause-does g c = λ form is. record {
   told_as = c.code-in-Some.ensures;
   owed = rw (one_form c.args.words.now form c.in-Some.form is c.in-Some.ensures.found) c.perform.ensures.row;
 }
+
+pub returns-in-Some-clause-alone : goal.returns-in-Some-clause-alone
+returns-in-Some-clause-alone g c = λ none. c.perform.ensures.alone (alone c.args.words.now c.in-Some.form c.in-Some.ensures.found none)
+
+pub returns-in-Some-clause-counts : goal.returns-in-Some-clause-counts
+returns-in-Some-clause-counts g c = λ none.
+    rw c.code-in-Some.ensures (c.perform.ensures.counts (alone c.args.words.now c.in-Some.form c.in-Some.ensures.found none))

@@ -1,0 +1,5 @@
+pub mod Callers
+pub mod Feeding
+pub mod Opened
+pub mod Row
+pub mod Serving
