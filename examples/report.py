@@ -20,13 +20,16 @@ import importlib.util
 import json
 import os
 import sys
+import time
 
 HERE = os.path.dirname(os.path.abspath(__file__))
 PAGE = os.path.join(HERE, "report")
-# A chart has so many columns, and so many accounts of their own beside the others.
+# A chart has so many columns, and so many accounts of their own beside the others; a block names so many
+# of those that it pays.
 COLUMNS = 60
 BLOCK_COLUMNS = 120
 SHOWN_ACCOUNTS = 8
+SHOWN_PAYOUTS = 12
 
 
 def module_of(name):
@@ -331,9 +334,44 @@ class Axis:
         return place * columns // (self.last - self.first + 1)
 
     def words(self):
-        if not self.by_time:
-            return f"event {self.first}", f"event {self.last}"
-        return tuple(f'<time data-at="{at}">{at}</time>' for at in (self.first, self.last))
+        """Its two ends, or its one."""
+        ends = dict.fromkeys((self.first, self.last))
+        return [time_words(end) if self.by_time else f"event {end}" for end in ends]
+
+    def order(self):
+        """What it is in the order of."""
+        return "the times of their headers, UTC" if self.by_time else "their events' numbers"
+
+
+class Column:
+    """What a chart has at one place: heights by their colours, and the events that they come from."""
+
+    def __init__(self):
+        self.heights = {}
+        self.count = 0
+        self.first = self.last = 0
+
+    def add(self, number, heights):
+        for colour, height in heights.items():
+            self.heights[colour] = self.heights.get(colour, 0) + height
+        self.first = self.first if self.count else number
+        self.last = number
+        self.count += 1
+
+    def whole(self):
+        return sum(self.heights.values())
+
+    def words(self, names):
+        """What it is made of, by the names of the colours."""
+        events = f"event {self.first}"
+        if self.count > 1:
+            events = f"{self.count:,} events from {self.first} to {self.last}"
+        parts = (f"{names[colour]} {height:,}" for colour, height in sorted(self.heights.items()))
+        return f"{events}: {', '.join(parts)}"
+
+
+def time_words(at):
+    return time.strftime("%Y-%m-%d %H:%M:%S", time.gmtime(at))
 
 
 def escaped(text):
@@ -350,7 +388,7 @@ def link(number):
 
 
 def name_words(name):
-    return escaped(name) if name else "<i>no account yet</i>"
+    return f'<span class="name">{escaped(name)}</span>' if name else "<i>no account yet</i>"
 
 
 def bar(part, whole, colour):
@@ -358,32 +396,35 @@ def bar(part, whole, colour):
     return f'<span class="bar"><span class="c{colour}" style="width:{width:.3f}%"></span></span>'
 
 
-def columns_chart(columns, label):
-    """Stacked columns: each a list of (colour, height)."""
-    highest = max((sum(height for _, height in column) for column in columns), default=0) or 1
+def chart(columns, axis, what, names):
+    """Stacked columns from left to right, each of which tells what it is made of, between what they show
+    and the ends of their axis, and the key of their colours."""
+    highest = max(column.whole() for column in columns)
+    words = f"{what}, in the order of {axis.order()}. The highest column has {number_words(highest)}."
     marks = []
     for place, column in enumerate(columns):
+        if column.count == 0:
+            continue
+        # The whole height, so that what a low column is made of is told there too.
+        rects = [f'<rect class="room" x="{place}" y="0" width="1" height="100"/>']
         top = 100.0
-        for colour, height in column:
-            part = 100 * height / highest
+        for colour, height in sorted(column.heights.items()):
+            part = 100 * height / (highest or 1)
             top -= part
-            marks.append(
+            rects.append(
                 f'<rect class="c{colour}" x="{place}" y="{top:.3f}" width=".86" height="{part:.3f}"/>'
             )
+        marks.append(f"<g><title>{escaped(column.words(names))}</title>{''.join(rects)}</g>")
     return (
-        f'<svg role="img" aria-label="{escaped(label)}" viewBox="0 0 {len(columns)} 100" '
+        f'<p>{words}</p><svg role="img" aria-label="{what}" viewBox="0 0 {len(columns)} 100" '
         f'preserveAspectRatio="none">{"".join(marks)}</svg>'
+        f'<p class="ends">{"".join(f"<span>{end}</span>" for end in axis.words())}</p>{key_of(names)}'
     )
 
 
-def ends_of(axis):
-    first, last = axis.words()
-    return f'<p class="ends"><span>{first}</span><span>{last}</span></p>'
-
-
-def key_of(words):
+def key_of(names):
     return '<p class="key">' + " ".join(
-        f'<span><i class="c{colour}"></i>{word}</span>' for colour, word in words
+        f'<span><i class="c{colour}"></i>{escaped(name)}</span>' for colour, name in names.items()
     ) + "</p>"
 
 
@@ -436,47 +477,53 @@ def accounts_part(history):
     return "<p>In the order of their first credits.</p>" + table("accounts", heads, rows)
 
 
+def payouts_words(block):
+    """The sum of a block's payouts, and behind it whom they are for, the largest first."""
+    count = len(block.payouts)
+    whole = f"{number_words(block.paid())} to {number_words(count)} account{'s' if count > 1 else ''}"
+    rows = sorted(block.payouts.items(), key=lambda payout: -payout[1])
+    lines = [f"{name_words(name)} {number_words(payout)}" for name, payout in rows[:SHOWN_PAYOUTS]]
+    others = [payout for _, payout in rows[SHOWN_PAYOUTS:]]
+    if others:
+        lines.append(f"{number_words(len(others))} others {number_words(sum(others))}")
+    return f"<details><summary>{whole}</summary>{'<br>'.join(lines)}</details>"
+
+
 def blocks_part(history):
     axis = Axis(history.credits)
-    columns = [[0, 0] for _ in range(BLOCK_COLUMNS)]
+    names = {1: "payouts", 2: "the pool's part"}
+    columns = [Column() for _ in range(BLOCK_COLUMNS)]
     for block in history.blocks:
-        column = columns[axis.column(block.credit, BLOCK_COLUMNS)]
-        column[0] += block.paid()
-        column[1] += block.pool_part()
-    chart = columns_chart(
-        [[(1, paid), (2, pool)] for paid, pool in columns], "rewards of blocks, from left to right"
-    )
+        heights = {1: block.paid(), 2: block.pool_part()}
+        columns[axis.column(block.credit, BLOCK_COLUMNS)].add(block.credit.number, heights)
     rows = [
         [
-            link(block.credit.number), f'<time data-at="{block.credit.time}"></time>',
+            link(block.credit.number), time_words(block.credit.time),
             name_words(block.credit.account), number_words(block.reward),
-            number_words(block.paid()), str(len(block.payouts)), number_words(block.pool_part()),
+            payouts_words(block), number_words(block.pool_part()),
         ]
         for block in history.blocks
     ]
-    heads = ("event", "time of its header", "found by", "reward", "payouts", "to accounts", "pool")
-    key = key_of([(1, "payouts"), (2, "the pool's part")])
-    return chart + ends_of(axis) + key + table("blocks", heads, rows)
+    if not rows:
+        return "<p>There are none.</p>"
+    heads = ("event", "time of its header, UTC", "found by", "reward", "payouts", "pool's part")
+    return chart(columns, axis, "Rewards in satoshis", names) + table("blocks", heads, rows)
 
 
 def credits_part(history):
+    if not history.credits:
+        return "<p>There are none.</p>"
     axis = Axis(history.credits)
     by_work = sorted(history.accounts, key=lambda name: -history.accounts[name].work)
-    shown = by_work[:SHOWN_ACCOUNTS]
-    colours = {name: place for place, name in enumerate(shown)}
-    columns = [[0] * (SHOWN_ACCOUNTS + 1) for _ in range(COLUMNS)]
+    names = dict(enumerate(by_work[:SHOWN_ACCOUNTS]))
+    colours = {name: colour for colour, name in names.items()}
+    if len(by_work) > SHOWN_ACCOUNTS:
+        names[SHOWN_ACCOUNTS] = f"{number_words(len(by_work) - SHOWN_ACCOUNTS)} others"
+    columns = [Column() for _ in range(COLUMNS)]
     for credit in history.credits:
         colour = colours.get(credit.account, SHOWN_ACCOUNTS)
-        columns[axis.column(credit, COLUMNS)][colour] += credit.work
-    chart = columns_chart(
-        [[(colour, work) for colour, work in enumerate(column) if work] for column in columns],
-        "work of credits by account, from left to right",
-    )
-    words = [(colour, name_words(name)) for name, colour in colours.items()]
-    if len(by_work) > SHOWN_ACCOUNTS:
-        words.append((SHOWN_ACCOUNTS, f"{len(by_work) - SHOWN_ACCOUNTS} other accounts"))
-    by = "the times of their headers" if axis.by_time else "their events' numbers"
-    return f"<p>The work of credits, by {by}.</p>" + chart + ends_of(axis) + key_of(words)
+        columns[axis.column(credit, COLUMNS)].add(credit.number, {colour: credit.work})
+    return chart(columns, axis, "Work by account", names)
 
 
 def sessions_part(history):
@@ -549,7 +596,8 @@ def main():
     except OSError as error:
         print(error, file=sys.stderr)
         return 1
-    print(page_of(os.path.basename(sys.argv[1]), history, content))
+    page = page_of(os.path.basename(sys.argv[1]), history, content)
+    sys.stdout.buffer.write(page.encode("utf-8"))
     return 0
 
 

@@ -76,6 +76,7 @@ class Sheets {
   constructor(box, count, cellsOf) {
     this.body = box.querySelector("tbody");
     this.turn = box.querySelector(".turn");
+    this.heads = Array.from(box.querySelectorAll("th"), (head) => head.textContent);
     this.count = count;
     this.cellsOf = cellsOf;
     this.show(0);
@@ -90,8 +91,9 @@ class Sheets {
       const line = this.body.insertRow();
       if (i === sought) line.className = "sought";
       this.cellsOf(i, line);
+      // On a narrow page a row is no line, and each of its cells has its own head.
+      Array.from(line.cells).forEach((cell, at) => { cell.dataset.head = this.heads[at]; });
     }
-    tellTimes(this.body);
     this.showTurn(last);
   }
 
@@ -106,14 +108,6 @@ class Sheets {
       this.turn.append(button);
     }
     this.turn.append(`sheet ${words(this.sheet + 1)} of ${words(last + 1)}, ${words(this.count)} rows`);
-  }
-}
-
-function tellTimes(part) {
-  for (const time of part.querySelectorAll("time[data-at]")) {
-    const at = new Date(1000 * Number(time.dataset.at));
-    time.dateTime = at.toISOString();
-    time.textContent = at.toISOString().replace("T", " ").slice(0, 19);
   }
 }
 
@@ -135,19 +129,21 @@ function fillEvents(box) {
 }
 
 document.querySelectorAll(".sheets script").forEach((rows) => fill(rows.parentElement));
-tellTimes(document);
 const events = fillEvents(document.getElementById("events"));
 
 function seek() {
   const found = /^#event-(\d+)$/.exec(location.hash);
-  if (!found) return;
-  events.show(Number(found[1]), Number(found[1]));
-  document.getElementById("events").scrollIntoView();
+  const event = found ? Number(found[1]) : places.length;
+  if (event >= places.length) return;
+  events.show(event, event);
+  events.body.querySelector(".sought").scrollIntoView({ block: "center" });
 }
 addEventListener("hashchange", seek);
-document.getElementById("seek").onsubmit = (asked) => {
+const asking = document.getElementById("seek");
+asking.number.max = places.length - 1;
+asking.onsubmit = (asked) => {
   asked.preventDefault();
-  location.hash = `event-${Number(asked.target.number.value)}`;
+  location.hash = `event-${Number(asking.number.value)}`;
   seek();
 };
 
@@ -170,7 +166,7 @@ function check(from) {
     return setTimeout(check, 0, to);
   }
   status.className = "holds";
-  status.textContent = `Each of the ${words(places.length)} hashes is that of what stands before it, as this page's script computed from the records below.`;
+  status.textContent = `The chain of hashes holds: this page's script computed each of them from the records below, ${words(places.length)} in all.`;
 }
 if (chained) check(0);
 else status.textContent = "This ledger is of format 1, which has no hashes.";
