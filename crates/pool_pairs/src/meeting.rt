@@ -1,0 +1,201 @@
+//! A feed, a pool and two miners, all in one process.
+
+ghost use Rattle.std.specs.Prelude.{◌≤◌, ◌<◌, ◌-◌, ◌^◌, length, vec_len};
+
+use crate::counted_link::CountedLink;
+use crate::pair_link::{PairLink, pair};
+use anyhow::{Context, Result};
+use link_turns::{TalkEnd, talk};
+use pool_core::SessionEnd;
+use pool_io::{Keeper, Limits, SureKeeper};
+use pool_network::{Arrival, Door, MemDoor};
+use pool_server::{Served, serve};
+use share_ledger::Book;
+use std::alloc::Global;
+use std::collections::VecDeque;
+use std::sync::Wait;
+use std::thread::Threads;
+use std::{str, thread};
+use sv2_types::Str255;
+use test_miner::{Feed, FeedEnd, Miner, MinerEnd, MinerTask, Script};
+use trial_support::example_rules;
+
+/// How many turns in a row may bring nothing: so many that only who is waited for in vain gets there.
+const IDLE_TURNS: u64 = 10_000_000;
+
+/// What the pool says to its feed: its setup, its constraints, and six solutions.
+const FEED_BYTES: usize = 22 + 12 + 6 * 103;
+
+/// Each miner's class.
+const CLASS: u8 = 8;
+
+/// How many credits each miner wants.
+const COUNT: u32 = 3;
+
+/// What the three at the pool's links came to: how many of the feed's solutions were valid, where all
+/// were and it ended as its input did, and how many credits each miner had where it has mined.
+type Partners = (Option<usize>, (Option<u32>, Option<u32>));
+
+/// Lets them meet, and tells in lines what came of it.
+pub(crate) fn meet<R: Threads + Wait + Sync + Send + Copy + Drop>(
+    rt: &R,
+    alloc: Global,
+    script: &[u8],
+) -> Result<String> {
+    let (feed, pool_feed) = pair(*rt, alloc)?;
+    let (one, pool_one) = pair(*rt, alloc)?;
+    let (other, pool_other) = pair(*rt, alloc)?;
+    let door = door_to(alloc, pool_one)?;
+    let other_door = door_to(alloc, pool_other)?;
+    let (partners, pool) = thread::join(
+        rt,
+        move || run_partners(rt, alloc, script, feed, one, other),
+        move || run_pool(rt, alloc, door, other_door, pool_feed),
+    );
+    let pool = pool.context("no memory for the pool")?;
+    let (feed, (one, other)) = partners;
+    let said = format!(in alloc; "feed {feed:?}\nminer {one:?}\nminer {other:?}\n{pool}")?;
+    Ok(said)
+}
+
+/// A door at which this one calls.
+fn door_to<R: Wait + Drop>(alloc: Global, link: PairLink<R>) -> Result<MemDoor<PairLink<R>>> {
+    let mut coming = VecDeque::new(alloc);
+    coming.push_back(Arrival::Caller(link))?;
+    Ok(MemDoor::new(alloc, coming, Vec::new(alloc)))
+}
+
+/// A feed and two miners, each in a thread of its own.
+fn run_partners<R: Threads + Wait + Sync + Send + Copy + Drop>(
+    rt: &R,
+    alloc: Global,
+    script: &[u8],
+    feed: PairLink<R>,
+    one: PairLink<R>,
+    other: PairLink<R>,
+) -> Partners {
+    thread::join(
+        rt,
+        move || run_feed(alloc, script, feed),
+        move || run_miners(rt, alloc, one, other),
+    )
+}
+
+fn run_miners<R: Threads + Wait + Sync + Send + Copy + Drop>(
+    rt: &R,
+    alloc: Global,
+    one: PairLink<R>,
+    other: PairLink<R>,
+) -> (Option<u32>, Option<u32>) {
+    thread::join(
+        rt,
+        move || run_miner(alloc, "a", one),
+        move || run_miner(alloc, "b", other),
+    )
+}
+
+/// How many credits a miner had, where it has mined.
+fn run_miner<R: Wait + Drop>(alloc: Global, user: &str, mut link: PairLink<R>) -> Option<u32>
+    requires { length user.now ≤ 255 }
+{
+    let user = Str255::of(alloc, user).ok()?;
+    let task = MinerTask {
+        user,
+        class: CLASS,
+        count: COUNT,
+    };
+    let mut miner = Miner::new(alloc, task).ok()?;
+    let end = talk(alloc, &mut link, &mut miner, IDLE_TURNS);
+    link.leave();
+    match end {
+        TalkEnd::Ended(MinerEnd::Mined(count)) => Some(count),
+        _ => None,
+    }
+}
+
+/// How many solutions a feed has heard, where all of them were valid and its input ended well.
+fn run_feed<R: Wait + Drop>(alloc: Global, script: &[u8], link: PairLink<R>) -> Option<usize> {
+    let script = Script::read(alloc, script).ok()?;
+    let mut feed = Feed::new(alloc, script).ok()?;
+    let mut counted = CountedLink {
+        link,
+        left: FEED_BYTES,
+    };
+    let end = talk(alloc, &mut counted, &mut feed, IDLE_TURNS);
+    let CountedLink { link, left: _ } = counted;
+    link.leave();
+    let verdicts = feed.ear.course.verdicts();
+    match end {
+        TalkEnd::Ended(FeedEnd::Done) if verdicts.iter().all(|verdict| verdict.is_valid) => {
+            Some(verdicts.len())
+        }
+        _ => None,
+    }
+}
+
+/// What the pool tells once all have left.
+fn run_pool<R: Threads + Wait + Sync + Send + Copy + Drop>(
+    rt: &R,
+    alloc: Global,
+    one: MemDoor<PairLink<R>>,
+    other: MemDoor<PairLink<R>>,
+    feed: PairLink<R>,
+) -> Option<String> {
+    let doors = Vec::from_array(alloc, [one, other]).ok()?;
+    let rules = example_rules(alloc, true, 1000).ok()?;
+    match Book::new(alloc, rules, SureKeeper::new(alloc)) {
+        Ok(book) => serve_all(rt, alloc, book, doors, feed),
+        Err((_keeper, _error)) => None,
+    }
+}
+
+/// The same on this book: how the feed's session ended, the counts of failures, and the summary.
+fn serve_all<R, K: Keeper + Send + Drop, D: Door + Send + Drop>(
+    rt: &R,
+    alloc: Global,
+    book: Book<K>,
+    doors: Vec<D>,
+    feed: D::L,
+) -> Option<String>
+where
+    R: Threads + Wait + Sync,
+    D::L: Send + Drop,
+    requires few { vec_len doors < 2 ^ 32 - 1 }
+{
+    let limits = Limits {
+        idle_turns: IDLE_TURNS,
+        door_turns: 1,
+    };
+    match serve(rt, alloc, book, doors, feed, true, limits) {
+        Served::Ran {
+            book,
+            doors: _,
+            feed: _,
+            feed_end,
+            ledger_faults,
+            door_faults,
+            door_memory,
+        } => {
+            let summed = summary(alloc, &book);
+            let (_keeper, _history) = book.into_parts();
+            let faults = (ledger_faults, door_faults, door_memory);
+            tell(alloc, feed_end, faults, summed?.as_str())
+        }
+        Served::Memory(book, _doors, _feed) => {
+            let (_keeper, _history) = book.into_parts();
+            None
+        }
+    }
+}
+
+fn tell(alloc: Global, end: SessionEnd, faults: (u64, u64, u64), summed: &str) -> Option<String> {
+    format!(in alloc; "session {end:?} faults {faults:?}\n{summed}").ok()
+}
+
+/// A book's summary.
+fn summary<K: Keeper>(alloc: Global, book: &Book<K>) -> Option<String> {
+    let mut lines = Vec::new(alloc);
+    book.summary(&mut lines).ok()?;
+    let lines = str::from_utf8(lines.as_slice()).ok()?;
+    String::from_str(alloc, lines).ok()
+}
