@@ -1,0 +1,4 @@
+pub mod Extranonces
+pub mod Firsts
+pub mod Fitting
+pub mod Names

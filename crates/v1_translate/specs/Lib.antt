@@ -1,0 +1,6 @@
+pub mod Asked
+pub mod Codes
+pub mod Messages
+pub mod Saying
+pub mod Shares
+pub mod Small

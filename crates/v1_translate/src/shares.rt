@@ -1,0 +1,112 @@
+//! Submissions that are sent on, and why others aren't.
+
+ghost use Rattle.std.specs.Prelude.{◌≡◌, ◌++◌, IfOk, option_map};
+ghost use Rattle.v1_rules.specs.Submitting as submitting;
+ghost use Rattle.v1_translate.specs.Saying.{line_of};
+ghost use Rattle.v1_translate.specs.Shares.{why_by};
+
+use crate::ids::LineId;
+use crate::sayings::{say_code, say_refusal};
+use channels::account_in;
+use std::alloc::{AllocError, Global};
+use std::marker::Model;
+use sv2_types::Str255;
+use v1_lines::V1Error;
+use v1_rules::SentShare;
+
+/// A submission that may be sent on.
+#[derive(Drop)]
+pub(crate) struct CheckedShare {
+    pub(crate) channel: u32,
+    pub(crate) sequence: u32,
+    pub(crate) job: u32,
+    pub(crate) nonce: u32,
+    pub(crate) ntime: u32,
+    pub(crate) version: u32,
+    /// At most 32 bytes.
+    pub(crate) extranonce: Vec<u8>,
+}
+
+impl Model for CheckedShare {
+    ghost use Rattle.std.specs.Prelude.{◌≤◌, length};
+    ghost use Rattle.v1_rules.specs.State as state;
+
+    ghost Value = { state.SentShare };
+
+    ghost view = { λ share. record {
+      channel = share.channel;
+      sequence = share.sequence;
+      job = share.job;
+      nonce = share.nonce;
+      ntime = share.ntime;
+      version = share.version;
+      extranonce = share.extranonce.items;
+    } };
+
+    ghost invariant = { λ share. length share.extranonce.items ≤ 32 };
+}
+
+impl CheckedShare {
+    ghost use Rattle.std.specs.Prelude.{◌≡◌};
+    ghost use Rattle.v1_rules.specs.Submitting.{share_of};
+    ghost use Rattle.v1_translate.specs.Small.{IsSmall};
+
+    /// The share itself, which takes no memory.
+    pub(crate) fn as_sent(&self) -> SentShare<'_>
+        ensures same { share_of result ≡ self.now }
+        ensures small { IsSmall self.now }
+    {
+        let CheckedShare {
+            channel,
+            sequence,
+            job,
+            nonce,
+            ntime,
+            version,
+            extranonce,
+        } = self;
+        SentShare {
+            channel: *channel,
+            sequence: *sequence,
+            job: *job,
+            nonce: *nonce,
+            ntime: *ntime,
+            version: *version,
+            extranonce: extranonce.as_slice(),
+        }
+    }
+}
+
+/// Why a submission isn't sent on: an error of Stratum V1, or a code of Stratum V2.
+#[derive(Drop)]
+pub(crate) enum NotSent {
+    ByError(V1Error),
+    ByCode(&'static str),
+}
+
+/// Appends the error that a submission is refused by.
+pub(crate) fn say_not_sent(
+    alloc: Global,
+    id: LineId,
+    why: NotSent,
+    out: &mut Vec<u8>,
+) -> Result<(), AllocError>
+    ensures { IfOk result (λ done. out.new.items
+        ≡ out.old.items ++ line_of (submitting.not_sent id (why_by why))) }
+{
+    match why {
+        NotSent::ByError(error) => say_refusal(alloc, id, error, out),
+        NotSent::ByCode(code) => say_code(alloc, id, code, out),
+    }
+}
+
+/// Whether a channel has an account, and it is the worker's.
+pub(crate) fn works_for(account: Option<&Str255>, worker: &str) -> bool
+    ensures { result ≡ submitting.works_for (option_map (λ account. account.now) account.entry)
+        worker.now }
+{
+    match account {
+        Some(account) => account_in(worker) == account.text(),
+        None => false,
+    }
+}
