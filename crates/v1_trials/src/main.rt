@@ -1,8 +1,9 @@
-//! Tries lines of Stratum V1 on cases from data files: streams in every cut, worked lines, hostile
-//! ones and limits.
+//! Tries Stratum V1 on cases from data files: streams in every cut, worked lines, hostile ones and
+//! limits, and whole sessions.
 #![tactic(auto)]
 
 mod reading;
+mod translating;
 mod writing;
 
 use anyhow::{Result, bail};
@@ -16,11 +17,12 @@ impl Trial for Lines {
         match subject {
             "line_reader" => reading::found(alloc, given),
             "v1_lines" => writing::found(alloc, given),
+            "v1_translate" => translating::found(alloc, given),
             _ => bail!("no subject is named {subject}"),
         }
     }
 }
 
 fn main(rt: HostRuntime) -> Result<()> {
-    try_files::<Lines, HostRuntime>(&rt, &["line_reader", "v1_lines"])
+    try_files::<Lines, HostRuntime>(&rt, &["line_reader", "v1_lines", "v1_translate"])
 }
