@@ -62,6 +62,7 @@ two_ends (end.CutFrame count) well done memory = well
 two_ends (end.TooLong len) well done memory = well
 two_ends end.BadSetup well done memory = well
 two_ends (end.BadMessage kind) well done memory = well
+two_ends end.LineTooLong well done memory = well
 two_ends end.IdleOut well done memory = well
 two_ends end.BytesOut well done memory = well
 two_ends end.PoolFull well done memory = well

@@ -184,7 +184,7 @@ empty_output_bytes script short =
     rw few refl
 
 -- one of the frames of notes
-pub part_of : (f : Note → List ℕ) (notes : List Note) (n : ℕ) (note other : Note) → n < length notes → note ≡ get_or notes n other
+pub part_of : {B : Type 0} (f : Note → B) (notes : List Note) (n : ℕ) (note other : Note) → n < length notes → note ≡ get_or notes n other
     → drop n (map f notes) ≡ f note ∷ map f (drop (suc n) notes)
 part_of f [] n note other within found = absurd (omega arith)
 part_of f (first ∷ notes) zero note other within found = rw found refl

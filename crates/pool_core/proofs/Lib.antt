@@ -1,2 +1,2 @@
-mod Fitting
+pub mod Fitting
 mod Reading

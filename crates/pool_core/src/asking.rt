@@ -201,7 +201,7 @@ fn extended_share(share: &SubmitSharesExtended<'_>) -> Submission
 }
 
 /// The bytes with zeros behind them.
-fn padded(sent: &[u8]) -> [u8; 32]
+pub fn padded(sent: &[u8]) -> [u8; 32]
     requires { length sent.now ≤ 32 }
     ensures { take (length sent.now) result ≡ sent.now }
 {

@@ -10,6 +10,7 @@ mod session;
 mod taking;
 
 pub use answering::put_refusal;
+pub use asking::padded;
 pub use pool_history::Role;
 pub use session::Session;
 pub use session_steps::{About, SessionEnd, SetupCode, Step};

@@ -47,7 +47,8 @@ impl Model for Session {
 }
 
 impl Session {
-    ghost use Rattle.std.specs.Prelude.{◌≡◌, ◌++◌, ◌<◌, ◌^◌, ℕ, true, IfOk, OnOk, OnErr, length};
+    ghost use Rattle.std.specs.Prelude.{◌≡◌, ◌++◌, ◌<◌, ◌^◌, ℕ, true, IfOk, OnOk, OnErr, length, is_some, Some};
+    ghost use Rattle.pool_history.specs.declared.asking.Request.TheVariants as request;
     ghost use Rattle.sv2_messages.specs.Messages.{Message};
     ghost use Rattle.sv2_messages.specs.Tables.{declare_table, mining_table, template_table};
     ghost use Rattle.session_steps.specs.Answers as answers;
@@ -148,6 +149,36 @@ impl Session {
             Role::Feed => put_greeting(out),
             Role::Miner | Role::Solo => Ok(()),
         }
+    }
+
+    /// Sets it up without flags, as a setup without any would, for a miner that sends none. Answers
+    /// what enters it.
+    pub fn set_up_plain(&mut self) -> Request
+        ensures request { result ≡ request.Enter self.old.role 0 }
+        ensures session { self.new ≡ record self.old { flags = Some 0; about = topic.Nothing } }
+    {
+        self.enter(0)
+    }
+
+    /// Whether its setup is done.
+    pub fn is_set_up(&self) -> bool
+        ensures { result ≡ is_some self.now.flags }
+    {
+        self.flags.is_some()
+    }
+
+    /// What its last request was about.
+    pub fn about(&self) -> About
+        ensures { result ≡ self.now.about }
+    {
+        self.about
+    }
+
+    /// Makes a request that no frame asked for, about this.
+    pub fn ask_about(&mut self, about: About)
+        ensures { self.new ≡ record self.old { about = about } }
+    {
+        self.about = about;
     }
 
     fn takes(&self, frame: &Frame<'_>) -> bool
@@ -254,9 +285,17 @@ impl Session {
     fn accept(&mut self, flags: u32) -> Step
         ensures { SetsUp (setups.Accepted flags) self.old result self.new }
     {
+        Step::Ask(self.enter(flags))
+    }
+
+    /// Sets it up with these flags, and asks to enter.
+    fn enter(&mut self, flags: u32) -> Request
+        ensures request { result ≡ request.Enter self.old.role flags }
+        ensures session { self.new ≡ record self.old { flags = Some flags; about = topic.Nothing } }
+    {
         self.flags = Some(flags);
         self.about = About::Nothing;
-        Step::Ask(Request::Enter(self.role, flags))
+        Request::Enter(self.role, flags)
     }
 
     /// Asks, once it is set up.

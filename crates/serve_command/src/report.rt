@@ -21,6 +21,7 @@ fn end_word(end: SessionEnd) -> &'static str
         SessionEnd::TooLong(_) => "too-long",
         SessionEnd::BadSetup => "bad-setup",
         SessionEnd::BadMessage(_) => "bad-message",
+        SessionEnd::LineTooLong => "line-too-long",
         SessionEnd::IdleOut => "idle-out",
         SessionEnd::BytesOut => "bytes-out",
         SessionEnd::PoolFull => "pool-full",

@@ -43,7 +43,7 @@ StageBefore flags (Leaving reason) = ⊥
 StageBefore flags (Over reason) = Unit {0}
 
 -- behind it: nothing asks to enter
-abbrev StageBehind : Stage → Type 0
+abbrev pub StageBehind : Stage → Type 0
 StageBehind (Asking asked) = is_enter asked ≡ false
 StageBehind _ = Unit {0}
 
@@ -70,11 +70,11 @@ module _ (flags : Option ℕ) where
       subst (λ b. StageBefore flags (if b then end_stage false end.IdleOut else Reading)) (sym (eqb-suc-zero n)) none
 
 -- and behind it
-ended_behind : (entered : Bool) (reason : SessionEnd) → StageBehind (end_stage entered reason)
+pub ended_behind : (entered : Bool) (reason : SessionEnd) → StageBehind (end_stage entered reason)
 ended_behind true reason = tt
 ended_behind false reason = tt
 
-put_behind : (failed : Option SinkFailed) (entered : Bool) (stage : Stage) → StageBehind stage → StageBehind (put_stage failed entered stage)
+pub put_behind : (failed : Option SinkFailed) (entered : Bool) (stage : Stage) → StageBehind stage → StageBehind (put_stage failed entered stage)
 put_behind None entered stage behind = behind
 put_behind (Some sink.Failed) entered stage behind = ended_behind entered end.WriteFault
 put_behind (Some sink.Memory) entered stage behind = ended_behind entered end.Memory
@@ -84,7 +84,7 @@ next_behind entered zero = ended_behind entered end.IdleOut
 next_behind entered (suc n) =
     subst (λ b. StageBehind (if b then end_stage entered end.IdleOut else Reading)) (sym (eqb-suc-zero n)) tt
 
-news_behind : (entered : Bool) (idles : ℕ) → StageBehind (news_stage entered idles)
+pub news_behind : (entered : Bool) (idles : ℕ) → StageBehind (news_stage entered idles)
 news_behind true idles = tt
 news_behind false idles = next_behind false idles
 
@@ -102,11 +102,11 @@ answered_behind about entered idles (reply.Brief brief) = briefed_behind about b
 answered_behind about entered idles _ = news_behind entered idles
 
 -- what a call leaves
-record StaysBehind (old new : State) : Type 0 where
-  flags : new.talk.flags ≡ old.talk.flags
-  stage : StageBehind new.stage
+pub record StaysBehind (old new : State) : Type 0 where
+  pub flags : new.talk.flags ≡ old.talk.flags
+  pub stage : StageBehind new.stage
 
-asking_behind : (s : State) (front : ℕ) (outcome : Outcome Reply BookError) (put : Put) → StaysBehind s (after_asking s front outcome put)
+pub asking_behind : (s : State) (front : ℕ) (outcome : Outcome Reply BookError) (put : Put) → StaysBehind s (after_asking s front outcome put)
 asking_behind s front (Faulted cause) put = record { flags = refl; stage = ended_behind s.entered (fault_end cause) }
 asking_behind s front (Replied answer) put =
     let h = hears s front answer in
@@ -115,12 +115,12 @@ asking_behind s front (Replied answer) put =
       stage = put_behind put.fault h.entered (answered_stage h.talk.about h.entered h.idles answer) (answered_behind h.talk.about h.entered h.idles answer);
     }
 
-booking_behind : (s : State) (outcome : Outcome Reply BookError) (put : Put) → StaysBehind s (after_booking s outcome put)
+pub booking_behind : (s : State) (outcome : Outcome Reply BookError) (put : Put) → StaysBehind s (after_booking s outcome put)
 booking_behind s (Faulted cause) put = record { flags = refl; stage = ended_behind s.entered (fault_end cause) }
 booking_behind s (Replied answer) put =
     record { flags = refl; stage = put_behind put.fault s.entered (news_stage s.entered s.idles) (news_behind s.entered s.idles) }
 
-told_behind : (s : State) (outcome : Outcome Reply BookError) (put : Put) → StaysBehind s (after_news s outcome put)
+pub told_behind : (s : State) (outcome : Outcome Reply BookError) (put : Put) → StaysBehind s (after_news s outcome put)
 told_behind s (Faulted cause) put = record { flags = refl; stage = ended_behind s.entered (fault_end cause) }
 told_behind s (Replied answer) put =
     record { flags = refl; stage = put_behind put.fault s.entered (next_stage s.entered s.idles) (next_behind s.entered s.idles) }
@@ -147,7 +147,7 @@ asks_first flags Reading s call put can before = absurd can
 asks_first flags (Refusing code refused) s call put can before = absurd can
 asks_first flags (Over reason) s call put can before = absurd can
 
-books_none : (about : About) (brief : Briefing) (asked : Request) → Books about brief asked → is_enter asked ≡ false
+pub books_none : (about : About) (brief : Briefing) (asked : Request) → Books about brief asked → is_enter asked ≡ false
 books_none (topic.Share sub) brief (request.Enter role flags) books = absurd books
 books_none (topic.Share sub) brief (request.Commit checked) books = refl
 books_none (topic.Share sub) brief _ books = refl
@@ -214,7 +214,7 @@ met_behind (Some flags) talk next frame step.BadSetup entered is some meets = ab
 met_behind (Some flags) talk next frame (step.BadMessage kind) entered is some meets =
     record { flags = some_flags next.flags flags (ap (λ t. t.flags) meets.same ∙ is); stage = ended_behind entered (end.BadMessage kind) }
 
-all_more : (calls : List PoolCall) (call : PoolCall) → AllByRecursion (λ later. is_enter later.asked ≡ false) calls → is_enter call.asked ≡ false
+pub all_more : (calls : List PoolCall) (call : PoolCall) → AllByRecursion (λ later. is_enter later.asked ≡ false) calls → is_enter call.asked ≡ false
     → AllByRecursion (λ later. is_enter later.asked ≡ false) (calls ++ call ∷ [])
 all_more [] call all one = (one, tt)
 all_more (c ∷ calls) call all one = (all.0, all_more calls call all.1 one)

@@ -1,5 +1,5 @@
 -- Where a session stands within its limits, and what its ends come from.
-use Rattle.std.proofs.Common.{◌≡◌, ℕ, ◌+◌, ◌-◌, ◌<◌, ◌||◌, Bool, true, false, List, [], ◌∷◌, ◌++◌, Option, None, Some, length, map, refl, sym, ap, subst, ◌∙◌, append_assoc, append-nil, length-append, arith, suc, zero}
+use Rattle.std.proofs.Common.{◌≡◌, ℕ, ◌+◌, ◌-◌, ◌<◌, ◌≤◌, ◌||◌, Bool, true, false, List, [], ◌∷◌, ◌++◌, Option, None, Some, length, map, refl, sym, ap, subst, ◌∙◌, append_assoc, append-nil, length-append, arith, suc, zero}
 use Rattle.std.proofs.Math.Dec.{eqb-suc-zero}
 use Rattle.std.proofs.lemmas.Grind.{flat_map-append}
 use Rattle.std.proofs.lemmas.List.Folds.{list_any-append}
@@ -39,24 +39,24 @@ EndShows bounds done end.WriteFault = has_unwritten done ≡ true
 EndShows bounds done _ = Unit {0}
 
 -- and a stage: before an end, more Idle turns are waited for, but at a Poll
-abbrev StageShows : Bounds → List SessionStep → ℕ → Stage → Type 0
+abbrev pub StageShows : Bounds → List SessionStep → ℕ → Stage → Type 0
 StageShows bounds done idles (Leaving reason) = EndShows bounds done reason
 StageShows bounds done idles (Over reason) = EndShows bounds done reason
 StageShows bounds done idles Polling = Unit {0}
 StageShows bounds done idles _ = 0 < idles
 
 -- where steps led to: what is still waited for and what came are the limits
-record Stands (bounds : Bounds) (done : List SessionStep) (s : State) : Type 0 where
-  turns : s.idle_turns ≡ bounds.idle_turns
-  idles : s.idles + idles_after 0 (turns_in done) ≡ bounds.idle_turns
-  bytes : s.bytes + length (bytes_in (turns_in done)) ≡ bounds.bytes
-  before : IsFreeBefore bounds (turns_in done)
-  stage : StageShows bounds done s.idles s.stage
+pub record Stands (bounds : Bounds) (done : List SessionStep) (s : State) : Type 0 where
+  pub turns : s.idle_turns ≡ bounds.idle_turns
+  pub idles : s.idles + idles_after 0 (turns_in done) ≡ bounds.idle_turns
+  pub bytes : s.bytes + length (bytes_in (turns_in done)) ≡ bounds.bytes
+  pub before : IsFreeBefore bounds (turns_in done)
+  pub stage : StageShows bounds done s.idles s.stage
 
 turns_in-more : (done : List SessionStep) (x : SessionStep) → turns_in (done ++ x ∷ []) ≡ turns_in done ++ turn_in x
 turns_in-more done x = flat_map-append turn_in done (x ∷ []) ∙ ap (λ l. turns_in done ++ l) (append-nil (turn_in x))
 
-turns_quiet : (done : List SessionStep) (x : SessionStep) → turn_in x ≡ [] → turns_in (done ++ x ∷ []) ≡ turns_in done
+pub turns_quiet : (done : List SessionStep) (x : SessionStep) → turn_in x ≡ [] → turns_in (done ++ x ∷ []) ≡ turns_in done
 turns_quiet done x quiet = turns_in-more done x ∙ ap (λ l. turns_in done ++ l) quiet ∙ append-nil (turns_in done)
 
 calls_in-more : (done : List SessionStep) (x : SessionStep) → calls_in (done ++ x ∷ []) ≡ calls_in done ++ call_in x
@@ -66,10 +66,10 @@ or_true : (b : Bool) → (b || true) ≡ true
 or_true true = refl
 or_true false = refl
 
-any_more : {A : Type 0} (p : A → Bool) (xs ys : List A) → list_any p xs ≡ true → list_any p (xs ++ ys) ≡ true
+pub any_more : {A : Type 0} (p : A → Bool) (xs ys : List A) → list_any p xs ≡ true → list_any p (xs ++ ys) ≡ true
 any_more p xs ys some = list_any-append p xs ys ∙ ap (λ b. b || list_any p ys) some
 
-any_last : {A : Type 0} (p : A → Bool) (xs : List A) (y : A) → p y ≡ true → list_any p (xs ++ y ∷ []) ≡ true
+pub any_last : {A : Type 0} (p : A → Bool) (xs : List A) (y : A) → p y ≡ true → list_any p (xs ++ y ∷ []) ≡ true
 any_last p xs y some = list_any-append p xs (y ∷ []) ∙ ap (λ b. list_any p xs || (b || false)) some ∙ or_true (list_any p xs)
 
 -- one step more
@@ -89,41 +89,42 @@ module _ (bounds : Bounds) (done : List SessionStep) (x : SessionStep) where
   shows_more quiet (end.TooLong len) shows = tt
   shows_more quiet end.BadSetup shows = tt
   shows_more quiet (end.BadMessage kind) shows = tt
+  shows_more quiet end.LineTooLong shows = tt
   shows_more quiet end.Memory shows = tt
 
   -- a put that failed, in this step
-  unwritten_now : (put_in x).fault ≡ Some sink.Failed → has_unwritten (done ++ x ∷ []) ≡ true
+  pub unwritten_now : (put_in x).fault ≡ Some sink.Failed → has_unwritten (done ++ x ∷ []) ≡ true
   unwritten_now failed = any_last (λ step. is_unwritten (put_in step).fault) done x (ap is_unwritten failed)
 
 -- the calls, with one more
 module _ (done : List SessionStep) (call : PoolCall) (put : Put) where
-  unkept_now : (cause : BookError) → call.outcome ≡ Faulted cause → blames_keeper cause ≡ true → has_unkept (calls_in (done ++ steps.Called call put ∷ [])) ≡ true
+  pub unkept_now : (cause : BookError) → call.outcome ≡ Faulted cause → blames_keeper cause ≡ true → has_unkept (calls_in (done ++ steps.Called call put ∷ [])) ≡ true
   unkept_now cause is keepers =
       ap has_unkept (calls_in-more done (steps.Called call put))
       ∙ any_last (λ c. has_keeper_failed c.outcome) (calls_in done) call (ap has_keeper_failed is ∙ keepers)
 
-  turned_away_now : (answer : Reply) → call.outcome ≡ Replied answer → is_full answer ≡ true → has_turned_away (calls_in (done ++ steps.Called call put ∷ [])) ≡ true
+  pub turned_away_now : (answer : Reply) → call.outcome ≡ Replied answer → is_full answer ≡ true → has_turned_away (calls_in (done ++ steps.Called call put ∷ [])) ≡ true
   turned_away_now answer is full =
       ap has_turned_away (calls_in-more done (steps.Called call put))
       ∙ any_last (λ c. is_turned_away c.outcome) (calls_in done) call (ap is_turned_away is ∙ full)
 
 -- which stages say what
 module _ (bounds : Bounds) (done : List SessionStep) (idles : ℕ) where
-  ended_shows : (entered : Bool) (reason : SessionEnd) → EndShows bounds done reason → StageShows bounds done idles (end_stage entered reason)
+  pub ended_shows : (entered : Bool) (reason : SessionEnd) → EndShows bounds done reason → StageShows bounds done idles (end_stage entered reason)
   ended_shows true reason shows = shows
   ended_shows false reason shows = shows
 
-  put_shows : (failed : Option SinkFailed) (entered : Bool) (stage : Stage) → (failed ≡ Some sink.Failed → has_unwritten done ≡ true)
+  pub put_shows : (failed : Option SinkFailed) (entered : Bool) (stage : Stage) → (failed ≡ Some sink.Failed → has_unwritten done ≡ true)
       → StageShows bounds done idles stage → StageShows bounds done idles (put_stage failed entered stage)
   put_shows None entered stage unwritten shows = shows
   put_shows (Some sink.Failed) entered stage unwritten shows = ended_shows entered end.WriteFault (unwritten refl)
   put_shows (Some sink.Memory) entered stage unwritten shows = ended_shows entered end.Memory tt
 
-  fault_shows : (cause : BookError) → (blames_keeper cause ≡ true → has_unkept (calls_in done) ≡ true) → EndShows bounds done (fault_end cause)
+  pub fault_shows : (cause : BookError) → (blames_keeper cause ≡ true → has_unkept (calls_in done) ≡ true) → EndShows bounds done (fault_end cause)
   fault_shows fault.KeeperFault unkept = unkept refl
   fault_shows fault.Memory unkept = tt
 
-  input_shows : (unmet : List ℕ) → EndShows bounds done (input_end unmet)
+  pub input_shows : (unmet : List ℕ) → EndShows bounds done (input_end unmet)
   input_shows [] = tt
   input_shows (byte ∷ bytes) = tt
 
@@ -162,10 +163,10 @@ module _ (bounds : Bounds) (done : List SessionStep) (idles : ℕ) (sum : idles 
   answered_shows about entered _ waits full = news_shows bounds done idles entered sum
 
 -- what a call leaves of what is waited for
-record StaysWithin (old new : State) : Type 0 where
-  turns : new.idle_turns ≡ old.idle_turns
-  idles : new.idles ≡ old.idles
-  bytes : new.bytes ≡ old.bytes
+pub record StaysWithin (old new : State) : Type 0 where
+  pub turns : new.idle_turns ≡ old.idle_turns
+  pub idles : new.idles ≡ old.idles
+  pub bytes : new.bytes ≡ old.bytes
 
 within_same : (s : State) → StaysWithin s s
 within_same s = record { turns = refl; idles = refl; bytes = refl }
@@ -182,7 +183,7 @@ news_within : (s : State) (outcome : Outcome Reply BookError) (put : Put) → St
 news_within s (Replied answer) put = record { turns = refl; idles = refl; bytes = refl }
 news_within s (Faulted cause) put = record { turns = refl; idles = refl; bytes = refl }
 
-call_within : (stage : Stage) (s : State) (call : PoolCall) (put : Put) → StaysWithin s (after_call stage s call put)
+pub call_within : (stage : Stage) (s : State) (call : PoolCall) (put : Put) → StaysWithin s (after_call stage s call put)
 call_within (Asking asked) s call put = asking_within s call.front call.outcome put
 call_within (Committing brief) s call put = booking_within s call.outcome put
 call_within Polling s call put = news_within s call.outcome put
@@ -195,7 +196,7 @@ call_within (Over reason) s call put = within_same s
 -- what the stage after a call says
 module _ (bounds : Bounds) (done : List SessionStep) (s : State) (call : PoolCall) (put : Put)
     (sum : s.idles + idles_after 0 (turns_in (done ++ steps.Called call put ∷ [])) ≡ bounds.idle_turns) where
-  asking_shows : (outcome : Outcome Reply BookError) → call.outcome ≡ outcome → 0 < s.idles → StageShows bounds (done ++ steps.Called call put ∷ []) s.idles (after_asking s call.front outcome put).stage
+  pub asking_shows : (outcome : Outcome Reply BookError) → call.outcome ≡ outcome → 0 < s.idles → StageShows bounds (done ++ steps.Called call put ∷ []) s.idles (after_asking s call.front outcome put).stage
   asking_shows (Replied answer) is waits =
       let h = hears s call.front answer in
       put_shows bounds (done ++ steps.Called call put ∷ []) s.idles put.fault h.entered (answered_stage h.talk.about h.entered h.idles answer) (unwritten_now bounds done (steps.Called call put))
@@ -203,27 +204,28 @@ module _ (bounds : Bounds) (done : List SessionStep) (s : State) (call : PoolCal
   asking_shows (Faulted cause) is waits =
       ended_shows bounds (done ++ steps.Called call put ∷ []) s.idles s.entered (fault_end cause) (fault_shows bounds (done ++ steps.Called call put ∷ []) s.idles cause (unkept_now done call put cause is))
 
-  booking_shows : (outcome : Outcome Reply BookError) → call.outcome ≡ outcome → StageShows bounds (done ++ steps.Called call put ∷ []) s.idles (after_booking s outcome put).stage
+  pub booking_shows : (outcome : Outcome Reply BookError) → call.outcome ≡ outcome → StageShows bounds (done ++ steps.Called call put ∷ []) s.idles (after_booking s outcome put).stage
   booking_shows (Replied answer) is =
       put_shows bounds (done ++ steps.Called call put ∷ []) s.idles put.fault s.entered (news_stage s.entered s.idles) (unwritten_now bounds done (steps.Called call put))
       (news_shows bounds (done ++ steps.Called call put ∷ []) s.idles s.entered sum)
   booking_shows (Faulted cause) is =
       ended_shows bounds (done ++ steps.Called call put ∷ []) s.idles s.entered (fault_end cause) (fault_shows bounds (done ++ steps.Called call put ∷ []) s.idles cause (unkept_now done call put cause is))
 
-  told_shows : (outcome : Outcome Reply BookError) → call.outcome ≡ outcome → StageShows bounds (done ++ steps.Called call put ∷ []) s.idles (after_news s outcome put).stage
+  pub told_shows : (outcome : Outcome Reply BookError) → call.outcome ≡ outcome → StageShows bounds (done ++ steps.Called call put ∷ []) s.idles (after_news s outcome put).stage
   told_shows (Replied answer) is =
       put_shows bounds (done ++ steps.Called call put ∷ []) s.idles put.fault s.entered (next_stage s.entered s.idles) (unwritten_now bounds done (steps.Called call put))
       (next_shows bounds (done ++ steps.Called call put ∷ []) s.idles s.entered sum)
   told_shows (Faulted cause) is =
       ended_shows bounds (done ++ steps.Called call put ∷ []) s.idles s.entered (fault_end cause) (fault_shows bounds (done ++ steps.Called call put ∷ []) s.idles cause (unkept_now done call put cause is))
 
-  left_shows : (reason : SessionEnd) (outcome : Outcome Reply BookError) → call.outcome ≡ outcome → EndShows bounds done reason → EndShows bounds (done ++ steps.Called call put ∷ []) (end_after reason outcome)
+  pub left_shows : (reason : SessionEnd) (outcome : Outcome Reply BookError) → call.outcome ≡ outcome → EndShows bounds done reason → EndShows bounds (done ++ steps.Called call put ∷ []) (end_after reason outcome)
   left_shows reason (Replied answer) is shows = shows_more bounds done (steps.Called call put) refl reason shows
   left_shows end.Done (Faulted cause) is shows = fault_shows bounds (done ++ steps.Called call put ∷ []) s.idles cause (unkept_now done call put cause is)
   left_shows (end.CutFrame count) (Faulted cause) is shows = tt
   left_shows (end.TooLong len) (Faulted cause) is shows = tt
   left_shows end.BadSetup (Faulted cause) is shows = tt
   left_shows (end.BadMessage kind) (Faulted cause) is shows = tt
+  left_shows end.LineTooLong (Faulted cause) is shows = tt
   left_shows end.IdleOut (Faulted cause) is shows = shows_more bounds done (steps.Called call put) refl end.IdleOut shows
   left_shows end.BytesOut (Faulted cause) is shows = shows_more bounds done (steps.Called call put) refl end.BytesOut shows
   left_shows end.PoolFull (Faulted cause) is shows = shows_more bounds done (steps.Called call put) refl end.PoolFull shows
@@ -244,7 +246,7 @@ module _ (bounds : Bounds) (done : List SessionStep) (s : State) (call : PoolCal
 
 module _ (bounds : Bounds) (done : List SessionStep) (s : State) (stands : Stands bounds done s) where
   -- a step that takes no turn
-  quiet : (x : SessionStep) (t : State) → turn_in x ≡ [] → StaysWithin s t → StageShows bounds (done ++ x ∷ []) s.idles t.stage → Stands bounds (done ++ x ∷ []) t
+  pub quiet : (x : SessionStep) (t : State) → turn_in x ≡ [] → StaysWithin s t → StageShows bounds (done ++ x ∷ []) s.idles t.stage → Stands bounds (done ++ x ∷ []) t
   quiet x t none same shows =
       let turns_same = turns_quiet done x none in
       record {
@@ -256,10 +258,10 @@ module _ (bounds : Bounds) (done : List SessionStep) (s : State) (stands : Stand
       }
 
   -- the stage alone changes
-  at : (x : SessionStep) (stage : Stage) → turn_in x ≡ [] → StageShows bounds (done ++ x ∷ []) s.idles stage → Stands bounds (done ++ x ∷ []) (steps.at_stage stage s)
+  pub at : (x : SessionStep) (stage : Stage) → turn_in x ≡ [] → StageShows bounds (done ++ x ∷ []) s.idles stage → Stands bounds (done ++ x ∷ []) (steps.at_stage stage s)
   at x stage none shows = quiet x (steps.at_stage stage s) none (record { turns = refl; idles = refl; bytes = refl }) shows
 
-  waits : (stage : Stage) → s.stage ≡ stage → StageShows bounds done s.idles stage
+  pub waits : (stage : Stage) → s.stage ≡ stage → StageShows bounds done s.idles stage
   waits stage is = subst (StageShows bounds done s.idles) is stands.stage
 
   -- no limit was reached where a turn is taken
@@ -269,28 +271,29 @@ module _ (bounds : Bounds) (done : List SessionStep) (s : State) (stands : Stand
     within_limits bounds (turns_in done) (omega (arith, stands.idles)) (omega (arith, stands.bytes)),
   )
 
-  took_stands : 0 < bounds.idle_turns → (bytes : List ℕ) → steps.CanTakeBytes s bytes → Stands bounds (done ++ steps.Took bytes ∷ []) (after_step s (steps.Took bytes))
-  took_stands positive bytes can =
+  pub took_stands : 0 < bounds.idle_turns → (bytes : List ℕ) → s.stage ≡ Reading → 0 < s.bytes → 0 < length bytes → length bytes ≤ s.bytes
+      → Stands bounds (done ++ steps.Took bytes ∷ []) (after_step s (steps.Took bytes))
+  took_stands positive bytes reading room some within =
       let x = steps.Took bytes in
       let ts = turns_in done in
-      let more : 0 < s.idles = waits Reading can.can.waiting.reading in
+      let more : 0 < s.idles = waits Reading reading in
       let turns_are : turns_in (done ++ x ∷ []) ≡ ts ++ map Some bytes = turns_in-more done x in
       let sum : length (bytes_in (ts ++ map Some bytes)) ≡ length (bytes_in ts) + length bytes =
       ap length (bytes_in-more ts bytes) ∙ length-append (bytes_in ts) bytes in
       let shown : 0 < s.idle_turns = subst (λ n. 0 < n) (sym stands.turns) positive in
       record {
         turns = stands.turns;
-        idles = ap (λ l. s.idle_turns + idles_after 0 l) turns_are ∙ omega (arith, idles_after-more ts bytes can.some, stands.turns);
-        bytes = ap (λ l. (s.bytes - length bytes) + length (bytes_in l)) turns_are ∙ omega (arith, sum, can.within, stands.bytes);
-        before = subst (IsFreeBefore bounds) (sym turns_are) (free_bytes bounds ts (free more can.can.some) bytes positive (omega (arith, can.within, stands.bytes)));
-        stage = subst (StageShows bounds (done ++ x ∷ []) s.idle_turns) (sym can.can.waiting.reading) shown;
+        idles = ap (λ l. s.idle_turns + idles_after 0 l) turns_are ∙ omega (arith, idles_after-more ts bytes some, stands.turns);
+        bytes = ap (λ l. (s.bytes - length bytes) + length (bytes_in l)) turns_are ∙ omega (arith, sum, within, stands.bytes);
+        before = subst (IsFreeBefore bounds) (sym turns_are) (free_bytes bounds ts (free more room) bytes positive (omega (arith, within, stands.bytes)));
+        stage = subst (StageShows bounds (done ++ x ∷ []) s.idle_turns) (sym reading) shown;
       }
 
-  idled_stands : steps.CanTake s → Stands bounds (done ++ steps.Idled ∷ []) (after_step s steps.Idled)
-  idled_stands can =
+  pub idled_stands : s.stage ≡ Reading → 0 < s.bytes → Stands bounds (done ++ steps.Idled ∷ []) (after_step s steps.Idled)
+  idled_stands reading room =
       let x = steps.Idled in
       let ts = turns_in done in
-      let more : 0 < s.idles = waits Reading can.waiting.reading in
+      let more : 0 < s.idles = waits Reading reading in
       let turns_are : turns_in (done ++ x ∷ []) ≡ ts ++ None ∷ [] = turns_in-more done x in
       let sum : (s.idles - 1) + idles_after 0 (turns_in (done ++ x ∷ [])) ≡ bounds.idle_turns =
       ap (λ l. (s.idles - 1) + idles_after 0 l) turns_are ∙ omega (arith, idles_after-idle ts, more, stands.idles) in
@@ -298,7 +301,7 @@ module _ (bounds : Bounds) (done : List SessionStep) (s : State) (stands : Stand
         turns = stands.turns;
         idles = sum;
         bytes = ap (λ l. s.bytes + length (bytes_in l)) turns_are ∙ ap (λ l. s.bytes + length l) (bytes_in-idle ts) ∙ stands.bytes;
-        before = subst (IsFreeBefore bounds) (sym turns_are) (free_idle bounds ts (free more can.some));
+        before = subst (IsFreeBefore bounds) (sym turns_are) (free_idle bounds ts (free more room));
         stage = news_shows bounds (done ++ x ∷ []) (s.idles - 1) s.entered sum;
       }
 
@@ -307,7 +310,7 @@ module _ (bounds : Bounds) (done : List SessionStep) (s : State) (stands : Stand
       let x = steps.Greeted put in
       at x (put_stage put.fault s.entered Reading) refl
       (put_shows bounds (done ++ x ∷ []) s.idles put.fault s.entered Reading (unwritten_now bounds done x) (waits Greeting can.0))
-  step_stands worker (steps.Took bytes) positive can = took_stands positive bytes can
+  step_stands worker (steps.Took bytes) positive can = took_stands positive bytes can.can.waiting.reading can.can.some can.some can.within
   step_stands worker (steps.Framed met) positive can =
       let x = steps.Framed met in
       quiet x (after_step s x) refl (record { turns = refl; idles = refl; bytes = refl })
@@ -320,7 +323,7 @@ module _ (bounds : Bounds) (done : List SessionStep) (s : State) (stands : Stand
   step_stands worker (steps.Overran len) positive can =
       let x = steps.Overran len in
       at x (end_stage s.entered (end.TooLong len)) refl (ended_shows bounds (done ++ x ∷ []) s.idles s.entered (end.TooLong len) tt)
-  step_stands worker steps.Idled positive can = idled_stands can
+  step_stands worker steps.Idled positive can = idled_stands can.waiting.reading can.some
   step_stands worker steps.Ended positive can =
       let x = steps.Ended in
       at x (end_stage s.entered (input_end s.unmet)) refl
@@ -350,11 +353,11 @@ stands_on bounds worker s t done (x ∷ xs) positive stands follows =
     (stands_on bounds worker (after_step s x) t (done ++ x ∷ []) xs positive (step_stands bounds done s stands worker x positive follows.0) follows.1)
 
 -- nothing was taken
-free_before_none : (bounds : Bounds) → IsFreeBefore bounds []
+pub free_before_none : (bounds : Bounds) → IsFreeBefore bounds []
 free_before_none bounds [] x rest split at = cc
 free_before_none bounds (y ∷ front) x rest split at = cc
 
-begins_stand : (manner : Manner) → 0 < manner.idle_turns → Stands (session_bounds manner.idle_turns) [] (new_state manner)
+pub begins_stand : (manner : Manner) → 0 < manner.idle_turns → Stands (session_bounds manner.idle_turns) [] (new_state manner)
 begins_stand manner positive = record {
   turns = refl;
   idles = omega arith;

@@ -32,6 +32,7 @@ ends_well bounds xs (end.CutFrame count) good shows limit away unkept read writt
 ends_well bounds xs (end.TooLong len) good shows limit away unkept read written = good
 ends_well bounds xs end.BadSetup good shows limit away unkept read written = good
 ends_well bounds xs (end.BadMessage kind) good shows limit away unkept read written = good
+ends_well bounds xs end.LineTooLong good shows limit away unkept read written = good
 ends_well bounds xs end.IdleOut good shows limit away unkept read written = limit (inl shows)
 ends_well bounds xs end.BytesOut good shows limit away unkept read written = limit (inr shows)
 ends_well bounds xs end.PoolFull good shows limit away unkept read written = away shows

@@ -1,5 +1,5 @@
 -- What holds of each session that is over (this project's own).
-use Rattle.std.specs.Prelude.{◌≡◌, ℕ, ◌<◌, ◌≤◌, Bool, true, Option, Some, List}
+use Rattle.std.specs.Prelude.{◌≡◌, ℕ, ◌<◌, ◌≤◌, true, Option, Some, List}
 use Rattle.pool_io.specs.declared.turn.Turn.{Turn}
 use Rattle.pool_io.specs.Steps.{BringsSteps, IsBytesOut, IsFreeBefore, IsIdleOut}
 use Rattle.pool_history.specs.declared.asking.Request.{Request}

@@ -19,7 +19,7 @@ use Rattle.session_loop.specs.Answerers.{Acts, MakesCall}
 use Rattle.session_loop.specs.Links.{PutsOut}
 use Rattle.session_loop.specs.Running.{Runs, TakesAll, has_ended, is_end}
 
-Follows-append : (worker : ℕ) (s t u : State) (xs ys : List SessionStep) → Follows worker s xs t → Follows worker t ys u → Follows worker s (xs ++ ys) u
+pub Follows-append : (worker : ℕ) (s t u : State) (xs ys : List SessionStep) → Follows worker s xs t → Follows worker t ys u → Follows worker s (xs ++ ys) u
 Follows-append worker s t u [] ys first then = rw first at then
 Follows-append worker s t u (x ∷ xs) ys first then = (first.0, Follows-append worker (after_step s x) t u xs ys first.1 then)
 
@@ -39,7 +39,7 @@ has_ended-append : (xs ys : List SessionStep) → has_ended (xs ++ ys) ≡ (has_
 has_ended-append [] ys = refl
 has_ended-append (x ∷ xs) ys = ap (λ b. is_end x || b) (has_ended-append xs ys) ∙ or_assoc (is_end x) (has_ended xs) (has_ended ys)
 
-Acts-append : {A : Type 0} (does : A → PoolCall → A → Type 0) (a b c : A) (xs ys : List PoolCall) → Acts does a xs b → Acts does b ys c → Acts does a (xs ++ ys) c
+pub Acts-append : {A : Type 0} (does : A → PoolCall → A → Type 0) (a b c : A) (xs ys : List PoolCall) → Acts does a xs b → Acts does b ys c → Acts does a (xs ++ ys) c
 Acts-append does a b c [] ys first then = rw first at then
 Acts-append does a b c (x ∷ xs) ys first then = (first.0, first.1, Acts-append does first.0 b c xs ys first.2 then)
 
@@ -57,7 +57,7 @@ none_more told xs (y ∷ ys) left rest first then all =
     let no : (y ∷ ys) ++ rest ≡ [] = sym then ∙ nil in
     cc
 
-all_more : (p q : Bool) (a b c : Option (List Turn)) (xs ys : List ReadStep) → BringsSteps a b xs → BringsSteps b c ys
+pub all_more : (p q : Bool) (a b c : Option (List Turn)) (xs ys : List ReadStep) → BringsSteps a b xs → BringsSteps b c ys
     → TakesAll p a xs → TakesAll q b ys → TakesAll (p || q) a (xs ++ ys)
 all_more true q None b c xs ys first then all more = tt
 all_more false true None b c xs ys first then all more = tt

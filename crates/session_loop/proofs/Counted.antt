@@ -23,27 +23,28 @@ use Rattle.session_steps.specs.declared.meeting.Step.TheVariants as step
 use Rattle.session_steps.specs.States as states
 use Rattle.session_steps.specs.States.{State, Stage, Asking, Committing, Greeting, Leaving, Over, Polling, Reading, Refusing, Put, answered_stage, briefed_stage, end_stage, end_after_fault, fault_end, input_end, new_state, news_stage, next_stage, nothing_put, put_stage}
 use Rattle.session_steps.specs.Steps as steps
+use Rattle.session_steps.specs.Talks.{Talk}
 use Rattle.session_steps.specs.Steps.{CanCall, CanStarve, CanStep, Follows, PutsAnswer, PutsHeard, Refuses, SessionStep, after_asking, after_booking, after_call, after_news, after_step, end_after, met_stage, put_in, reads_after, reads_after_step, writes_after, writes_after_put}
 use Rattle.session_loop.specs.Causes.{is_read_end, is_write_end}
 use Rattle.session_loop.specs.Sessions.{IsSession}
 
 -- which fault an end or a stage says: a failed take, a failed put, or neither
-data Blame : Type 0 where
+pub data Blame : Type 0 where
   Take : Blame
   Place : Blame
   Neither : Blame
 
-abbrev blame_of : SessionEnd → Blame
+abbrev pub blame_of : SessionEnd → Blame
 blame_of end.ReadFault = Take
 blame_of end.WriteFault = Place
 blame_of _ = Neither
 
-abbrev blame_at : Stage → Blame
+abbrev pub blame_at : Stage → Blame
 blame_at (Leaving reason) = blame_of reason
 blame_at (Over reason) = blame_of reason
 blame_at _ = Neither
 
-abbrev blame_put : Option SinkFailed → Blame → Blame
+abbrev pub blame_put : Option SinkFailed → Blame → Blame
 blame_put None was = was
 blame_put (Some sink.Failed) was = Place
 blame_put (Some sink.Memory) was = Neither
@@ -53,34 +54,35 @@ abbrev blame_after : SessionStep → Blame → Blame
 blame_after steps.Missed was = Take
 blame_after x was = blame_put (put_in x).fault was
 
-blame_end : (entered : Bool) (reason : SessionEnd) → blame_at (end_stage entered reason) ≡ blame_of reason
+pub blame_end : (entered : Bool) (reason : SessionEnd) → blame_at (end_stage entered reason) ≡ blame_of reason
 blame_end true reason = refl
 blame_end false reason = refl
 
-blame_next : (entered : Bool) (idles : ℕ) → blame_at (next_stage entered idles) ≡ Neither
+pub blame_next : (entered : Bool) (idles : ℕ) → blame_at (next_stage entered idles) ≡ Neither
 blame_next entered zero = blame_end entered end.IdleOut
 blame_next entered (suc n) = ap (λ b. blame_at (if b then end_stage entered end.IdleOut else Reading)) (eqb-suc-zero n)
 
-blame_news : (entered : Bool) (idles : ℕ) → blame_at (news_stage entered idles) ≡ Neither
+pub blame_news : (entered : Bool) (idles : ℕ) → blame_at (news_stage entered idles) ≡ Neither
 blame_news true idles = refl
 blame_news false idles = blame_next false idles
 
-blame_putting : (fault : Option SinkFailed) (entered : Bool) (stage : Stage) → blame_at stage ≡ Neither → blame_at (put_stage fault entered stage) ≡ blame_put fault Neither
+pub blame_putting : (fault : Option SinkFailed) (entered : Bool) (stage : Stage) → blame_at stage ≡ Neither → blame_at (put_stage fault entered stage) ≡ blame_put fault Neither
 blame_putting None entered stage none = none
 blame_putting (Some sink.Failed) entered stage none = blame_end entered end.WriteFault
 blame_putting (Some sink.Memory) entered stage none = blame_end entered end.Memory
 
-blame_fault : (cause : BookError) → blame_of (fault_end cause) ≡ Neither
+pub blame_fault : (cause : BookError) → blame_of (fault_end cause) ≡ Neither
 blame_fault fault.KeeperFault = refl
 blame_fault fault.Memory = refl
 
-blame_left : (reason : SessionEnd) (outcome : Outcome Reply BookError) → blame_of (end_after reason outcome) ≡ blame_of reason
+pub blame_left : (reason : SessionEnd) (outcome : Outcome Reply BookError) → blame_of (end_after reason outcome) ≡ blame_of reason
 blame_left reason (Replied answer) = refl
 blame_left end.Done (Faulted cause) = blame_fault cause
 blame_left (end.CutFrame count) (Faulted cause) = refl
 blame_left (end.TooLong len) (Faulted cause) = refl
 blame_left end.BadSetup (Faulted cause) = refl
 blame_left (end.BadMessage kind) (Faulted cause) = refl
+blame_left end.LineTooLong (Faulted cause) = refl
 blame_left end.IdleOut (Faulted cause) = refl
 blame_left end.BytesOut (Faulted cause) = refl
 blame_left end.PoolFull (Faulted cause) = refl
@@ -97,33 +99,45 @@ blame_briefed (topic.Channel channel) brief stage none = none
 blame_briefed (topic.Token request_id) brief stage none = none
 blame_briefed (topic.OwnJob channel request_id) brief stage none = none
 
-blame_answered : (about : About) (entered : Bool) (idles : ℕ) (answer : Reply) → blame_at (answered_stage about entered idles answer) ≡ Neither
+pub blame_answered : (about : About) (entered : Bool) (idles : ℕ) (answer : Reply) → blame_at (answered_stage about entered idles answer) ≡ Neither
 blame_answered about entered idles (reply.PoolFull most) = blame_end entered end.PoolFull
 blame_answered about entered idles (reply.Brief brief) = blame_briefed about brief (news_stage entered idles) (blame_news entered idles)
 blame_answered about entered idles _ = blame_news entered idles
 
 -- a fault is answered by nothing
-none_put : (put : Put) → put ≡ nothing_put → blame_put put.fault Neither ≡ Neither
+pub none_put : (put : Put) → put ≡ nothing_put → blame_put put.fault Neither ≡ Neither
 none_put put none = rw none refl
 
-blame_asking : (s : State) (front : ℕ) (outcome : Outcome Reply BookError) (put : Put) → PutsHeard s.talk outcome put → blame_at (after_asking s front outcome put).stage ≡ blame_put put.fault Neither
+abbrev pub SaysNoFault : Outcome Reply BookError → Put → Type 0
+SaysNoFault (Replied answer) put = Unit {0}
+SaysNoFault (Faulted cause) put = put ≡ nothing_put
+
+answer_no_fault : (talk : Talk) (outcome : Outcome Reply BookError) (put : Put) → PutsAnswer talk outcome put → SaysNoFault outcome put
+answer_no_fault talk (Replied answer) put puts = tt
+answer_no_fault talk (Faulted cause) put puts = puts
+
+heard_no_fault : (talk : Talk) (outcome : Outcome Reply BookError) (put : Put) → PutsHeard talk outcome put → SaysNoFault outcome put
+heard_no_fault talk (Replied answer) put puts = tt
+heard_no_fault talk (Faulted cause) put puts = puts
+
+pub blame_asking : (s : State) (front : ℕ) (outcome : Outcome Reply BookError) (put : Put) → SaysNoFault outcome put → blame_at (after_asking s front outcome put).stage ≡ blame_put put.fault Neither
 blame_asking s front (Faulted cause) put puts = blame_end s.entered (fault_end cause) ∙ blame_fault cause ∙ sym (none_put put puts)
 blame_asking s front (Replied answer) put puts =
     let h = states.hears s front answer in
     blame_putting put.fault h.entered (answered_stage h.talk.about h.entered h.idles answer) (blame_answered h.talk.about h.entered h.idles answer)
 
-blame_booking : (s : State) (outcome : Outcome Reply BookError) (put : Put) → PutsAnswer s.talk outcome put → blame_at (after_booking s outcome put).stage ≡ blame_put put.fault Neither
+pub blame_booking : (s : State) (outcome : Outcome Reply BookError) (put : Put) → SaysNoFault outcome put → blame_at (after_booking s outcome put).stage ≡ blame_put put.fault Neither
 blame_booking s (Faulted cause) put puts = blame_end s.entered (fault_end cause) ∙ blame_fault cause ∙ sym (none_put put puts)
 blame_booking s (Replied answer) put puts = blame_putting put.fault s.entered (news_stage s.entered s.idles) (blame_news s.entered s.idles)
 
-blame_told : (s : State) (outcome : Outcome Reply BookError) (put : Put) → PutsAnswer s.talk outcome put → blame_at (after_news s outcome put).stage ≡ blame_put put.fault Neither
+pub blame_told : (s : State) (outcome : Outcome Reply BookError) (put : Put) → SaysNoFault outcome put → blame_at (after_news s outcome put).stage ≡ blame_put put.fault Neither
 blame_told s (Faulted cause) put puts = blame_end s.entered (fault_end cause) ∙ blame_fault cause ∙ sym (none_put put puts)
 blame_told s (Replied answer) put puts = blame_putting put.fault s.entered (next_stage s.entered s.idles) (blame_next s.entered s.idles)
 
 blame_call : (stage : Stage) (s : State) (call : PoolCall) (put : Put) → CanCall stage s call put → blame_at (after_call stage s call put).stage ≡ blame_put put.fault (blame_at stage)
-blame_call (Asking asked) s call put can = blame_asking s call.front call.outcome put can.1
-blame_call (Committing brief) s call put can = blame_booking s call.outcome put can.1
-blame_call Polling s call put can = blame_told s call.outcome put can.1
+blame_call (Asking asked) s call put can = blame_asking s call.front call.outcome put (heard_no_fault s.talk call.outcome put can.1)
+blame_call (Committing brief) s call put can = blame_booking s call.outcome put (answer_no_fault s.talk call.outcome put can.1)
+blame_call Polling s call put can = blame_told s call.outcome put (answer_no_fault s.talk call.outcome put can.1)
 blame_call (Leaving reason) s call put can = blame_left reason call.outcome ∙ sym (ap (λ p. blame_put p.fault (blame_of reason)) can.1)
 blame_call Greeting s call put can = absurd can
 blame_call Reading s call put can = absurd can
@@ -137,11 +151,11 @@ blame_met entered (step.RefuseSetup code flags) = refl
 blame_met entered step.BadSetup = blame_end entered end.BadSetup
 blame_met entered (step.BadMessage kind) = blame_end entered (end.BadMessage kind)
 
-blame_input : (unmet : List ℕ) → blame_of (input_end unmet) ≡ Neither
+pub blame_input : (unmet : List ℕ) → blame_of (input_end unmet) ≡ Neither
 blame_input [] = refl
 blame_input (byte ∷ bytes) = refl
 
-reading_blame : (stage : Stage) → stage ≡ Reading → Neither ≡ blame_at stage
+pub reading_blame : (stage : Stage) → stage ≡ Reading → Neither ≡ blame_at stage
 reading_blame stage is = ap blame_at (sym is)
 
 starving_blame : (stage : Stage) → CanStarve stage → Neither ≡ blame_at stage
@@ -180,32 +194,32 @@ blame_step worker s steps.Spent can = blame_end s.entered end.BytesOut ∙ readi
 blame_step worker s (steps.Called call put) can = blame_call s.stage s call put can.1
 
 -- the counts, by what was there before and by what is blamed
-abbrev reads_by : ℕ → Blame → ℕ
+abbrev pub reads_by : ℕ → Blame → ℕ
 reads_by before Take = next_count before
 reads_by before Place = before
 reads_by before Neither = before
 
-abbrev writes_by : ℕ → Blame → ℕ
+abbrev pub writes_by : ℕ → Blame → ℕ
 writes_by before Take = before
 writes_by before Place = next_count before
 writes_by before Neither = before
 
 module _ (n : ℕ) where
-  reads_put : (fault : Option SinkFailed) → n ≡ reads_by n (blame_put fault Neither)
+  pub reads_put : (fault : Option SinkFailed) → n ≡ reads_by n (blame_put fault Neither)
   reads_put None = refl
   reads_put (Some sink.Failed) = refl
   reads_put (Some sink.Memory) = refl
 
-  writes_put : (fault : Option SinkFailed) → writes_after_put n fault ≡ writes_by n (blame_put fault Neither)
+  pub writes_put : (fault : Option SinkFailed) → writes_after_put n fault ≡ writes_by n (blame_put fault Neither)
   writes_put None = refl
   writes_put (Some sink.Failed) = refl
   writes_put (Some sink.Memory) = refl
 
   -- a stage that blames nothing yet
-  reads_at : (stage : Stage) (fault : Option SinkFailed) → Neither ≡ blame_at stage → reads_by n (blame_at stage) ≡ reads_by n (blame_put fault (blame_at stage))
+  pub reads_at : (stage : Stage) (fault : Option SinkFailed) → Neither ≡ blame_at stage → reads_by n (blame_at stage) ≡ reads_by n (blame_put fault (blame_at stage))
   reads_at stage fault none = rw (← none) (reads_put fault)
 
-  writes_at : (stage : Stage) (fault : Option SinkFailed) → Neither ≡ blame_at stage
+  pub writes_at : (stage : Stage) (fault : Option SinkFailed) → Neither ≡ blame_at stage
       → writes_after_put (writes_by n (blame_at stage)) fault ≡ writes_by n (blame_put fault (blame_at stage))
   writes_at stage fault none = rw (← none) (writes_put fault)
 
@@ -269,12 +283,12 @@ module _ (n : ℕ) where
       ap (λ m. writes_after m xs) (writes_step worker s x follows.0 ∙ ap (writes_by n) (sym (blame_step worker s x follows.0)))
       ∙ writes_on worker (after_step s x) t xs follows.1
 
-counts_read : (reason : SessionEnd) (before now : ℕ) → now ≡ reads_by before (blame_of reason) → CountsFailure (is_read_end reason) before now
+pub counts_read : (reason : SessionEnd) (before now : ℕ) → now ≡ reads_by before (blame_of reason) → CountsFailure (is_read_end reason) before now
 counts_read end.ReadFault before now is = is
 counts_read end.WriteFault before now is = is
 counts_read _ before now is = is
 
-counts_written : (reason : SessionEnd) (before now : ℕ) → now ≡ writes_by before (blame_of reason) → CountsFailure (is_write_end reason) before now
+pub counts_written : (reason : SessionEnd) (before now : ℕ) → now ≡ writes_by before (blame_of reason) → CountsFailure (is_write_end reason) before now
 counts_written end.WriteFault before now is = is
 counts_written end.ReadFault before now is = is
 counts_written _ before now is = is

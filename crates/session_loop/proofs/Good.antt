@@ -40,30 +40,30 @@ use Rattle.session_loop.specs.Running.{TakesAll, has_ended}
 use Rattle.session_loop.specs.Sessions.{IsSession}
 
 -- no step of a good session refuses a setup, or ends it for what came
-abbrev IsGoodStage : Stage → Type 0
+abbrev pub IsGoodStage : Stage → Type 0
 IsGoodStage (Refusing code flags) = ⊥
 IsGoodStage (Leaving reason) = IsGoodEnd reason
 IsGoodStage (Over reason) = IsGoodEnd reason
 IsGoodStage _ = Unit {0}
 
-good_end : (entered : Bool) (reason : SessionEnd) → IsGoodEnd reason → IsGoodStage (end_stage entered reason)
+pub good_end : (entered : Bool) (reason : SessionEnd) → IsGoodEnd reason → IsGoodStage (end_stage entered reason)
 good_end true reason good = good
 good_end false reason good = good
 
-good_next : (entered : Bool) (idles : ℕ) → IsGoodStage (next_stage entered idles)
+pub good_next : (entered : Bool) (idles : ℕ) → IsGoodStage (next_stage entered idles)
 good_next entered zero = good_end entered end.IdleOut tt
 good_next entered (suc n) = rw (ap (λ b. if b then end_stage entered end.IdleOut else Reading) (eqb-suc-zero n)) tt
 
-good_news : (entered : Bool) (idles : ℕ) → IsGoodStage (news_stage entered idles)
+pub good_news : (entered : Bool) (idles : ℕ) → IsGoodStage (news_stage entered idles)
 good_news true idles = tt
 good_news false idles = good_next false idles
 
-good_put : (fault : Option SinkFailed) (entered : Bool) (stage : Stage) → IsGoodStage stage → IsGoodStage (put_stage fault entered stage)
+pub good_put : (fault : Option SinkFailed) (entered : Bool) (stage : Stage) → IsGoodStage stage → IsGoodStage (put_stage fault entered stage)
 good_put None entered stage good = good
 good_put (Some sink.Failed) entered stage good = good_end entered end.WriteFault tt
 good_put (Some sink.Memory) entered stage good = good_end entered end.Memory tt
 
-good_fault : (cause : BookError) → IsGoodEnd (fault_end cause)
+pub good_fault : (cause : BookError) → IsGoodEnd (fault_end cause)
 good_fault fault.KeeperFault = tt
 good_fault fault.Memory = tt
 
@@ -73,6 +73,7 @@ good_left (end.CutFrame count) cause good = good
 good_left (end.TooLong len) cause good = good
 good_left end.BadSetup cause good = good
 good_left (end.BadMessage kind) cause good = good
+good_left end.LineTooLong cause good = good
 good_left end.IdleOut cause good = good
 good_left end.BytesOut cause good = good
 good_left end.PoolFull cause good = good
@@ -95,17 +96,17 @@ good_answered about entered idles (reply.Brief brief) = good_briefed about brief
 good_answered about entered idles _ = good_news entered idles
 
 -- what a call leaves of a session, and that it is good still
-record StaysGood (old new : State) : Type 0 where
-  unmet : new.unmet ≡ old.unmet
-  role : new.talk.role ≡ old.talk.role
-  rolling : new.talk.rolling ≡ old.talk.rolling
-  flags : new.talk.flags ≡ old.talk.flags
-  stage : IsGoodStage new.stage
+pub record StaysGood (old new : State) : Type 0 where
+  pub unmet : new.unmet ≡ old.unmet
+  pub role : new.talk.role ≡ old.talk.role
+  pub rolling : new.talk.rolling ≡ old.talk.rolling
+  pub flags : new.talk.flags ≡ old.talk.flags
+  pub stage : IsGoodStage new.stage
 
 stays_at : (s : State) (stage : Stage) → IsGoodStage stage → StaysGood s (steps.at_stage stage s)
 stays_at s stage good = record { unmet = refl; role = refl; rolling = refl; flags = refl; stage = good }
 
-asking_stays : (s : State) (front : ℕ) (outcome : Outcome Reply BookError) (put : Put) → StaysGood s (after_asking s front outcome put)
+pub asking_stays : (s : State) (front : ℕ) (outcome : Outcome Reply BookError) (put : Put) → StaysGood s (after_asking s front outcome put)
 asking_stays s front (Faulted cause) put = stays_at s (end_stage s.entered (fault_end cause)) (good_end s.entered (fault_end cause) (good_fault cause))
 asking_stays s front (Replied answer) put =
     let h = Rattle.session_steps.specs.States.hears s front answer in
@@ -117,12 +118,12 @@ asking_stays s front (Replied answer) put =
       stage = good_put put.fault h.entered (answered_stage h.talk.about h.entered h.idles answer) (good_answered h.talk.about h.entered h.idles answer);
     }
 
-booking_stays : (s : State) (outcome : Outcome Reply BookError) (put : Put) → StaysGood s (after_booking s outcome put)
+pub booking_stays : (s : State) (outcome : Outcome Reply BookError) (put : Put) → StaysGood s (after_booking s outcome put)
 booking_stays s (Faulted cause) put = stays_at s (end_stage s.entered (fault_end cause)) (good_end s.entered (fault_end cause) (good_fault cause))
 booking_stays s (Replied answer) put =
     stays_at s (put_stage put.fault s.entered (news_stage s.entered s.idles)) (good_put put.fault s.entered (news_stage s.entered s.idles) (good_news s.entered s.idles))
 
-news_stays : (s : State) (outcome : Outcome Reply BookError) (put : Put) → StaysGood s (after_news s outcome put)
+pub news_stays : (s : State) (outcome : Outcome Reply BookError) (put : Put) → StaysGood s (after_news s outcome put)
 news_stays s (Faulted cause) put = stays_at s (end_stage s.entered (fault_end cause)) (good_end s.entered (fault_end cause) (good_fault cause))
 news_stays s (Replied answer) put = record {
   unmet = refl;

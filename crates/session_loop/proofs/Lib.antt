@@ -1,4 +1,5 @@
 pub mod Asked
+pub mod Openings
 pub mod Chains
 pub mod Counted
 pub mod Good

@@ -105,7 +105,7 @@ module _ {A : Type 0} {worker : A → ℕ} {does : A → PoolCall → A → Type
 
   pub ask_answered : (asked : Request) (answer : Reply) (next : AfterReply) (new : Conversation) → MakesCall worker does a asked acted a' → acted.outcome ≡ Ok answer
       → (hears : Hears old acted.front answer l l' next new)
-      → (stage : Stage) × LeadsTo next new intake.idles stage
+      → (stage : Stage) × LeadsTo next new.session.about new.entered intake.idles stage
       × Runs worker does (state_at (Asking asked) intake old) (state_at stage intake new) l l' a a'
   ask_answered asked answer next new made is hears =
       let s = state_at (Asking asked) intake old in
@@ -144,11 +144,11 @@ unbooked_stage (topic.Token request_id) brief stage booked = refl
 unbooked_stage (topic.OwnJob channel request_id) brief stage booked = refl
 
 -- an answer that was put leads to the news, or to the end of the session
-pub answered_leads : (answer : Reply) (next : AfterReply) (new : Conversation) (idles : ℕ) → is_booked new.session.about answer ≡ false → IsAfterAnswer answer next
-    → LeadsTo next new idles (answered_stage new.session.about new.entered idles answer)
-answered_leads (reply.PoolFull most) next new idles booked is = rw is refl
-answered_leads (reply.Brief brief) next new idles booked is = rw is (unbooked_stage new.session.about brief (news_stage new.entered idles) booked)
-answered_leads _ next new idles booked is = rw is refl
+pub answered_leads : (answer : Reply) (next : AfterReply) (about : About) (entered : Bool) (idles : ℕ) → is_booked about answer ≡ false → IsAfterAnswer answer next
+    → LeadsTo next about entered idles (answered_stage about entered idles answer)
+answered_leads (reply.PoolFull most) next about entered idles booked is = rw is refl
+answered_leads (reply.Brief brief) next about entered idles booked is = rw is (unbooked_stage about brief (news_stage entered idles) booked)
+answered_leads _ next about entered idles booked is = rw is refl
 
 pub failed_leads : (cause : SinkFailed) (entered : Bool) (stage : Stage) → put_stage (Some cause) entered stage ≡ end_stage entered (failed_end cause)
 failed_leads sink.Failed entered stage = refl
@@ -178,10 +178,10 @@ puts_wanted {l = l} whole = record {
 pub brief_frames : (talk : Talk) (answer : Reply) (brief : Briefing) → answer ≡ reply.Brief brief → bytes_of_frames (answer_frames talk answer) ≡ []
 brief_frames talk answer brief is = rw is refl
 
-pub briefed_leads : (answer : Reply) (brief : Briefing) (booking : Request) (new : Conversation) (idles : ℕ) → answer ≡ reply.Brief brief → Books new.session.about brief booking
-    → LeadsTo (after.Book booking) new idles (answered_stage new.session.about new.entered idles answer)
-briefed_leads answer brief booking new idles is books =
-    (brief, books, ap (answered_stage new.session.about new.entered idles) is ∙ booked_stage new.session.about brief booking (news_stage new.entered idles) books)
+pub briefed_leads : (answer : Reply) (brief : Briefing) (booking : Request) (about : About) (entered : Bool) (idles : ℕ) → answer ≡ reply.Brief brief → Books about brief booking
+    → LeadsTo (after.Book booking) about entered idles (answered_stage about entered idles answer)
+briefed_leads answer brief booking about entered idles is books =
+    (brief, books, ap (answered_stage about entered idles) is ∙ booked_stage about brief booking (news_stage entered idles) books)
 
 module _ {A : Type 0} {worker : A → ℕ} {does : A → PoolCall → A → Type 0} {l : LinkSeen} {a a' : A} (intake : Intake) (c : Conversation) where
   -- the leaving, where it entered

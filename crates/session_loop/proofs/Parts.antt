@@ -6,7 +6,7 @@ use Rattle.stream_commands.proofs.Puts.{Adds-more}
 use Rattle.session_steps.specs.Steps.{bytes_of_frames}
 
 -- behind the first of what is left stands the rest
-drop_next : (frames : List (List ℕ)) (number : ℕ) (frame : List ℕ) (later : List (List ℕ)) → drop number frames ≡ frame ∷ later → drop (number + 1) frames ≡ later
+pub drop_next : {B : Type 0} (frames : List B) (number : ℕ) (frame : B) (later : List B) → drop number frames ≡ frame ∷ later → drop (number + 1) frames ≡ later
 drop_next frames number frame later is =
     let some : number < length frames = omega (arith, length-drop number frames, ap length is) in
     let whole = sym (drop-cons frames number frame some) ∙ is in

@@ -6,7 +6,6 @@ use Rattle.session_steps.specs.declared.manner.Manner.{Manner}
 use Rattle.pool_io.specs.Seen.{SinkSeen}
 use Rattle.pool_io.specs.declared.sink.SinkFailed.{SinkFailed}
 use Rattle.pool_io.specs.declared.sink.SinkFailed.TheVariants as sink
-use Rattle.pool_io.specs.declared.source.Took.{Took}
 use Rattle.pool_io.specs.declared.source.Took.TheVariants as took
 use Rattle.pool_io.specs.declared.turn.Turn.{Turn}
 use Rattle.pool_io.specs.Outside.{TakesTurn}
@@ -110,14 +109,14 @@ module _ {A : Type 0} {worker : A → ℕ} {does : A → PoolCall → A → Type
       refl refl refl refl (λ n. refl)
 
 -- the end of the input
-end_brings : (old new : Option (List Turn)) (buffer : List ℕ) → TakesTurn old new took.End buffer → BringsSteps old new [] × TakesAll true old []
+pub end_brings : (old new : Option (List Turn)) (buffer : List ℕ) → TakesTurn old new took.End buffer → BringsSteps old new [] × TakesAll true old []
 end_brings None new buffer takes = (tt, tt)
 end_brings (Some turns) new buffer takes =
     let none = steps_of-ended turns takes.2.0 in
     ((takes.0, takes.1, ap steps_of (sym takes.2.1)), none)
 
 -- a take that failed
-failed_brings : (old new : Option (List Turn)) (buffer : List ℕ) → TakesTurn old new took.Failed buffer → BringsSteps old new []
+pub failed_brings : (old new : Option (List Turn)) (buffer : List ℕ) → TakesTurn old new took.Failed buffer → BringsSteps old new []
 failed_brings None new buffer takes = tt
 failed_brings (Some turns) new buffer takes = (takes.0, takes.1, ap steps_of (sym takes.2))
 

@@ -66,4 +66,5 @@ IsGoodEnd (end.CutFrame count) = ⊥
 IsGoodEnd (end.TooLong len) = ⊥
 IsGoodEnd end.BadSetup = ⊥
 IsGoodEnd (end.BadMessage kind) = ⊥
+IsGoodEnd end.LineTooLong = ⊥
 IsGoodEnd _ = Unit {0}

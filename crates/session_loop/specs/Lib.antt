@@ -6,3 +6,4 @@ pub mod Meeting
 pub mod Sessions
 pub mod Good
 pub mod Causes
+pub mod Beginning

@@ -68,13 +68,11 @@ FindsNext holding now old (found.Frame made) new =
     × MeetsHeld holding old made new
 
 -- the stage to which an answer leads
-abbrev pub LeadsTo : AfterReply → Conversation → ℕ → Stage → Type 0
-LeadsTo (after.Book booking) conversation idles stage =
-    (brief : Briefing) × Books conversation.session.about brief booking
-    × (stage ≡ Committing brief)
-LeadsTo after.Poll conversation idles stage = stage ≡ news_stage conversation.entered idles
-LeadsTo (after.End reason) conversation idles stage =
-    stage ≡ end_stage conversation.entered reason
+abbrev pub LeadsTo : AfterReply → About → Bool → ℕ → Stage → Type 0
+LeadsTo (after.Book booking) about entered idles stage =
+    (brief : Briefing) × Books about brief booking × (stage ≡ Committing brief)
+LeadsTo after.Poll about entered idles stage = stage ≡ news_stage entered idles
+LeadsTo (after.End reason) about entered idles stage = stage ≡ end_stage entered reason
 
 -- a reply is heard and answered
 pub record Hears (old : Conversation) (front : ℕ)
@@ -85,7 +83,7 @@ pub record Hears (old : Conversation) (front : ℕ)
   pub talk : new.session ≡ heard old.session answer
   pub entered : new.entered ≡ entered_after old.entered answer
   pub cursor : new.cursor ≡ cursor_behind old.cursor front answer
-  pub leads : (idles : ℕ) → LeadsTo next new idles
+  pub leads : (idles : ℕ) → LeadsTo next new.session.about new.entered idles
       (put_stage fault new.entered
       (answered_stage new.session.about new.entered idles answer))
 

@@ -4,7 +4,7 @@ use Rattle.pool_network.specs.Seen.{LinkSeen}
 use Rattle.pool_history.specs.Calls.{PoolCall}
 use Rattle.session_steps.specs.declared.ends.SessionEnd.{SessionEnd}
 use Rattle.session_steps.specs.declared.manner.Manner.{Manner}
-use Rattle.session_steps.specs.States.{Stage, State, Over, Reading, end_stage, new_state, news_stage}
+use Rattle.session_steps.specs.States.{Stage, State, Over, Reading, end_stage, new_state}
 use Rattle.session_loop.specs.declared.conversation.Conversation.{Conversation}
 use Rattle.session_loop.specs.Running.{Runs}
 use Rattle.session_loop.specs.Standing.{Intake, state_at, stage_or}

@@ -1,5 +1,5 @@
 -- Where a session that is served stands (this project's own).
-use Rattle.std.specs.Prelude.{◌≡◌, ℕ, ◌≤◌, Bool, Option, None, Some, Result, Ok, Err, List, [], ◌++◌, length}
+use Rattle.std.specs.Prelude.{◌≡◌, ℕ, ◌≤◌, Bool, None, Some, Result, Ok, Err, List, [], ◌++◌, length}
 use Rattle.pool_io.specs.declared.source.Took.{Took}
 use Rattle.link_turns.specs.declared.waiting.Limit.{Limit}
 use Rattle.link_turns.specs.declared.waiting.Limit.TheVariants as limit

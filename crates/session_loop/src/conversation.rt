@@ -29,7 +29,7 @@ pub(crate) struct Conversation {
 
 /// What comes after a reply is answered.
 #[derive(Drop)]
-pub(crate) enum AfterReply {
+pub enum AfterReply {
     /// The share that was briefed is booked.
     Book(Request),
     /// The news come.
@@ -154,7 +154,8 @@ impl Conversation {
         requires told { AsksAsTold asked self.old.session.about }
         ensures ready { A.ready acting.new }
         ensures runs { (intake : Intake) → (stage : Stage)
-            × LeadsTo result self.new intake.idles stage × Runs A.worker A.does
+            × LeadsTo result self.new.session.about self.new.entered intake.idles stage
+            × Runs A.worker A.does
             (state_at (Asking asked) intake self.old)
             (state_at stage intake self.new) (L.seen link.old) (L.seen link.new) acting.old acting.new }
     {
@@ -225,7 +226,7 @@ impl Conversation {
 }
 
 /// The place up to which the news go.
-fn told_to(cursor: u64, reply: &Reply) -> u64
+pub fn told_to(cursor: u64, reply: &Reply) -> u64
     ensures { result ≡ cursor_after cursor reply.now }
 {
     match reply {
@@ -235,7 +236,7 @@ fn told_to(cursor: u64, reply: &Reply) -> u64
 }
 
 /// A pool that takes no more sessions ends this one.
-fn after_answer(reply: &Reply) -> AfterReply
+pub fn after_answer(reply: &Reply) -> AfterReply
     ensures { IsAfterAnswer reply.now result }
 {
     match reply {

@@ -1,6 +1,7 @@
 //! What ends a session.
 
-ghost use Rattle.std.specs.Prelude.{◌≡◌};
+ghost use Rattle.std.specs.Prelude.{◌≡◌, ℕ, List, length};
+ghost use Rattle.session_steps.specs.States as states;
 ghost use Rattle.session_loop.specs.Standing.{end_at_limit};
 ghost use Rattle.session_steps.specs.States.{end_after_fault};
 
@@ -9,7 +10,7 @@ use pool_core::SessionEnd;
 use pool_history::BookError;
 
 /// A leaving that isn't answered.
-pub(crate) fn left_end(end: SessionEnd, cause: BookError) -> SessionEnd
+pub fn left_end(end: SessionEnd, cause: BookError) -> SessionEnd
     ensures { result ≡ end_after_fault end cause }
 {
     match end {
@@ -19,11 +20,21 @@ pub(crate) fn left_end(end: SessionEnd, cause: BookError) -> SessionEnd
 }
 
 /// A limit of what is waited for.
-pub(crate) fn limit_end(limit: Limit) -> SessionEnd
+pub fn limit_end(limit: Limit) -> SessionEnd
     ensures { result ≡ end_at_limit limit }
 {
     match limit {
         Limit::IdleOut => SessionEnd::IdleOut,
         Limit::BytesOut => SessionEnd::BytesOut,
+    }
+}
+
+/// The end of the input, where so many bytes are held.
+pub fn input_end(held: usize) -> SessionEnd
+    ensures { (bytes : List ℕ) → length bytes ≡ held → result ≡ states.input_end bytes }
+{
+    match held {
+        0 => SessionEnd::Done,
+        count => SessionEnd::CutFrame(count),
     }
 }

@@ -4,6 +4,7 @@
 #![tactic(auto)]
 
 mod acting;
+mod beginning;
 mod conversation;
 mod ends;
 mod listening;
@@ -12,4 +13,8 @@ mod putting;
 mod serving;
 
 pub use acting::{Acted, Acting};
-pub use serving::converse;
+pub use beginning::{FirstPiece, begin};
+pub use conversation::{AfterReply, after_answer, told_to};
+pub use ends::{input_end, left_end, limit_end};
+pub use putting::put_bytes;
+pub use serving::{converse, go_on};

@@ -6,7 +6,7 @@ ghost use Rattle.session_steps.specs.States as states;
 
 use crate::acting::Acting;
 use crate::conversation::Conversation;
-use crate::ends::limit_end;
+use crate::ends::{input_end, limit_end};
 use link_turns::Waiting;
 use pool_core::SessionEnd;
 use pool_io::Took;
@@ -26,18 +26,19 @@ pub(crate) struct Listener {
 }
 
 impl Listener {
-    ghost use Rattle.session_loop.specs.Standing.{GoesOnOrEnds, HasMetAll, IsListening, intake_of, intake_with, new_intake, stage_or, state_at};
+    ghost use Rattle.session_loop.specs.Standing.{GoesOnOrEnds, HasMetAll, IsListening, intake_of, intake_with, stage_or, state_at};
     ghost use Rattle.session_loop.specs.Running.{Runs};
     ghost use Rattle.session_loop.specs.Sessions.{ReadsOn};
 
-    pub(crate) fn new(alloc: Global, idle_turns: u64) -> Result<Listener, AllocError>
-        requires { 0 < idle_turns }
-        ensures listening { IfOk result IsListening }
-        ensures intake { IfOk result (λ listener. intake_of listener ≡ new_intake idle_turns) }
+    /// Nothing came that isn't met.
+    pub(crate) fn new(alloc: Global, waiting: Waiting) -> Result<Listener, AllocError>
+        ensures waiting { IfOk result (λ listener. listener.waiting ≡ waiting) }
+        ensures met { IfOk result (λ listener. HasMetAll listener.splitter) }
+        ensures none { IfOk result (λ listener. listener.splitter.held ≡ []) }
     {
         Ok(Listener {
             splitter: Splitter::new(alloc, MOST_PAYLOAD)?,
-            waiting: Waiting::new(idle_turns),
+            waiting,
         })
     }
 
@@ -52,7 +53,7 @@ impl Listener {
     }
 
     /// Meets the bytes that came and were counted.
-    fn piece<L: Link, A: Acting>(
+    pub(crate) fn piece<L: Link, A: Acting>(
         &mut self,
         conversation: &mut Conversation,
         piece: &[u8],
@@ -102,10 +103,7 @@ impl Listener {
     fn end(&self) -> SessionEnd
         ensures { result ≡ states.input_end self.now.splitter.held }
     {
-        match self.splitter.held() {
-            0 => SessionEnd::Done,
-            count => SessionEnd::CutFrame(count),
-        }
+        input_end(self.splitter.held())
     }
 
     /// Takes one turn of the link.

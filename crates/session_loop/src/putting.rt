@@ -12,7 +12,7 @@ use pool_network::{Link, put_whole};
 use std::alloc::Global;
 
 /// Puts all bytes, or says why not.
-pub(crate) fn put_bytes<L: Link>(link: &mut L, bytes: &[u8]) -> Result<(), SinkFailed>
+pub fn put_bytes<L: Link>(link: &mut L, bytes: &[u8]) -> Result<(), SinkFailed>
     ensures { PutsOut bytes.now (fault_of result)
         (L.seen link.old) (L.seen link.new) }
 {

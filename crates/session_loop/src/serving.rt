@@ -1,17 +1,19 @@
 //! One session.
 
-ghost use Rattle.std.specs.Prelude.{◌≡◌, ◌<◌, ℕ, List, Some};
+ghost use Rattle.std.specs.Prelude.{◌≡◌, ◌<◌, ◌≤◌, ℕ, List, Some};
 ghost use Rattle.pool_io.specs.declared.turn.Turn.{Turn};
 ghost use Rattle.pool_io.specs.Outside.{CountsFailure};
-ghost use Rattle.session_steps.specs.States.{Greeting, Reading};
+ghost use Rattle.session_steps.specs.States.{Reading};
+ghost use Rattle.session_loop.specs.Beginning.{IsRestOfSession, begun_state};
 ghost use Rattle.session_loop.specs.Causes.{is_read_end, is_write_end};
 ghost use Rattle.session_loop.specs.Good.{IsGoodEnd, IsGoodInput};
 ghost use Rattle.session_loop.specs.Sessions.{IsSession};
 
 use crate::acting::Acting;
+use crate::beginning::begin;
 use crate::conversation::Conversation;
 use crate::listening::Listener;
-use crate::putting::put_greeting;
+use link_turns::Waiting;
 use pool_core::SessionEnd;
 use pool_network::Link;
 use session_steps::Manner;
@@ -20,7 +22,7 @@ use stream_commands::PIECE_LEN;
 
 impl Conversation {
     ghost use Rattle.session_loop.specs.Sessions.{ReadsOn, Serves};
-    ghost use Rattle.session_loop.specs.Standing.{IsListening, intake_of, new_intake};
+    ghost use Rattle.session_loop.specs.Standing.{HasMetAll, IsListening, intake_of, intake_with};
 
     /// Takes turn after turn, up to what ends the session.
     fn listen<L: Link, A: Acting>(
@@ -43,27 +45,52 @@ impl Conversation {
         }
     }
 
-    /// Puts the greeting, and then takes turns.
+    /// Meets the first bytes, and then takes turns.
     fn serve<L: Link, A: Acting>(
         &mut self,
-        idle_turns: u64,
+        mut listener: Listener,
+        piece: &[u8],
         link: &mut L,
         acting: &mut A,
     ) -> SessionEnd
         requires ready { A.ready acting.old }
-        requires waits { 0 < idle_turns }
+        requires met { HasMetAll listener.splitter }
+        requires waits { 0 < listener.waiting.idles }
+        requires most { listener.waiting.idles ≤ listener.waiting.idle_turns }
         ensures ready { A.ready acting.new }
-        ensures serves { Serves A.worker A.does Greeting (new_intake idle_turns) self.old self.new
-            (L.seen link.old) (L.seen link.new) acting.old acting.new result }
+        ensures serves { Serves A.worker A.does Reading (intake_with piece.now listener) self.old
+            self.new (L.seen link.old) (L.seen link.new) acting.old acting.new result }
     {
-        let Ok(listener) = Listener::new(self.alloc, idle_turns) else {
-            return SessionEnd::Memory;
-        };
-        match put_greeting(self.alloc, &self.session, link) {
-            Err(cause) => SessionEnd::from(cause),
+        match listener.piece(self, piece, link, acting) {
             Ok(()) => self.listen(listener, link, acting),
+            Err(end) => end,
         }
     }
+}
+
+/// Serves a session to which these bytes came first, up to its end, and leaves. So much is still
+/// waited for behind them.
+pub fn go_on<L: Link, A: Acting>(
+    alloc: Global,
+    link: &mut L,
+    acting: &mut A,
+    manner: Manner,
+    waiting: Waiting,
+    piece: &[u8],
+) -> SessionEnd
+    requires ready { A.ready acting.old }
+    requires waits { 0 < waiting.idles }
+    requires most { waiting.idles ≤ waiting.idle_turns }
+    ensures ready { A.ready acting.new }
+    ensures rest { IsRestOfSession A.worker A.does (begun_state manner waiting piece.now)
+        (L.seen link.old) (L.seen link.new) acting.old acting.new result }
+{
+    let Ok(listener) = Listener::new(alloc, waiting) else {
+        return SessionEnd::Memory;
+    };
+    let mut conversation = Conversation::new(alloc, manner.role, manner.rolling);
+    let end = conversation.serve(listener, piece, link, acting);
+    conversation.leave(end, acting)
 }
 
 /// Serves one session over a link, up to its end, and leaves.
@@ -89,7 +116,16 @@ pub fn converse<L: Link, A: Acting>(
     ensures good { (told : List Turn) → (L.seen link.old).source.left ≡ Some told
         → IsGoodInput manner told → IsGoodEnd result }
 {
-    let mut conversation = Conversation::new(alloc, manner.role, manner.rolling);
-    let end = conversation.serve(manner.idle_turns, link, acting);
-    conversation.leave(end, acting)
+    let mut buffer = [0; PIECE_LEN];
+    match begin(alloc, link, manner, &mut buffer) {
+        Ok(first) => go_on(
+            alloc,
+            link,
+            acting,
+            manner,
+            first.waiting,
+            &buffer[..first.count],
+        ),
+        Err(end) => end,
+    }
 }

@@ -1,5 +1,5 @@
 pub mod Rows
 pub mod WorkedFrames
 pub mod WorkedSteps
-mod Streams
+pub mod Streams
 pub mod Deciding

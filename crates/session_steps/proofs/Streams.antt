@@ -26,7 +26,7 @@ news_unmet : (s : State) (outcome : Outcome Reply BookError) (put : Put) → (af
 news_unmet s (Replied answer) put = refl
 news_unmet s (Faulted cause) put = refl
 
-call_unmet : (stage : Stage) (s : State) (call : PoolCall) (put : Put) → (after_call stage s call put).unmet ≡ s.unmet
+pub call_unmet : (stage : Stage) (s : State) (call : PoolCall) (put : Put) → (after_call stage s call put).unmet ≡ s.unmet
 call_unmet (Asking asked) s call put = asking_unmet s call.front call.outcome put
 call_unmet (Committing brief) s call put = booking_unmet s call.outcome put
 call_unmet Polling s call put = news_unmet s call.outcome put

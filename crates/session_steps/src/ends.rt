@@ -19,6 +19,8 @@ pub enum SessionEnd {
     BadSetup,
     /// The payload of a frame of this kind isn't its message.
     BadMessage(u8),
+    /// A line has more bytes than a line may have.
+    LineTooLong,
     /// No byte came for too many turns in a row.
     IdleOut,
     /// As many bytes came as are taken.

@@ -14,6 +14,7 @@ status_of_session (end.CutFrame bytes) = status.Refused
 status_of_session (end.TooLong length) = status.Refused
 status_of_session end.BadSetup = status.Refused
 status_of_session (end.BadMessage kind) = status.Refused
+status_of_session end.LineTooLong = status.Refused
 status_of_session end.IdleOut = status.Limit
 status_of_session end.BytesOut = status.Limit
 status_of_session end.PoolFull = status.Limit

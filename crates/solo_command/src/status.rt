@@ -28,7 +28,8 @@ fn session_status(reason: SessionEnd) -> Status
         SessionEnd::CutFrame(_)
         | SessionEnd::TooLong(_)
         | SessionEnd::BadSetup
-        | SessionEnd::BadMessage(_) => Status::Refused,
+        | SessionEnd::BadMessage(_)
+        | SessionEnd::LineTooLong => Status::Refused,
         SessionEnd::IdleOut | SessionEnd::BytesOut | SessionEnd::PoolFull => Status::Limit,
         SessionEnd::ReadFault => Status::ReadFault,
         SessionEnd::WriteFault => Status::WriteFault,

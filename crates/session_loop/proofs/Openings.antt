@@ -1,0 +1,334 @@
+-- How a session begins, by what its code did.
+use Rattle.std.proofs.Common.{◌≡◌, inl, inr, ℕ, ◌+◌, ◌-◌, ◌<◌, ◌≤◌, false, List, [], ◌∷◌, ◌++◌, Option, Some, None, Ok, Err, length, take, map, replicate, suc, zero, refl, sym, ap, subst, ◌∙◌, append-nil, length-append, arith}
+use Rattle.std.specs.Prelude.{IfSome}
+use Rattle.std.proofs.lemmas.List.{replicate_more}
+use Rattle.pool_io.specs.Seen.{SinkSeen}
+use Rattle.pool_io.specs.declared.source.Took.TheVariants as took
+use Rattle.pool_io.specs.declared.turn.Turn.{Turn}
+use Rattle.pool_io.specs.Outside.{TakesTurn, next_count}
+use Rattle.pool_io.specs.Steps.{BringsSteps, ReadStep, steps_of}
+use Rattle.pool_io.proofs.Stepping.{brought_all, brought_bytes, brought_idle, brought_none}
+use Rattle.link_turns.specs.declared.waiting.Waiting.{Waiting}
+use Rattle.link_turns.specs.Waits.{TakesOf, new_waiting, waiting_after}
+use Rattle.stream_commands.proofs.Puts.{Adds-none}
+use Rattle.pool_network.specs.Seen.{LinkSeen}
+use Rattle.sv2_frames.specs.Framing.{header_of}
+use Rattle.sv2_frames.specs.Holding.{IsCut}
+use Rattle.pool_history.specs.Calls.{PoolCall}
+use Rattle.session_steps.specs.declared.ends.SessionEnd.{SessionEnd}
+use Rattle.session_steps.specs.declared.ends.SessionEnd.TheVariants as end
+use Rattle.session_steps.specs.declared.manner.Manner.{Manner}
+use Rattle.session_steps.specs.Answers.{greeting}
+use Rattle.session_steps.specs.States.{Over, Put, Reading, State, failed_end, new_state, next_stage, nothing_put}
+use Rattle.session_steps.specs.Steps as steps
+use Rattle.session_steps.specs.Steps.{BeginsOver, CanTake, Follows, Greeted, Idled, SessionStep, Starved, after_step, at_stage, bytes_in_steps, bytes_of_frames, calls_in, put_in, reads_after, turns_in, writes_after}
+use Rattle.session_steps.specs.Talks.{new_talk}
+use Rattle.session_loop.specs.declared.beginning.FirstPiece.{FirstPiece}
+use Rattle.session_loop.specs.declared.conversation.Conversation.{Conversation}
+use Rattle.session_loop.specs.declared.listening.Listener.{Listener}
+use Rattle.session_loop.specs.Beginning.{Begins, EndedFirst, FailedFirst, FirstCame, GreetsAndWaits, HasWaited, IsRestOfSession, WaitsForBytes, begun_state, waited}
+use Rattle.session_loop.specs.Links.{PutsOut}
+use Rattle.session_loop.specs.Running.{Runs, TakesAll, has_ended}
+use Rattle.session_loop.specs.Sessions.{IsSession}
+use Rattle.session_loop.specs.Standing.{intake_with, state_at}
+use Rattle.session_loop.proofs.Chains.{Follows-append, runs_on, runs_put, runs_quiet}
+use Rattle.session_loop.proofs.Moves.{failed_leads, next_reads}
+
+-- ---- the turns that are taken
+
+-- fewer Idle turns came than are waited for
+pub record Waits (idle_turns : ℕ) (waiting : Waiting) (old new : LinkSeen) : Type 0 where
+  pub idles : ℕ
+  pub few : idles < idle_turns
+  pub counted : waiting ≡ waited idle_turns idles
+  pub came : HasWaited idles [] old new
+
+pub waits_none : (idle_turns : ℕ) (waiting : Waiting) (l : LinkSeen) → 0 < idle_turns → waiting ≡ new_waiting idle_turns → Waits idle_turns waiting l l
+waits_none idle_turns waiting l some is = record {
+  idles = 0;
+  few = some;
+  counted = is ∙ ap (λ n. record (new_waiting idle_turns) { idles = n }) (omega arith);
+  came = record { took = brought_none l.source.left; reads = refl; sink = refl };
+}
+
+-- so many Idle turns
+abbrev row : ℕ → List ReadStep
+row idles = replicate idles None
+
+row_more : (k : ℕ) → (row k ++ []) ++ None ∷ [] ≡ row (k + 1) ++ []
+row_more k = ap (λ l. l ++ None ∷ []) (append-nil (row k)) ∙ replicate_more k None ∙ sym (append-nil (row (k + 1)))
+
+module _ (idle_turns : ℕ) (waiting : Waiting) (old middle new : LinkSeen) (buffer : List ℕ) (waits : Waits idle_turns waiting old middle) where
+  idle_came : TakesOf took.Idle buffer middle new → HasWaited (waits.idles + 1) [] old new
+  idle_came takes = record {
+    took = subst (λ l. BringsSteps old.source.left new.source.left l) (row_more waits.idles)
+        (brought_idle old.source.left middle.source.left new.source.left (row waits.idles ++ []) buffer waits.came.took takes.turns);
+    reads = takes.counts ∙ waits.came.reads;
+    sink = takes.sink ∙ waits.came.sink;
+  }
+
+  pub idled_more : TakesOf took.Idle buffer middle new → (now : Waiting) → now ≡ waiting_after took.Idle waiting → (now.idles ≡ 0 → ⊥) → Waits idle_turns now old new
+  idled_more takes now is more =
+      let left : now.idles ≡ idle_turns - waits.idles - 1 = ap (λ (w : Waiting). w.idles) is ∙ ap (λ (w : Waiting). w.idles - 1) waits.counted in
+      let some : 0 < now.idles = elim-zero now.idles more in
+      record {
+        idles = waits.idles + 1;
+        few = omega (arith, left, some);
+        counted = is ∙ ap (waiting_after took.Idle) waits.counted
+            ∙ ap (λ n. record (new_waiting idle_turns) { idles = n }) (omega (arith, waits.few));
+        came = idle_came takes;
+      }
+    where
+      elim-zero : (n : ℕ) → (n ≡ 0 → ⊥) → 0 < n
+      elim-zero zero none = absurd (none refl)
+      elim-zero (suc n) none = omega arith
+
+  pub idled_out : TakesOf took.Idle buffer middle new → (now : Waiting) → now ≡ waiting_after took.Idle waiting → now.idles ≡ 0 → HasWaited idle_turns [] old new
+  idled_out takes now is none =
+      let left : now.idles ≡ idle_turns - waits.idles - 1 = ap (λ (w : Waiting). w.idles) is ∙ ap (λ (w : Waiting). w.idles - 1) waits.counted in
+      let all : waits.idles + 1 ≡ idle_turns = omega (arith, left, none, waits.few) in
+      subst (λ n. HasWaited n [] old new) all (idle_came takes)
+
+  pub bytes_came : (count : ℕ) → length (take count buffer) ≡ count → 0 < count → count ≤ 4096 → TakesOf (took.Bytes count) buffer middle new
+      → (now : Waiting) → now ≡ waiting_after (took.Bytes count) waiting → FirstCame idle_turns (take count buffer) now old new
+  bytes_came count len some short takes now is = record {
+    idles = waits.idles;
+    few = waits.few;
+    some = rw len some;
+    short = rw len short;
+    counted = rw len (is ∙ ap (waiting_after (took.Bytes count)) waits.counted);
+    came = record {
+      took = subst (λ l. BringsSteps old.source.left new.source.left (l ++ map Some (take count buffer))) (append-nil (row waits.idles))
+          (brought_bytes old.source.left middle.source.left new.source.left (row waits.idles ++ []) count buffer waits.came.took takes.turns);
+      reads = takes.counts ∙ waits.came.reads;
+      sink = takes.sink ∙ waits.came.sink;
+    };
+  }
+
+  pub input_ended : TakesOf took.End buffer middle new → EndedFirst idle_turns old new
+  input_ended takes = record {
+    idles = waits.idles;
+    few = waits.few;
+    came = record {
+      took = end_brings old.source.left middle.source.left new.source.left (row waits.idles ++ []) waits.came.took takes.turns;
+      reads = takes.counts ∙ waits.came.reads;
+      sink = takes.sink ∙ waits.came.sink;
+    };
+    all = all_came old.source.left middle.source.left new.source.left waits.came.took takes.turns;
+  }
+    where
+      end_brings : (a b c : Option (List Turn)) (l : List ReadStep) → BringsSteps a b l → TakesTurn b c took.End buffer → BringsSteps a c l
+      end_brings None b c l brought takes = tt
+      end_brings (Some told) b c l brought takes =
+          let ended = rw brought.1 at takes in
+          (ended.0, ended.1, brought.2 ∙ ap (λ t. l ++ steps_of t) (sym ended.2.1))
+
+      all_came : (a b c : Option (List Turn)) → BringsSteps a b (row waits.idles ++ []) → TakesTurn b c took.End buffer
+          → IfSome a (λ turns. steps_of turns ≡ row waits.idles)
+      all_came None b c brought takes = tt
+      all_came (Some told) b c brought takes =
+          brought_all told b c (row waits.idles ++ []) buffer brought takes ∙ append-nil (row waits.idles)
+
+  pub take_failed : TakesOf took.Failed buffer middle new → FailedFirst idle_turns old new
+  take_failed takes = record {
+    idles = waits.idles;
+    few = waits.few;
+    took = fail_brings old.source.left middle.source.left new.source.left waits.came.took takes.turns;
+    reads = takes.counts ∙ ap next_count waits.came.reads;
+    sink = takes.sink ∙ waits.came.sink;
+  }
+    where
+      fail_brings : (a b c : Option (List Turn)) → BringsSteps a b (row waits.idles ++ []) → TakesTurn b c took.Failed buffer
+          → BringsSteps a c (row waits.idles)
+      fail_brings None b c brought takes = tt
+      fail_brings (Some told) b c brought takes =
+          let failed = rw brought.1 at takes in (
+            failed.0,
+            failed.1,
+            brought.2 ∙ ap (λ l. l ++ steps_of brought.0) (append-nil (row waits.idles)) ∙ ap (λ t. row waits.idles ++ steps_of t) (sym failed.2),
+          )
+
+-- ---- the steps that these are
+
+-- what Idle turns do, before other steps
+turns_idle : (k : ℕ) (xs : List SessionStep) → turns_in (replicate k Idled ++ xs) ≡ row k ++ turns_in xs
+turns_idle zero xs = refl
+turns_idle (suc k) xs = ap (λ l. None ∷ l) (turns_idle k xs)
+
+calls_idle : (k : ℕ) (xs : List SessionStep) → calls_in (replicate k Idled ++ xs) ≡ calls_in xs
+calls_idle zero xs = refl
+calls_idle (suc k) xs = calls_idle k xs
+
+bytes_idle : (k : ℕ) (xs : List SessionStep) → bytes_in_steps (replicate k Idled ++ xs) ≡ bytes_in_steps xs
+bytes_idle zero xs = refl
+bytes_idle (suc k) xs = bytes_idle k xs
+
+reads_idle : (count k : ℕ) (xs : List SessionStep) → reads_after count (replicate k Idled ++ xs) ≡ reads_after count xs
+reads_idle count zero xs = refl
+reads_idle count (suc k) xs = reads_idle count k xs
+
+writes_idle : (count k : ℕ) (xs : List SessionStep) → writes_after count (replicate k Idled ++ xs) ≡ writes_after count xs
+writes_idle count zero xs = refl
+writes_idle count (suc k) xs = writes_idle count k xs
+
+ended_idle : (k : ℕ) (xs : List SessionStep) → has_ended (replicate k Idled ++ xs) ≡ has_ended xs
+ended_idle zero xs = refl
+ended_idle (suc k) xs = ended_idle k xs
+
+-- a session that took no bytes yet waits for them
+no_header : (len : ℕ) → ¬ BeginsOver len []
+no_header len begins =
+    let six : length (header_of begins.ext begins.kind len) ≡ 6 = refl in
+    let parts : 0 ≡ length (header_of begins.ext begins.kind len) + length begins.more =
+    ap length begins.header ∙ length-append (header_of begins.ext begins.kind len) begins.more in
+    omega (arith, six, parts)
+
+nothing_cut : IsCut []
+nothing_cut = record {
+  frame = record { ext = 0; kind = 0; payload = [] };
+  fits = record { ext_fits = omega arith; kind_fits = omega arith; length_fits = omega arith };
+  missing = header_of 0 0 0 ++ [];
+  some = λ none. absurd (omega (arith, ap length none));
+  whole = refl;
+}
+
+-- it, with so many Idle turns still waited for
+abbrev idle_state : Manner → ℕ → State
+idle_state manner idles = record (new_state manner) { stage = Reading; idles = idles }
+
+can_take : (manner : Manner) (idles : ℕ) → CanTake (idle_state manner idles)
+can_take manner idles = record {
+  waiting = record { reading = refl; cut = nothing_cut; not_over = no_header };
+  some = omega arith;
+}
+
+idles_follow : (worker : ℕ) (manner : Manner) (k idles : ℕ) → k < idles → Follows worker (idle_state manner idles) (replicate k Idled) (idle_state manner (idles - k))
+idles_follow worker manner zero idles few = ap (idle_state manner) (omega arith)
+idles_follow worker manner (suc k) idles few =
+    let reads : next_stage false (idles - 1) ≡ Reading = next_reads false (idles - 1) (omega (arith, few)) in
+    let less : idles - 1 - k ≡ idles - suc k = omega arith in (
+      can_take manner idles,
+      rw (reads, ← less) (idles_follow worker manner k (idles - 1) (omega (arith, few))),
+    )
+
+module _ {A : Type 0} {worker : A → ℕ} {does : A → PoolCall → A → Type 0} {l l' : LinkSeen} {a : A} (manner : Manner) where
+  -- Idle turns and one step more
+  idle_runs : (k : ℕ) (x : SessionStep) (to : State) → k < manner.idle_turns → steps.CanStep (worker a) (idle_state manner (manner.idle_turns - k)) x
+      → to ≡ after_step (idle_state manner (manner.idle_turns - k)) x
+      → BringsSteps l.source.left l'.source.left (row k ++ steps.turn_in x) → TakesAll (has_ended (x ∷ [])) l.source.left (row k ++ steps.turn_in x)
+      → l'.source.faults ≡ steps.reads_after_step l.source.faults x → l'.sink ≡ l.sink → put_in x ≡ nothing_put → steps.call_in x ≡ []
+      → Runs worker does (idle_state manner manner.idle_turns) to l l' a a
+  idle_runs k x to few can leads took all reads sink put calls =
+      let xs = replicate k Idled in
+      let turns : turns_in (xs ++ x ∷ []) ≡ row k ++ steps.turn_in x = turns_idle k (x ∷ []) ∙ ap (λ m. row k ++ m) (append-nil (steps.turn_in x)) in
+      let same = ap (λ (s : SinkSeen). s.held) sink in
+      record {
+        steps = xs ++ x ∷ [];
+        follows = Follows-append (worker a) (idle_state manner manner.idle_turns) (idle_state manner (manner.idle_turns - k)) to xs (x ∷ [])
+            (idles_follow (worker a) manner k manner.idle_turns few) (can, leads);
+        took = rw turns took;
+        ended = rw (turns, ended_idle k (x ∷ [])) all;
+        put = rw (bytes_idle k (x ∷ []), append-nil (put_in x).bytes, put, same) (Adds-none l.sink.held);
+        reads = reads ∙ sym (reads_idle l.source.faults k (x ∷ []));
+        writes = ap (λ (s : SinkSeen). s.faults) sink ∙ ap (λ (p : Put). steps.writes_after_put l.sink.faults p.fault) (sym put) ∙ sym (writes_idle l.sink.faults k (x ∷ []));
+        acts = rw (calls_idle k (x ∷ []), append-nil (steps.call_in x), calls) refl;
+        same = refl;
+      }
+
+module _ {A : Type 0} {worker : A → ℕ} {does : A → PoolCall → A → Type 0} {old : LinkSeen} {a : A} (manner : Manner) where
+  greeted : {l : LinkSeen} → PutsOut (bytes_of_frames (greeting manner.role)) None old l → Runs worker does (new_state manner) (idle_state manner manner.idle_turns) old l a a
+  greeted puts =
+      runs_put (Greeted (record { bytes = puts.bytes; fault = None })) (bytes_of_frames (greeting manner.role)) None puts (refl, puts.front)
+      refl refl refl refl refl (λ n. refl)
+
+module _ {A : Type 0} {worker : A → ℕ} {does : A → PoolCall → A → Type 0} {old new : LinkSeen} {a : A} (manner : Manner) (waits : 0 < manner.idle_turns) where
+  -- the first bytes came
+  pub begun_runs : (buffer : List ℕ) (first : FirstPiece) → GreetsAndWaits manner buffer old new (Ok first)
+      → Runs worker does (new_state manner) (begun_state manner first.waiting (take first.count buffer)) old new a a
+  begun_runs buffer first begins =
+      let came = begins.waits.1 in
+      let piece = take first.count buffer in
+      runs_on (greeted manner begins.puts)
+      (idle_runs manner came.idles (steps.Took piece) (begun_state manner first.waiting piece) came.few
+      (record {
+        can = can_take manner (manner.idle_turns - came.idles);
+        some = came.some;
+        piece = came.short;
+        within = omega (arith, came.short);
+      })
+      (rw came.counted refl) came.came.took tt came.came.reads came.came.sink refl refl)
+
+  -- or the session is over before
+  pub over_runs : (buffer : List ℕ) (reason : SessionEnd) → Begins manner buffer old new (Err reason) → IsSession worker does manner old new a a reason
+  over_runs buffer reason (inl begins) = waited_out reason begins.waits
+    where
+      waited_out : (reason : SessionEnd) → WaitsForBytes manner.idle_turns buffer begins.greeted new (Err reason) → IsSession worker does manner old new a a reason
+      waited_out end.Done ended =
+          let s = idle_state manner (manner.idle_turns - ended.idles) in
+          record {
+            last = after_step s steps.Ended;
+            over = refl;
+            runs = runs_on (greeted manner begins.puts)
+                (idle_runs manner ended.idles steps.Ended (after_step s steps.Ended) ended.few (can_take manner (manner.idle_turns - ended.idles)) refl
+                ended.came.took (rw (append-nil (row ended.idles)) ended.all) ended.came.reads ended.came.sink refl refl);
+          }
+      waited_out end.ReadFault failed =
+          let s = idle_state manner (manner.idle_turns - failed.idles) in
+          record {
+            last = after_step s steps.Missed;
+            over = refl;
+            runs = runs_on (greeted manner begins.puts)
+                (idle_runs manner failed.idles steps.Missed (after_step s steps.Missed) failed.few (can_take manner (manner.idle_turns - failed.idles)) refl
+                (rw (append-nil (row failed.idles)) failed.took) tt failed.reads failed.sink refl refl);
+          }
+      waited_out end.IdleOut out =
+          let n = manner.idle_turns in
+          let s = idle_state manner (n - (n - 1)) in
+          let one : n - (n - 1) ≡ 1 = omega (arith, waits) in
+          let all : row (n - 1) ++ None ∷ [] ≡ row n ++ [] =
+          replicate_more (n - 1) None ∙ ap (λ m. row m) (omega (arith, waits)) ∙ sym (append-nil (row n)) in
+          record {
+            last = after_step s Idled;
+            over = rw one refl;
+            runs = runs_on (greeted manner begins.puts)
+                (idle_runs manner (n - 1) Idled (after_step s Idled) (omega (arith, waits)) (can_take manner (n - (n - 1))) refl
+                (rw all out.took) tt out.reads out.sink refl refl);
+          }
+      waited_out _ ended = absurd ended
+  over_runs buffer reason (inr ungreeted) =
+      let put : Put = record { bytes = ungreeted.puts.bytes; fault = Some ungreeted.cause } in
+      let is : reason ≡ failed_end ungreeted.cause = cc in
+      record {
+        last = after_step (new_state manner) (Greeted put);
+        over = failed_leads ungreeted.cause false Reading ∙ ap Over (sym is);
+        runs = runs_put (Greeted put) (bytes_of_frames (greeting manner.role)) (Some ungreeted.cause) ungreeted.puts (refl, ungreeted.puts.front)
+            refl refl refl refl refl (λ n. refl);
+      }
+
+-- ---- what follows
+
+-- the first bytes are what is met first
+pub begun_is : (listener : Listener) (c : Conversation) (manner : Manner) (waiting : Waiting) (piece : List ℕ) → listener.waiting ≡ waiting → listener.splitter.held ≡ []
+    → c.session ≡ new_talk manner.role manner.rolling → c.entered ≡ false → c.cursor ≡ 0
+    → state_at Reading (intake_with piece listener) c ≡ begun_state manner waiting piece
+begun_is listener c manner waiting piece waits none talk entered cursor = rw (waits, none, talk, entered, cursor) refl
+
+module _ {A : Type 0} {worker : A → ℕ} {does : A → PoolCall → A → Type 0} where
+  -- memory ran out for what follows
+  pub unread_runs : {l : LinkSeen} {a : A} (manner : Manner) (waiting : Waiting) (piece : List ℕ)
+      → IsRestOfSession worker does (begun_state manner waiting piece) l l a a end.Memory
+  unread_runs manner waiting piece = record {
+    last = after_step (begun_state manner waiting piece) Starved;
+    over = refl;
+    runs = runs_quiet Starved tt refl refl refl refl refl (λ n. refl);
+  }
+
+  pub begun_session : {old middle new : LinkSeen} {a a' : A} (manner : Manner) → 0 < manner.idle_turns → (buffer : List ℕ) (first : FirstPiece) {reason : SessionEnd}
+      → Begins manner buffer old middle (Ok first) → IsRestOfSession worker does (begun_state manner first.waiting (take first.count buffer)) middle new a a' reason
+      → IsSession worker does manner old new a a' reason
+  begun_session manner waits buffer first (inl begins) rest = record {
+    last = rest.last;
+    over = rest.over;
+    runs = runs_on (begun_runs manner waits buffer first begins) rest.runs;
+  }
+  begun_session manner waits buffer first (inr ungreeted) rest = cc
