@@ -5,6 +5,8 @@ use Rattle.sv2_messages.specs.Tables.{mining_table}
 use Rattle.v1_lines.specs.Replies.{written_line}
 use Rattle.v1_rules.specs.Asked.{open_message, share_message, update_message}
 use Rattle.v1_rules.specs.State.{V1State, Saying, saying_value, Asking, Silence, Open, Update, Share, Name, Reaction}
+use Rattle.v1_translate.specs.declared.asking.V1Ask.{V1Ask}
+use Rattle.v1_translate.specs.declared.asking.V1Ask.TheVariants as asks
 use Rattle.v1_translate.specs.declared.step.V1Step.{V1Step}
 use Rattle.v1_translate.specs.declared.step.V1Step.TheVariants as steps
 
@@ -20,6 +22,14 @@ with_lines before (said ∷ more) = with_lines (before ++ line_of said) more
 -- the frame of a message
 unfoldable pub frame_of_message : Message → List ℕ
 frame_of_message message = message_frame mining_table message
+
+-- what is asked, as it is handed on
+abbrev pub asking_of : V1Ask → Asking
+asking_of asks.Nothing = Silence
+asking_of (asks.Open class) = Open class
+asking_of (asks.Update channel class) = Update channel class
+asking_of (asks.Share share) = Share share
+asking_of (asks.Name account) = Name account
 
 -- bytes, and behind them the frame of what is asked by a message
 abbrev pub with_frame : List ℕ → Asking → List ℕ
@@ -47,7 +57,3 @@ pub record Says (reaction : Reaction) (after : V1State) (before said : List ℕ)
 pub record Asks (asking : Asking) (step : V1Step) (before sent : List ℕ) : Type 0 where
   pub told : step ≡ step_of asking
   pub frame : sent ≡ with_frame before asking
-
--- it asks for this, and puts no frame
-abbrev pub AsksBare : Asking → V1Step → Type 0
-AsksBare asking step = (before : List ℕ) → Asks asking step before before

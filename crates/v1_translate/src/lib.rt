@@ -14,6 +14,8 @@ mod step;
 mod terms;
 mod waiting;
 
+pub use asking::V1Ask;
 pub use session::V1Session;
+pub use shares::CheckedShare;
 pub use step::V1Step;
 pub use terms::V1Terms;

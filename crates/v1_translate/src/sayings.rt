@@ -5,8 +5,10 @@ ghost use Rattle.serde_json.specs.View.{view};
 ghost use Rattle.serde_json.specs.Written.{has_float};
 ghost use Rattle.v1_lines.specs.Jobs.{job_of};
 ghost use Rattle.v1_rules.specs.State as state;
+ghost use Rattle.v1_translate.specs.declared.asking.V1Ask.TheVariants as asks;
 ghost use Rattle.v1_translate.specs.Saying.{line_of};
 
+use crate::asking::V1Ask;
 use crate::ids::LineId;
 use serde_json::Value;
 use std::alloc::{AllocError, Global};
@@ -44,6 +46,21 @@ pub(crate) fn say_refusal(
 {
     let reply = error_reply(alloc, id.into_value(), error)?;
     put_line(alloc, &reply, out)
+}
+
+/// Appends the error that a request is refused by: nothing is asked of the pool.
+pub(crate) fn refuse(
+    alloc: Global,
+    id: LineId,
+    error: V1Error,
+    out: &mut Vec<u8>,
+) -> Result<V1Ask, AllocError>
+    ensures says { IfOk result (λ ask. out.new.items
+        ≡ out.old.items ++ line_of (state.Refusal id error)) }
+    ensures asks { IfOk result (λ ask. ask ≡ asks.Nothing) }
+{
+    say_refusal(alloc, id, error, out)?;
+    Ok(V1Ask::Nothing)
 }
 
 /// Appends the error that a code of Stratum V2 becomes.

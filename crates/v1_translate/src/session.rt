@@ -1,16 +1,17 @@
 //! What one session knows, and its public calls.
 
-use crate::asking::{ask_opening, ask_share, ask_update};
+use crate::asking::{V1Ask, put_ask};
 use crate::configuring::{configuration_in, configured_value, granted};
 use crate::ids::LineId;
 use crate::jobs::{HeldJob, HeldTip, Jobs};
-use crate::sayings::{say_answer, say_code, say_difficulty, say_job, say_refusal};
+use crate::sayings::{refuse, say_answer, say_code, say_difficulty, say_job, say_refusal};
 use crate::shares::{CheckedShare, NotSent, say_not_sent, works_for};
 use crate::step::V1Step;
 use crate::terms::V1Terms;
 use crate::waiting::{WaitingName, WaitingShare, put_waiting, take_waiting};
 use channels::{account_in, is_known_account};
 use mining_msgs::{Mining, NewExtendedMiningJob, OpenExtendedMiningChannelSuccess, SetNewPrevHash};
+use pool_history::Class;
 use serde_json::Value;
 use std::alloc::{AllocError, Global};
 use std::marker::Model;
@@ -71,7 +72,7 @@ impl V1Session {
     ghost use Rattle.v1_translate.specs.Asked as asked;
     ghost use Rattle.v1_translate.specs.Messages.{job_in, tip_in};
     ghost use Rattle.v1_translate.specs.Shares.{checked_by};
-    ghost use Rattle.v1_translate.specs.Saying.{Asks, AsksBare, Says, line_of};
+    ghost use Rattle.v1_translate.specs.Saying.{Asks, Says, asking_of, line_of};
 
     /// A session that heard nothing.
     pub fn new(alloc: Global) -> V1Session
@@ -89,10 +90,16 @@ impl V1Session {
         }
     }
 
+    /// The channel, once it is open.
+    pub fn channel(&self) -> Option<u32>
+        ensures { result ≡ self.now.channel }
+    {
+        self.channel
+    }
+
     /// Hears a line of the miner, without its end. Appends what is said to `out`, and to `up` the
     /// frame of what is asked of the pool. Where memory runs out, nothing is told of what was
     /// appended or of the state.
-    #[tactic(auto, unfolding(v1_rules::specs::Lines::line_reaction))]
     pub fn on_line(
         &mut self,
         alloc: Global,
@@ -108,15 +115,33 @@ impl V1Session {
             (lines.line_reaction terms.now self.old line.now).asks
             step up.old.items up.new.items) }
     {
+        let ask = self.hear_line(alloc, terms, line, out)?;
+        put_ask(ask, up)
+    }
+
+    /// Hears a line of the miner, without its end. Appends what is said to `out`, and answers what
+    /// is asked of the pool. Where memory runs out, nothing is told of what was appended or of the
+    /// state.
+    #[tactic(auto, unfolding(v1_rules::specs::Lines::line_reaction))]
+    pub fn hear_line(
+        &mut self,
+        alloc: Global,
+        terms: &V1Terms,
+        line: &[u8],
+        out: &mut Vec<u8>,
+    ) -> Result<V1Ask, AllocError>
+        ensures says { IfOk result (λ ask. Says
+            (lines.line_reaction terms.now self.old line.now)
+            self.new out.old.items out.new.items) }
+        ensures asks { IfOk result (λ ask. asking_of ask
+            ≡ (lines.line_reaction terms.now self.old line.now).asks) }
+    {
         if is_blank_line(line) {
-            return Ok(V1Step::Said);
+            return Ok(V1Ask::Nothing);
         }
         match line_value(alloc, line)? {
-            Some(value) => self.on_value(alloc, terms, &value, up, out),
-            None => {
-                say_refusal(alloc, LineId::none(), V1Error::MalformedRequest, out)?;
-                Ok(V1Step::Said)
-            }
+            Some(value) => self.on_value(alloc, terms, &value, out),
+            None => refuse(alloc, LineId::none(), V1Error::MalformedRequest, out),
         }
     }
 
@@ -126,23 +151,18 @@ impl V1Session {
         alloc: Global,
         terms: &V1Terms,
         value: &Value,
-        up: &mut Vec<u8>,
         out: &mut Vec<u8>,
-    ) -> Result<V1Step, AllocError>
-        ensures says { IfOk result (λ step. Says
+    ) -> Result<V1Ask, AllocError>
+        ensures says { IfOk result (λ ask. Says
             (lines.by_value terms.now self.old (Some (view value.now)))
             self.new out.old.items out.new.items) }
-        ensures asks { IfOk result (λ step. Asks
-            (lines.by_value terms.now self.old (Some (view value.now))).asks
-            step up.old.items up.new.items) }
+        ensures asks { IfOk result (λ ask. asking_of ask
+            ≡ (lines.by_value terms.now self.old (Some (view value.now))).asks) }
     {
         let id = LineId::of(value)?;
         match call_in(value) {
-            Some(call) => self.on_call(alloc, terms, id, &call, up, out),
-            None => {
-                say_refusal(alloc, id, V1Error::MalformedRequest, out)?;
-                Ok(V1Step::Said)
-            }
+            Some(call) => self.on_call(alloc, terms, id, &call, out),
+            None => refuse(alloc, id, V1Error::MalformedRequest, out),
         }
     }
 
@@ -153,32 +173,27 @@ impl V1Session {
         terms: &V1Terms,
         id: LineId,
         call: &MethodCall<'_>,
-        up: &mut Vec<u8>,
         out: &mut Vec<u8>,
-    ) -> Result<V1Step, AllocError>
-        ensures says { IfOk result (λ step. Says
+    ) -> Result<V1Ask, AllocError>
+        ensures says { IfOk result (λ ask. Says
             (lines.by_method terms.now self.old id (items_view call.now.params.now)
             (lines.method_of call.now.method.now))
             self.new out.old.items out.new.items) }
-        ensures asks { IfOk result (λ step. Asks
-            (lines.by_method terms.now self.old id (items_view call.now.params.now)
-            (lines.method_of call.now.method.now)).asks
-            step up.old.items up.new.items) }
+        ensures asks { IfOk result (λ ask. asking_of ask
+            ≡ (lines.by_method terms.now self.old id (items_view call.now.params.now)
+            (lines.method_of call.now.method.now)).asks) }
     {
         match Method::of(call.method) {
             Method::Configure => self.configure(alloc, terms, id, call, out),
-            Method::Subscribe => self.subscribe(alloc, terms, id, up, out),
+            Method::Subscribe => self.subscribe(alloc, terms, id, out),
             Method::Authorize => self.authorize(alloc, terms, id, call, out),
-            Method::SuggestDifficulty => self.suggest(alloc, terms, id, call, up, out),
+            Method::SuggestDifficulty => self.suggest(alloc, terms, id, call, out),
             Method::SubscribeExtranonce => {
                 say_answer(alloc, id, Value::Bool(true), out)?;
-                Ok(V1Step::Said)
+                Ok(V1Ask::Nothing)
             }
-            Method::Submit => self.submit(alloc, id, call, up, out),
-            Method::Unknown => {
-                say_refusal(alloc, id, V1Error::UnknownMethod, out)?;
-                Ok(V1Step::Said)
-            }
+            Method::Submit => self.submit(alloc, id, call, out),
+            Method::Unknown => refuse(alloc, id, V1Error::UnknownMethod, out),
         }
     }
 
@@ -190,18 +205,17 @@ impl V1Session {
         id: LineId,
         call: &MethodCall<'_>,
         out: &mut Vec<u8>,
-    ) -> Result<V1Step, AllocError>
-        ensures says { IfOk result (λ step. Says
+    ) -> Result<V1Ask, AllocError>
+        ensures says { IfOk result (λ ask. Says
             (configuring.configured terms.now self.old id
             (configuring.configuration_in (items_view call.now.params.now)))
             self.new out.old.items out.new.items) }
-        ensures asks { IfOk result (λ step. AsksBare
-            (configuring.configured terms.now self.old id
-            (configuring.configuration_in (items_view call.now.params.now))).asks step) }
+        ensures asks { IfOk result (λ ask. asking_of ask
+            ≡ (configuring.configured terms.now self.old id
+            (configuring.configuration_in (items_view call.now.params.now))).asks) }
     {
         let Some(configuration) = configuration_in(alloc, call)? else {
-            say_refusal(alloc, id, V1Error::MalformedRequest, out)?;
-            return Ok(V1Step::Said);
+            return refuse(alloc, id, V1Error::MalformedRequest, out);
         };
         let mask = granted(terms.rules(), &configuration);
         let answer = configured_value(alloc, configuration.names.as_slice(), mask)?;
@@ -209,7 +223,7 @@ impl V1Session {
             self.mask = mask;
         }
         say_answer(alloc, id, answer, out)?;
-        Ok(V1Step::Said)
+        Ok(V1Ask::Nothing)
     }
 
     /// `mining.subscribe`: one opening, once more until it succeeds.
@@ -218,22 +232,19 @@ impl V1Session {
         alloc: Global,
         terms: &V1Terms,
         id: LineId,
-        up: &mut Vec<u8>,
         out: &mut Vec<u8>,
-    ) -> Result<V1Step, AllocError>
-        ensures says { IfOk result (λ step. Says
+    ) -> Result<V1Ask, AllocError>
+        ensures says { IfOk result (λ ask. Says
             (lines.subscribed terms.now self.old id self.old.channel)
             self.new out.old.items out.new.items) }
-        ensures asks { IfOk result (λ step. Asks
-            (lines.subscribed terms.now self.old id self.old.channel).asks
-            step up.old.items up.new.items) }
+        ensures asks { IfOk result (λ ask. asking_of ask
+            ≡ (lines.subscribed terms.now self.old id self.old.channel).asks) }
     {
         if self.channel.is_some() {
-            say_refusal(alloc, id, V1Error::AlreadySubscribed, out)?;
-            return Ok(V1Step::Said);
+            return refuse(alloc, id, V1Error::AlreadySubscribed, out);
         }
         self.subscriber = Some(id);
-        ask_opening(terms.base(), up)
+        Ok(V1Ask::Open(Class::of(terms.base())))
     }
 
     /// `mining.authorize`: the pool is asked where the account is known.
@@ -244,26 +255,22 @@ impl V1Session {
         id: LineId,
         call: &MethodCall<'_>,
         out: &mut Vec<u8>,
-    ) -> Result<V1Step, AllocError>
-        ensures says { IfOk result (λ step. Says
+    ) -> Result<V1Ask, AllocError>
+        ensures says { IfOk result (λ ask. Says
             (lines.with_channel self.old id (λ channel. lines.authorized terms.now self.old id
             (requests.text_at 0 (items_view call.now.params.now))) self.old.channel)
             self.new out.old.items out.new.items) }
-        ensures asks { IfOk result (λ step. AsksBare
-            (lines.with_channel self.old id (λ channel. lines.authorized terms.now self.old id
+        ensures asks { IfOk result (λ ask. asking_of ask
+            ≡ (lines.with_channel self.old id (λ channel. lines.authorized terms.now self.old id
             (requests.text_at 0 (items_view call.now.params.now))) self.old.channel).asks
-            step) }
+            ) }
     {
         if self.channel.is_none() {
-            say_refusal(alloc, id, V1Error::NotSubscribed, out)?;
-            return Ok(V1Step::Said);
+            return refuse(alloc, id, V1Error::NotSubscribed, out);
         }
         match call.text_at(0) {
             Some(user) => self.ask_name(alloc, terms, id, account_in(user), out),
-            None => {
-                say_refusal(alloc, id, V1Error::MalformedRequest, out)?;
-                Ok(V1Step::Said)
-            }
+            None => refuse(alloc, id, V1Error::MalformedRequest, out),
         }
     }
 
@@ -275,21 +282,20 @@ impl V1Session {
         id: LineId,
         account: &str,
         out: &mut Vec<u8>,
-    ) -> Result<V1Step, AllocError>
-        ensures says { IfOk result (λ step. Says
+    ) -> Result<V1Ask, AllocError>
+        ensures says { IfOk result (λ ask. Says
             (asked.name_asked terms.now self.old id account.now)
             self.new out.old.items out.new.items) }
-        ensures asks { IfOk result (λ step. AsksBare
-            (asked.name_asked terms.now self.old id account.now).asks step) }
+        ensures asks { IfOk result (λ ask. asking_of ask
+            ≡ (asked.name_asked terms.now self.old id account.now).asks) }
     {
         if !is_known_account(terms.rules(), account) {
-            say_refusal(alloc, id, V1Error::UnauthorizedWorker, out)?;
-            return Ok(V1Step::Said);
+            return refuse(alloc, id, V1Error::UnauthorizedWorker, out);
         }
         let asked = Str255::of(alloc, account)?;
         let kept = Str255::of(alloc, account)?;
         self.naming = Some(WaitingName::new(id, kept));
-        Ok(V1Step::Name(asked))
+        Ok(V1Ask::Name(asked))
     }
 
     /// `mining.suggest_difficulty`: another target is asked for, where there is a channel.
@@ -299,25 +305,24 @@ impl V1Session {
         terms: &V1Terms,
         id: LineId,
         call: &MethodCall<'_>,
-        up: &mut Vec<u8>,
         out: &mut Vec<u8>,
-    ) -> Result<V1Step, AllocError>
+    ) -> Result<V1Ask, AllocError>
         ensures says { IfOk result (λ step. out.new.items
             ≡ out.old.items ++ line_of (state.Answer id lines.yes)) }
-        ensures asks { IfOk result (λ step. Asks
-            (lines.suggested terms.now self.now.channel
-            (asked_difficulty (get_item 0 (items_view call.now.params.now))))
-            step up.old.items up.new.items) }
+        ensures asks { IfOk result (λ ask. asking_of ask
+            ≡ (lines.suggested terms.now self.now.channel
+            (asked_difficulty (get_item 0 (items_view call.now.params.now))))) }
     {
         say_answer(alloc, id, Value::Bool(true), out)?;
         let Some(channel) = self.channel else {
-            return Ok(V1Step::Said);
+            return Ok(V1Ask::Nothing);
         };
         match asked_difficulty(call.params.first()) {
             Some(difficulty) => {
-                ask_update(channel, class_of_difficulty(terms.base(), difficulty), up)
+                let class = class_of_difficulty(terms.base(), difficulty);
+                Ok(V1Ask::Update(channel, Class::of(class)))
             }
-            None => Ok(V1Step::Said),
+            None => Ok(V1Ask::Nothing),
         }
     }
 
@@ -531,28 +536,22 @@ impl V1Session {
         alloc: Global,
         id: LineId,
         call: &MethodCall<'_>,
-        up: &mut Vec<u8>,
         out: &mut Vec<u8>,
-    ) -> Result<V1Step, AllocError>
-        ensures says { IfOk result (λ step. Says
+    ) -> Result<V1Ask, AllocError>
+        ensures says { IfOk result (λ ask. Says
             (lines.with_channel self.old id (λ channel. submitting.submitted self.old id channel
             (submitting.asked_share (items_view call.now.params.now))) self.old.channel)
             self.new out.old.items out.new.items) }
-        ensures asks { IfOk result (λ step. Asks
-            (lines.with_channel self.old id (λ channel. submitting.submitted self.old id channel
-            (submitting.asked_share (items_view call.now.params.now))) self.old.channel).asks
-            step up.old.items up.new.items) }
+        ensures asks { IfOk result (λ ask. asking_of ask
+            ≡ (lines.with_channel self.old id (λ channel. submitting.submitted self.old id channel
+            (submitting.asked_share (items_view call.now.params.now))) self.old.channel).asks) }
     {
         let Some(channel) = self.channel else {
-            say_refusal(alloc, id, V1Error::NotSubscribed, out)?;
-            return Ok(V1Step::Said);
+            return refuse(alloc, id, V1Error::NotSubscribed, out);
         };
         match asked_share(call) {
-            Some(asked) => self.submit_asked(alloc, id, channel, &asked, up, out),
-            None => {
-                say_refusal(alloc, id, V1Error::MalformedRequest, out)?;
-                Ok(V1Step::Said)
-            }
+            Some(asked) => self.submit_asked(alloc, id, channel, &asked, out),
+            None => refuse(alloc, id, V1Error::MalformedRequest, out),
         }
     }
 
@@ -563,23 +562,21 @@ impl V1Session {
         id: LineId,
         channel: u32,
         asked: &AskedShare<'_>,
-        up: &mut Vec<u8>,
         out: &mut Vec<u8>,
-    ) -> Result<V1Step, AllocError>
-        ensures says { IfOk result (λ step. Says
+    ) -> Result<V1Ask, AllocError>
+        ensures says { IfOk result (λ ask. Says
             (submitting.sent_or_refused self.old id
             (submitting.checked_share self.old channel (submitting.asked_by asked.now)))
             self.new out.old.items out.new.items) }
-        ensures asks { IfOk result (λ step. Asks
-            (submitting.sent_or_refused self.old id
-            (submitting.checked_share self.old channel (submitting.asked_by asked.now))).asks
-            step up.old.items up.new.items) }
+        ensures asks { IfOk result (λ ask. asking_of ask
+            ≡ (submitting.sent_or_refused self.old id
+            (submitting.checked_share self.old channel (submitting.asked_by asked.now))).asks) }
     {
         match self.checked(alloc, channel, asked)? {
-            Ok(share) => self.send(id, &share, up),
+            Ok(share) => self.send(id, share),
             Err(why) => {
                 say_not_sent(alloc, id, why, out)?;
-                Ok(V1Step::Said)
+                Ok(V1Ask::Nothing)
             }
         }
     }
@@ -618,19 +615,13 @@ impl V1Session {
     }
 
     /// Sends a share on, and waits for its answer.
-    fn send(
-        &mut self,
-        id: LineId,
-        share: &CheckedShare,
-        up: &mut Vec<u8>,
-    ) -> Result<V1Step, AllocError>
-        ensures after { IfOk result (λ step. self.new
-            ≡ (submitting.sent_or_refused self.old id (Ok share.now)).after) }
-        ensures asks { IfOk result (λ step. Asks
-            (state.Share share.now) step up.old.items up.new.items) }
+    fn send(&mut self, id: LineId, share: CheckedShare) -> Result<V1Ask, AllocError>
+        ensures after { IfOk result (λ ask. self.new
+            ≡ (submitting.sent_or_refused self.old id (Ok share)).after) }
+        ensures asks { IfOk result (λ ask. asking_of ask ≡ state.Share share) }
     {
         put_waiting(&mut self.waiting, self.sequence, id)?;
         self.sequence = self.sequence.wrapping_add(1);
-        ask_share(share, up)
+        Ok(V1Ask::Share(share))
     }
 }

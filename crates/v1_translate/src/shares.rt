@@ -14,9 +14,9 @@ use sv2_types::Str255;
 use v1_lines::V1Error;
 use v1_rules::SentShare;
 
-/// A submission that may be sent on.
+/// A submission that may be sent on, with at most 32 bytes of extranonce.
 #[derive(Drop)]
-pub(crate) struct CheckedShare {
+pub struct CheckedShare {
     pub(crate) channel: u32,
     pub(crate) sequence: u32,
     pub(crate) job: u32,
@@ -52,7 +52,7 @@ impl CheckedShare {
     ghost use Rattle.v1_translate.specs.Small.{IsSmall};
 
     /// The share itself, which takes no memory.
-    pub(crate) fn as_sent(&self) -> SentShare<'_>
+    pub fn as_sent(&self) -> SentShare<'_>
         ensures same { share_of result ≡ self.now }
         ensures small { IsSmall self.now }
     {
