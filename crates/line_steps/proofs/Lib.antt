@@ -1,0 +1,4 @@
+pub mod Chains
+pub mod Lines
+pub mod Counted
+pub mod Whole
