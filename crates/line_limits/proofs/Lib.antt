@@ -1,0 +1,4 @@
+pub mod Entering
+pub mod Standing
+pub mod Unheard
+pub mod Whole
