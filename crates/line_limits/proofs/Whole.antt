@@ -1,15 +1,17 @@
 -- What holds of each session of lines that is over.
-use Rattle.std.proofs.Common.{◌≡◌, ℕ, ◌||◌, Bool, true, false, List, [], ◌∷◌, ◌++◌, Some, length, refl, sym, ap, subst, ◌∙◌, append_assoc, append-nil, inl, inr, arith}
+use Rattle.std.proofs.Common.{◌≡◌, ℕ, ◌||◌, Bool, true, false, List, [], ◌∷◌, ◌++◌, Option, Some, length, refl, sym, ap, subst, ◌∙◌, append_assoc, append-nil, inl, inr, arith}
 use Rattle.std.proofs.lemmas.List.{append_cancel_left}
 use Rattle.std.specs.List.{AllByRecursion}
 use Rattle.pool_io.specs.declared.turn.Turn.{Turn}
-use Rattle.pool_io.specs.Steps.{IsBytesOut, IsFreeBefore, IsIdleOut, ReadStep, bytes_in, steps_of}
+use Rattle.pool_io.specs.Steps.{BringsSteps, IsBytesOut, IsFreeBefore, IsIdleOut, ReadStep, bytes_in, steps_of}
 use Rattle.pool_io.proofs.Stepping.{bytes_in-append}
 use Rattle.line_reader.specs.Lines.{IsLineText, line_bytes}
 use Rattle.line_reader.specs.Reading.{FindsLines}
 use Rattle.line_reader.proofs.Streams.{lines_unique}
 use Rattle.line_turns.specs.Hearing.{BeginsLongLine}
+use Rattle.session_loop.specs.Good.{IsGoodEnd}
 use Rattle.session_loop.specs.Running.{TakesAll}
+use Rattle.session_steps.specs.declared.manner.Manner.{Manner}
 use Rattle.session_steps.specs.declared.ends.SessionEnd.{SessionEnd}
 use Rattle.session_steps.specs.declared.ends.SessionEnd.TheVariants as end
 use Rattle.session_limits.specs.Ends.{IsWellEnded, has_missed, has_turned_away, has_unkept, has_unwritten, is_unwritten, session_bounds}
@@ -20,7 +22,7 @@ use Rattle.line_steps.specs.Laws.{lines_in}
 use Rattle.line_steps.specs.States.{LineState, new_line_state}
 use Rattle.line_steps.specs.Steps.{Called, Ended, Follows, Heard, Idled, LineStep, Missed, Overran, Spent, Starved, Took, after_step, calls_of, has_ended, turns_of}
 use Rattle.line_steps.proofs.Whole.{taken_is_heard}
-use Rattle.line_limits.specs.Ends.{AreUnhinderedLines, IsCutLine, LineEndShows, has_missed_turn, has_unwritten_line}
+use Rattle.line_limits.specs.Ends.{AreGoodLines, AreUnhinderedLines, ComesToEnd, IsCutLine, LineEndShows, has_missed_turn, has_unwritten_line}
 use Rattle.line_limits.specs.Laws.{GoodLinesEndWell, LineEndsHaveCauses, LineSessionsKeepLimits}
 use Rattle.line_limits.proofs.Standing.{outer_calls, outer_steps, outer_turns, session_stands}
 use Rattle.line_limits.proofs.Unheard.{Leaves, session_leaves}
@@ -126,23 +128,6 @@ module _ (lines heard : List (List ℕ)) (unheard left : List ℕ) (each : AllBy
       } in
       (lines_unique (line_bytes lines) heard lines unheard [] found all_found).1
 
--- no end but these two is left
-ends_well : (idle_turns : ℕ) (steps : List LineStep) (unheard : List ℕ) (reason : SessionEnd) → LineEndShows idle_turns steps unheard reason
-    → AreUnhinderedLines idle_turns steps → (BeginsLongLine unheard → ⊥) → ((count : ℕ) → IsCutLine steps unheard count → ⊥) → IsWellEnded reason
-ends_well idle_turns steps unheard end.Done shows free long cut = tt
-ends_well idle_turns steps unheard end.Memory shows free long cut = tt
-ends_well idle_turns steps unheard (end.CutFrame count) shows free long cut = absurd (cut count shows)
-ends_well idle_turns steps unheard end.LineTooLong shows free long cut = absurd (long shows)
-ends_well idle_turns steps unheard (end.TooLong len) shows free long cut = absurd shows
-ends_well idle_turns steps unheard end.BadSetup shows free long cut = absurd shows
-ends_well idle_turns steps unheard (end.BadMessage kind) shows free long cut = absurd shows
-ends_well idle_turns steps unheard end.IdleOut shows free long cut = absurd (free.within (inl shows))
-ends_well idle_turns steps unheard end.BytesOut shows free long cut = absurd (free.within (inr shows))
-ends_well idle_turns steps unheard end.PoolFull shows free long cut = absurd (neither (has_turned_away (calls_of steps)) shows free.let_in)
-ends_well idle_turns steps unheard end.LedgerFault shows free long cut = absurd (neither (has_unkept (calls_of steps)) shows free.kept)
-ends_well idle_turns steps unheard end.ReadFault shows free long cut = absurd (neither (has_missed_turn steps) shows free.read)
-ends_well idle_turns steps unheard end.WriteFault shows free long cut = absurd (neither (has_unwritten_line steps) shows free.written)
-
 -- where the input ended, all that was told was taken
 nothing_left : (ended : Bool) (told left : List Turn) (taken : List ReadStep) → ended ≡ true → steps_of told ≡ taken ++ steps_of left
     → TakesAll ended (Some told) taken → bytes_in (steps_of left) ≡ []
@@ -150,8 +135,28 @@ nothing_left true told left taken is whole all =
     ap bytes_in (append_cancel_left taken (steps_of left) [] (sym whole ∙ all ∙ sym (append-nil taken)))
 nothing_left false told left taken is whole all = cc
 
-pub good_lines_well : GoodLinesEndWell
-good_lines_well worker terms manner steps reason told left positive comes brought all input free =
+-- no end that blames the input is left
+blames_none : (steps : List LineStep) (unheard : List ℕ) (reason : SessionEnd) → Leaves steps unheard reason → (BeginsLongLine unheard → ⊥)
+    → ((count : ℕ) → IsCutLine steps unheard count → ⊥) → IsGoodEnd reason
+blames_none steps unheard (end.CutFrame count) leaves long cut = cut count leaves
+blames_none steps unheard end.LineTooLong leaves long cut = long leaves
+blames_none steps unheard (end.TooLong len) leaves long cut = leaves
+blames_none steps unheard end.BadSetup leaves long cut = leaves
+blames_none steps unheard (end.BadMessage kind) leaves long cut = leaves
+blames_none steps unheard end.Done leaves long cut = tt
+blames_none steps unheard end.IdleOut leaves long cut = tt
+blames_none steps unheard end.BytesOut leaves long cut = tt
+blames_none steps unheard end.PoolFull leaves long cut = tt
+blames_none steps unheard end.ReadFault leaves long cut = tt
+blames_none steps unheard end.WriteFault leaves long cut = tt
+blames_none steps unheard end.LedgerFault leaves long cut = tt
+blames_none steps unheard end.Memory leaves long cut = tt
+
+-- good lines lead to no end that blames them
+pub lines_blame_none : (worker : ℕ) (terms : Terms) (manner : Manner) (steps : List LineStep) (reason : SessionEnd) (told : List Turn) (left : Option (List Turn))
+    → ComesToEnd worker terms manner steps reason → BringsSteps (Some told) left (turns_of steps) → TakesAll (has_ended steps) (Some told) (turns_of steps)
+    → AreGoodLines told → IsGoodEnd reason
+lines_blame_none worker terms manner steps reason told left comes brought all input =
     let unheard = comes.last.pool.unmet in
     let over : List ℕ = bytes_in (steps_of brought.0) in
     let heard = lines_in steps in
@@ -159,9 +164,31 @@ good_lines_well worker terms manner steps reason told left positive comes brough
     let taken : bytes_in (turns_of steps) ≡ line_bytes heard ++ unheard = taken_is_heard worker terms manner steps comes.last comes.follows in
     let whole : (line_bytes heard ++ unheard) ++ over ≡ line_bytes input.lines =
     ap (λ l. l ++ over) (sym taken) ∙ sym (ap bytes_in brought.2 ∙ bytes_in-append (turns_of steps) (steps_of brought.0)) ∙ input.whole in
-    ends_well manner.idle_turns steps unheard reason (ends_have_causes worker terms manner steps reason positive comes) free
+    blames_none steps unheard reason (session_leaves worker terms manner steps comes.last reason comes.follows comes.over)
     (no_long_line input.lines heard unheard over input.each texts whole)
     (λ count cut.
     let none : unheard ≡ [] = no_rest input.lines heard unheard over input.each texts whole cut.text
     (nothing_left (has_ended steps) told brought.0 (turns_of steps) cut.ended brought.2 all) in
     omega (arith, ap length none, cut.counted, cut.some))
+
+-- no end but these two is left
+ends_well : (idle_turns : ℕ) (steps : List LineStep) (unheard : List ℕ) (reason : SessionEnd) → LineEndShows idle_turns steps unheard reason
+    → AreUnhinderedLines idle_turns steps → IsGoodEnd reason → IsWellEnded reason
+ends_well idle_turns steps unheard end.Done shows free good = tt
+ends_well idle_turns steps unheard end.Memory shows free good = tt
+ends_well idle_turns steps unheard (end.CutFrame count) shows free good = good
+ends_well idle_turns steps unheard end.LineTooLong shows free good = good
+ends_well idle_turns steps unheard (end.TooLong len) shows free good = good
+ends_well idle_turns steps unheard end.BadSetup shows free good = good
+ends_well idle_turns steps unheard (end.BadMessage kind) shows free good = good
+ends_well idle_turns steps unheard end.IdleOut shows free good = free.within (inl shows)
+ends_well idle_turns steps unheard end.BytesOut shows free good = free.within (inr shows)
+ends_well idle_turns steps unheard end.PoolFull shows free good = neither (has_turned_away (calls_of steps)) shows free.let_in
+ends_well idle_turns steps unheard end.LedgerFault shows free good = neither (has_unkept (calls_of steps)) shows free.kept
+ends_well idle_turns steps unheard end.ReadFault shows free good = neither (has_missed_turn steps) shows free.read
+ends_well idle_turns steps unheard end.WriteFault shows free good = neither (has_unwritten_line steps) shows free.written
+
+pub good_lines_well : GoodLinesEndWell
+good_lines_well worker terms manner steps reason told left positive comes brought all input free =
+    ends_well manner.idle_turns steps comes.last.pool.unmet reason (ends_have_causes worker terms manner steps reason positive comes) free
+    (lines_blame_none worker terms manner steps reason told left comes brought all input)

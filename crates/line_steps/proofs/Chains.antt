@@ -23,7 +23,7 @@ use Rattle.line_steps.specs.Running.{RunsLines}
 use Rattle.line_steps.specs.States.{LineState}
 use Rattle.line_steps.specs.Steps.{CanCall, CanStep, Called, Follows, LineStep, after_step, bytes_of, call_of, calls_of, has_ended, is_end, put_of, reads_after, reads_after_step, turn_of, turns_of, writes_after}
 
-Follows-append : (worker : ℕ) (terms : Terms) (s t u : LineState) (xs ys : List LineStep) → Follows worker terms s xs t → Follows worker terms t ys u
+pub Follows-append : (worker : ℕ) (terms : Terms) (s t u : LineState) (xs ys : List LineStep) → Follows worker terms s xs t → Follows worker terms t ys u
     → Follows worker terms s (xs ++ ys) u
 Follows-append worker terms s t u [] ys first more = rw first at more
 Follows-append worker terms s t u (x ∷ xs) ys first more = (first.0, Follows-append worker terms (after_step terms s x) t u xs ys first.1 more)
@@ -54,6 +54,12 @@ runs_on {worker = worker} {does = does} {terms = terms} {s = s} {t = t} {u = u} 
       acts = rw (flat_map-append call_of xs ys) (Acts-append does a a' a'' (calls_of xs) (calls_of ys) first.acts more.acts);
       same = more.same ∙ first.same;
     }
+
+-- the steps of both
+pub steps_on : {A : Type 0} {worker : A → ℕ} {does : A → PoolCall → A → Type 0} {terms : Terms} {s t u : LineState} {l l' l'' : LinkSeen} {a a' a'' : A}
+    → (first : RunsLines worker does terms s t l l' a a') (more : RunsLines worker does terms t u l' l'' a' a'') → (runs_on first more).steps ≡ first.steps ++ more.steps
+unfolding runs_on
+steps_on first more = refl
 
 -- nothing was done
 pub runs_none : {A : Type 0} {worker : A → ℕ} {does : A → PoolCall → A → Type 0} {terms : Terms} {s t : LineState} {l : LinkSeen} {a : A}

@@ -88,6 +88,12 @@ runs_on {worker = worker} {does = does} {s = s} {t = t} {u = u} {l = l} {l' = l'
       same = then.same ∙ first.same;
     }
 
+-- the steps of both
+pub steps_on : {A : Type 0} {worker : A → ℕ} {does : A → PoolCall → A → Type 0} {s t u : State} {l l' l'' : LinkSeen} {a a' a'' : A}
+    → (first : Runs worker does s t l l' a a') (then : Runs worker does t u l' l'' a' a'') → (runs_on first then).steps ≡ first.steps ++ then.steps
+unfolding runs_on
+steps_on first then = refl
+
 -- nothing was done
 pub runs_none : {A : Type 0} {worker : A → ℕ} {does : A → PoolCall → A → Type 0} {s t : State} {l : LinkSeen} {a : A}
     → t ≡ s → Runs worker does s t l l a a
@@ -141,6 +147,14 @@ pub runs_put : {A : Type 0} {worker : A → ℕ} {does : A → PoolCall → A �
 runs_put {does = does} {l = l} {l' = l'} {a = a} x whole fault puts can leads turns end put calls reads =
     runs_step x can leads (rw (turns, ap (λ (s : SourceSeen). s.left) puts.source) (brought_none l.source.left)) (rw end tt) (rw put puts.added) (ap (λ (s : SourceSeen). s.faults) puts.source ∙ reads l.source.faults)
     (rw put puts.writes) (rw calls refl) refl
+
+pub steps_put : {A : Type 0} (worker : A → ℕ) (does : A → PoolCall → A → Type 0) (s t : State) (l l' : LinkSeen) (a : A)
+    → (x : SessionStep) (whole : List ℕ) (fault : Option SinkFailed) (puts : PutsOut whole fault l l') (can : CanStep (worker a) s x) (leads : t ≡ after_step s x)
+    (turns : turn_in x ≡ []) (end : is_end x ≡ false) (put : put_in x ≡ record { bytes = puts.bytes; fault = fault }) (calls : call_in x ≡ [])
+    (reads : (n : ℕ) → n ≡ reads_after_step n x)
+    → (runs_put {worker = worker} {does = does} {s = s} {t = t} {l = l} {l' = l'} {a = a} x whole fault puts can leads turns end put calls reads).steps ≡ x ∷ []
+unfolding runs_put runs_step
+steps_put worker does s t l l' a x whole fault puts can leads turns end put calls reads = refl
 
 -- one call, and what is put of its answer
 pub runs_call : {A : Type 0} {worker : A → ℕ} {does : A → PoolCall → A → Type 0} {s t : State} {l l' : LinkSeen} {a a' : A} {asked : Request} {acted : Acted}

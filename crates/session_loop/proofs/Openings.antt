@@ -1,13 +1,14 @@
 -- How a session begins, by what its code did.
 use Rattle.std.proofs.Common.{◌≡◌, inl, inr, ℕ, ◌+◌, ◌-◌, ◌<◌, ◌≤◌, false, List, [], ◌∷◌, ◌++◌, Option, Some, None, Ok, Err, length, take, map, replicate, suc, zero, refl, sym, ap, subst, ◌∙◌, append-nil, length-append, arith}
 use Rattle.std.specs.Prelude.{IfSome}
+use Rattle.std.proofs.lemmas.Grind.{flat_map-append}
 use Rattle.std.proofs.lemmas.List.{replicate_more}
 use Rattle.pool_io.specs.Seen.{SinkSeen}
 use Rattle.pool_io.specs.declared.source.Took.TheVariants as took
 use Rattle.pool_io.specs.declared.turn.Turn.{Turn}
 use Rattle.pool_io.specs.Outside.{TakesTurn, next_count}
-use Rattle.pool_io.specs.Steps.{BringsSteps, ReadStep, steps_of}
-use Rattle.pool_io.proofs.Stepping.{brought_all, brought_bytes, brought_idle, brought_none}
+use Rattle.pool_io.specs.Steps.{BringsSteps, ReadStep, bytes_in, steps_of}
+use Rattle.pool_io.proofs.Stepping.{brought_all, bytes_in-append, bytes_in-map, brought_bytes, brought_idle, brought_none}
 use Rattle.link_turns.specs.declared.waiting.Waiting.{Waiting}
 use Rattle.link_turns.specs.Waits.{TakesOf, new_waiting, waiting_after}
 use Rattle.stream_commands.proofs.Puts.{Adds-none}
@@ -31,7 +32,7 @@ use Rattle.session_loop.specs.Links.{PutsOut}
 use Rattle.session_loop.specs.Running.{Runs, TakesAll, has_ended}
 use Rattle.session_loop.specs.Sessions.{IsSession}
 use Rattle.session_loop.specs.Standing.{intake_with, state_at}
-use Rattle.session_loop.proofs.Chains.{Follows-append, runs_on, runs_put, runs_quiet}
+use Rattle.session_loop.proofs.Chains.{Follows-append, runs_on, runs_put, runs_quiet, steps_on, steps_put}
 use Rattle.session_loop.proofs.Moves.{failed_leads, next_reads}
 
 -- ---- the turns that are taken
@@ -241,6 +242,44 @@ module _ {A : Type 0} {worker : A → ℕ} {does : A → PoolCall → A → Type
       runs_put (Greeted (record { bytes = puts.bytes; fault = None })) (bytes_of_frames (greeting manner.role)) None puts (refl, puts.front)
       refl refl refl refl refl (λ n. refl)
 
+-- an Idle turn brings no byte
+bytes_row : (k : ℕ) (l : List ReadStep) → bytes_in (row k ++ l) ≡ bytes_in l
+bytes_row zero l = refl
+bytes_row (suc k) l = bytes_row k l
+
+-- a session that was greeted, and took Idle turns and one step more
+greeted_bytes : {A : Type 0} (worker : A → ℕ) (does : A → PoolCall → A → Type 0) (old l : LinkSeen) (a : A) (manner : Manner)
+    (puts : PutsOut (bytes_of_frames (greeting manner.role)) None old l) (xs : List SessionStep)
+    → bytes_in (turns_in ((greeted {worker = worker} {does = does} {old = old} {a = a} manner {l = l} puts).steps ++ xs)) ≡ bytes_in (turns_in xs)
+unfolding greeted
+greeted_bytes worker does old l a manner puts xs =
+    ap (λ steps. bytes_in (turns_in (steps ++ xs)))
+    (steps_put worker does (new_state manner) (idle_state manner manner.idle_turns) old l a (Greeted (record { bytes = puts.bytes; fault = None }))
+    (bytes_of_frames (greeting manner.role)) None puts (refl, puts.front) refl refl refl refl refl (λ n. refl))
+
+idle_bytes : {A : Type 0} (worker : A → ℕ) (does : A → PoolCall → A → Type 0) (l l' : LinkSeen) (a : A) (manner : Manner)
+    (k : ℕ) (x : SessionStep) (to : State) (few : k < manner.idle_turns) (can : steps.CanStep (worker a) (idle_state manner (manner.idle_turns - k)) x)
+    (leads : to ≡ after_step (idle_state manner (manner.idle_turns - k)) x)
+    (took : BringsSteps l.source.left l'.source.left (row k ++ steps.turn_in x)) (all : TakesAll (has_ended (x ∷ [])) l.source.left (row k ++ steps.turn_in x))
+    (reads : l'.source.faults ≡ steps.reads_after_step l.source.faults x) (sink : l'.sink ≡ l.sink) (put : put_in x ≡ nothing_put) (calls : steps.call_in x ≡ [])
+    → bytes_in (turns_in (idle_runs {worker = worker} {does = does} {l = l} {l' = l'} {a = a} manner k x to few can leads took all reads sink put calls).steps)
+    ≡ bytes_in (steps.turn_in x)
+unfolding idle_runs
+idle_bytes worker does l l' a manner k x to few can leads took all reads sink put calls =
+    ap bytes_in (turns_idle k (x ∷ []) ∙ ap (λ m. row k ++ m) (append-nil (steps.turn_in x))) ∙ bytes_row k (steps.turn_in x)
+
+waited_bytes : {A : Type 0} (worker : A → ℕ) (does : A → PoolCall → A → Type 0) (old l l' : LinkSeen) (a : A) (manner : Manner)
+    (puts : PutsOut (bytes_of_frames (greeting manner.role)) None old l) (to : State) (runs : Runs worker does (idle_state manner manner.idle_turns) to l l' a a)
+    → bytes_in (turns_in (runs_on (greeted {worker = worker} {does = does} {old = old} {a = a} manner {l = l} puts) runs).steps) ≡ bytes_in (turns_in runs.steps)
+waited_bytes worker does old l l' a manner puts to runs =
+    ap (λ steps. bytes_in (turns_in steps)) (steps_on (greeted {worker = worker} {does = does} {old = old} {a = a} manner {l = l} puts) runs)
+    ∙ greeted_bytes worker does old l a manner puts runs.steps
+
+-- a session that took no byte
+abbrev pub TookNone : {A : Type 0} → (A → ℕ) → (A → PoolCall → A → Type 0) → Manner → LinkSeen → LinkSeen → A → SessionEnd → Type 0
+TookNone worker does manner old new a reason =
+    (session : IsSession worker does manner old new a a reason) × (bytes_in (turns_in session.runs.steps) ≡ [])
+
 module _ {A : Type 0} {worker : A → ℕ} {does : A → PoolCall → A → Type 0} {old new : LinkSeen} {a : A} (manner : Manner) (waits : 0 < manner.idle_turns) where
   -- the first bytes came
   pub begun_runs : (buffer : List ℕ) (first : FirstPiece) → GreetsAndWaits manner buffer old new (Ok first)
@@ -258,52 +297,68 @@ module _ {A : Type 0} {worker : A → ℕ} {does : A → PoolCall → A → Type
       })
       (rw came.counted refl) came.came.took tt came.came.reads came.came.sink refl refl)
 
-  -- or the session is over before
-  pub over_runs : (buffer : List ℕ) (reason : SessionEnd) → Begins manner buffer old new (Err reason) → IsSession worker does manner old new a a reason
+  -- or the session is over before, and took none
+  pub over_runs : (buffer : List ℕ) (reason : SessionEnd) → Begins manner buffer old new (Err reason) → TookNone worker does manner old new a reason
   over_runs buffer reason (inl begins) = waited_out reason begins.waits
     where
-      waited_out : (reason : SessionEnd) → WaitsForBytes manner.idle_turns buffer begins.greeted new (Err reason) → IsSession worker does manner old new a a reason
+      waited_out : (reason : SessionEnd) → WaitsForBytes manner.idle_turns buffer begins.greeted new (Err reason) → TookNone worker does manner old new a reason
       waited_out end.Done ended =
-          let s = idle_state manner (manner.idle_turns - ended.idles) in
-          record {
-            last = after_step s steps.Ended;
-            over = refl;
-            runs = runs_on (greeted manner begins.puts)
-                (idle_runs manner ended.idles steps.Ended (after_step s steps.Ended) ended.few (can_take manner (manner.idle_turns - ended.idles)) refl
-                ended.came.took (rw (append-nil (row ended.idles)) ended.all) ended.came.reads ended.came.sink refl refl);
-          }
+          let s = idle_state manner (manner.idle_turns - ended.idles) in (
+            record {
+              last = after_step s steps.Ended;
+              over = refl;
+              runs = runs_on (greeted manner begins.puts)
+                  (idle_runs manner ended.idles steps.Ended (after_step s steps.Ended) ended.few (can_take manner (manner.idle_turns - ended.idles)) refl
+                  ended.came.took (rw (append-nil (row ended.idles)) ended.all) ended.came.reads ended.came.sink refl refl);
+            },
+            waited_bytes worker does old begins.greeted new a manner begins.puts _ _ ∙ idle_bytes worker does begins.greeted new a manner _ _ _ _ _ _ _ _ _ _ _ _,
+          )
       waited_out end.ReadFault failed =
-          let s = idle_state manner (manner.idle_turns - failed.idles) in
-          record {
-            last = after_step s steps.Missed;
-            over = refl;
-            runs = runs_on (greeted manner begins.puts)
-                (idle_runs manner failed.idles steps.Missed (after_step s steps.Missed) failed.few (can_take manner (manner.idle_turns - failed.idles)) refl
-                (rw (append-nil (row failed.idles)) failed.took) tt failed.reads failed.sink refl refl);
-          }
+          let s = idle_state manner (manner.idle_turns - failed.idles) in (
+            record {
+              last = after_step s steps.Missed;
+              over = refl;
+              runs = runs_on (greeted manner begins.puts)
+                  (idle_runs manner failed.idles steps.Missed (after_step s steps.Missed) failed.few (can_take manner (manner.idle_turns - failed.idles)) refl
+                  (rw (append-nil (row failed.idles)) failed.took) tt failed.reads failed.sink refl refl);
+            },
+            waited_bytes worker does old begins.greeted new a manner begins.puts _ _ ∙ idle_bytes worker does begins.greeted new a manner _ _ _ _ _ _ _ _ _ _ _ _,
+          )
       waited_out end.IdleOut out =
           let n = manner.idle_turns in
           let s = idle_state manner (n - (n - 1)) in
           let one : n - (n - 1) ≡ 1 = omega (arith, waits) in
           let all : row (n - 1) ++ None ∷ [] ≡ row n ++ [] =
-          replicate_more (n - 1) None ∙ ap (λ m. row m) (omega (arith, waits)) ∙ sym (append-nil (row n)) in
-          record {
-            last = after_step s Idled;
-            over = rw one refl;
-            runs = runs_on (greeted manner begins.puts)
-                (idle_runs manner (n - 1) Idled (after_step s Idled) (omega (arith, waits)) (can_take manner (n - (n - 1))) refl
-                (rw all out.took) tt out.reads out.sink refl refl);
-          }
+          replicate_more (n - 1) None ∙ ap (λ m. row m) (omega (arith, waits)) ∙ sym (append-nil (row n)) in (
+            record {
+              last = after_step s Idled;
+              over = rw one refl;
+              runs = runs_on (greeted manner begins.puts)
+                  (idle_runs manner (n - 1) Idled (after_step s Idled) (omega (arith, waits)) (can_take manner (n - (n - 1))) refl
+                  (rw all out.took) tt out.reads out.sink refl refl);
+            },
+            waited_bytes worker does old begins.greeted new a manner begins.puts _ _ ∙ idle_bytes worker does begins.greeted new a manner _ _ _ _ _ _ _ _ _ _ _ _,
+          )
       waited_out _ ended = absurd ended
   over_runs buffer reason (inr ungreeted) =
       let put : Put = record { bytes = ungreeted.puts.bytes; fault = Some ungreeted.cause } in
-      let is : reason ≡ failed_end ungreeted.cause = cc in
-      record {
-        last = after_step (new_state manner) (Greeted put);
-        over = failed_leads ungreeted.cause false Reading ∙ ap Over (sym is);
-        runs = runs_put (Greeted put) (bytes_of_frames (greeting manner.role)) (Some ungreeted.cause) ungreeted.puts (refl, ungreeted.puts.front)
-            refl refl refl refl refl (λ n. refl);
-      }
+      let is : reason ≡ failed_end ungreeted.cause = cc in (
+        record {
+          last = after_step (new_state manner) (Greeted put);
+          over = failed_leads ungreeted.cause false Reading ∙ ap Over (sym is);
+          runs = runs_put (Greeted put) (bytes_of_frames (greeting manner.role)) (Some ungreeted.cause) ungreeted.puts (refl, ungreeted.puts.front)
+              refl refl refl refl refl (λ n. refl);
+        },
+        ap (λ l. bytes_in (turns_in l)) (steps_put worker does _ _ _ _ a _ _ _ _ _ _ _ _ _ _ _),
+      )
+
+begun_bytes : {A : Type 0} (worker : A → ℕ) (does : A → PoolCall → A → Type 0) (old new : LinkSeen) (a : A) (manner : Manner) (waits : 0 < manner.idle_turns)
+    (buffer : List ℕ) (first : FirstPiece) (begins : GreetsAndWaits manner buffer old new (Ok first))
+    → bytes_in (turns_in (begun_runs {worker = worker} {does = does} {a = a} manner waits buffer first begins).steps) ≡ take first.count buffer
+unfolding begun_runs
+begun_bytes worker does old new a manner waits buffer first begins =
+    waited_bytes worker does old begins.greeted new a manner begins.puts _ _ ∙ idle_bytes worker does begins.greeted new a manner _ _ _ _ _ _ _ _ _ _ _ _
+    ∙ bytes_in-map (take first.count buffer)
 
 -- ---- what follows
 
@@ -323,12 +378,17 @@ module _ {A : Type 0} {worker : A → ℕ} {does : A → PoolCall → A → Type
     runs = runs_quiet Starved tt refl refl refl refl refl (λ n. refl);
   }
 
+  -- the bytes that such a session took begin with them
   pub begun_session : {old middle new : LinkSeen} {a a' : A} (manner : Manner) → 0 < manner.idle_turns → (buffer : List ℕ) (first : FirstPiece) {reason : SessionEnd}
       → Begins manner buffer old middle (Ok first) → IsRestOfSession worker does (begun_state manner first.waiting (take first.count buffer)) middle new a a' reason
-      → IsSession worker does manner old new a a' reason
-  begun_session manner waits buffer first (inl begins) rest = record {
-    last = rest.last;
-    over = rest.over;
-    runs = runs_on (begun_runs manner waits buffer first begins) rest.runs;
-  }
+      → (session : IsSession worker does manner old new a a' reason) × (more : List ℕ) × (bytes_in (turns_in session.runs.steps) ≡ take first.count buffer ++ more)
+  begun_session {old = old} {middle = middle} {a = a} manner waits buffer first (inl begins) rest =
+      let begun = begun_runs manner waits buffer first begins in (
+        record { last = rest.last; over = rest.over; runs = runs_on begun rest.runs },
+        bytes_in (turns_in rest.runs.steps),
+        ap (λ l. bytes_in (turns_in l)) (steps_on begun rest.runs)
+            ∙ ap bytes_in (flat_map-append steps.turn_in begun.steps rest.runs.steps)
+            ∙ bytes_in-append (turns_in begun.steps) (turns_in rest.runs.steps)
+            ∙ ap (λ l. l ++ bytes_in (turns_in rest.runs.steps)) (begun_bytes worker does old middle a manner waits buffer first begins),
+      )
   begun_session manner waits buffer first (inr ungreeted) rest = cc
