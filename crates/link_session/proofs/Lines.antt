@@ -1,0 +1,117 @@
+-- How a session of lines begins: Idle turns, and the first bytes.
+use Rattle.std.proofs.Common.{◌≡◌, ℕ, ◌-◌, ◌<◌, false, List, [], ◌∷◌, ◌++◌, Some, None, Ok, take, map, replicate, suc, zero, refl, sym, ap, subst, ◌∙◌, append-nil, arith}
+use Rattle.pool_io.specs.Seen.{SinkSeen, SourceSeen}
+use Rattle.pool_io.specs.Outside.{AddsBytes}
+use Rattle.pool_io.specs.Steps.{ReadStep, bytes_in}
+use Rattle.pool_io.proofs.Stepping.{bytes_in-map}
+use Rattle.pool_network.specs.Seen.{LinkSeen}
+use Rattle.pool_history.specs.declared.events.Role.TheVariants as role
+use Rattle.pool_history.specs.Calls.{PoolCall}
+use Rattle.session_steps.specs.declared.manner.Manner.{Manner}
+use Rattle.session_steps.specs.Answers.{greeting}
+use Rattle.session_steps.specs.States.{Reading, new_state, next_stage}
+use Rattle.session_steps.specs.Steps.{bytes_of_frames}
+use Rattle.session_loop.specs.declared.beginning.FirstPiece.{FirstPiece}
+use Rattle.session_loop.specs.Beginning.{GreetsAndWaits}
+use Rattle.session_loop.specs.Links.{PutsOut}
+use Rattle.session_loop.proofs.Moves.{next_reads}
+use Rattle.v1_rules.specs.State.{Terms}
+use Rattle.line_steps.specs.Running.{RunsLines}
+use Rattle.line_steps.specs.States.{LineState, begun_lines, new_line_state}
+use Rattle.line_steps.specs.Steps.{CanTake, Follows, Idled, LineStep, Took, bytes_of, calls_of, has_ended, reads_after, turns_of, writes_after}
+use Rattle.line_steps.proofs.Chains.{Follows-append}
+
+abbrev row : ℕ → List ReadStep
+row idles = replicate idles None
+
+-- what Idle turns do, before other steps
+turns_idle : (k : ℕ) (xs : List LineStep) → turns_of (replicate k Idled ++ xs) ≡ row k ++ turns_of xs
+turns_idle zero xs = refl
+turns_idle (suc k) xs = ap (λ l. None ∷ l) (turns_idle k xs)
+
+calls_idle : (k : ℕ) (xs : List LineStep) → calls_of (replicate k Idled ++ xs) ≡ calls_of xs
+calls_idle zero xs = refl
+calls_idle (suc k) xs = calls_idle k xs
+
+bytes_idle : (k : ℕ) (xs : List LineStep) → bytes_of (replicate k Idled ++ xs) ≡ bytes_of xs
+bytes_idle zero xs = refl
+bytes_idle (suc k) xs = bytes_idle k xs
+
+reads_idle : (count k : ℕ) (xs : List LineStep) → reads_after count (replicate k Idled ++ xs) ≡ reads_after count xs
+reads_idle count zero xs = refl
+reads_idle count (suc k) xs = reads_idle count k xs
+
+writes_idle : (count k : ℕ) (xs : List LineStep) → writes_after count (replicate k Idled ++ xs) ≡ writes_after count xs
+writes_idle count zero xs = refl
+writes_idle count (suc k) xs = writes_idle count k xs
+
+ended_idle : (k : ℕ) (xs : List LineStep) → has_ended (replicate k Idled ++ xs) ≡ has_ended xs
+ended_idle zero xs = refl
+ended_idle (suc k) xs = ended_idle k xs
+
+bytes_row : (k : ℕ) (l : List ReadStep) → bytes_in (row k ++ l) ≡ bytes_in l
+bytes_row zero l = refl
+bytes_row (suc k) l = bytes_row k l
+
+-- a session that took no bytes yet, with so many Idle turns still waited for
+abbrev idle_state : Manner → ℕ → LineState
+idle_state manner idles = record (new_line_state manner) { pool = record (new_state manner) { stage = Reading; idles = idles } }
+
+can_take : (manner : Manner) (idles : ℕ) → CanTake (idle_state manner idles)
+can_take manner idles = record {
+  waiting = record { reading = refl; text = record { one = refl; short = omega arith } };
+  some = omega arith;
+}
+
+idles_follow : (worker : ℕ) (terms : Terms) (manner : Manner) (k idles : ℕ) → k < idles
+    → Follows worker terms (idle_state manner idles) (replicate k Idled) (idle_state manner (idles - k))
+idles_follow worker terms manner zero idles few = ap (idle_state manner) (omega arith)
+idles_follow worker terms manner (suc k) idles few =
+    let reads : next_stage false (idles - 1) ≡ Reading = next_reads false (idles - 1) (omega (arith, few)) in
+    let less : idles - 1 - k ≡ idles - suc k = omega arith in (
+      can_take manner idles,
+      rw (reads, ← less) (idles_follow worker terms manner k (idles - 1) (omega (arith, few))),
+    )
+
+-- a miner isn't greeted
+none_put : (whole : List ℕ) (l l' : LinkSeen) → whole ≡ [] → (puts : PutsOut whole None l l') → AddsBytes l.sink.held l'.sink.held []
+none_put whole l l' none puts = subst (AddsBytes l.sink.held l'.sink.held) (puts.front ∙ none) puts.added
+
+-- steps that took these bytes and no others
+pub record HasBegun {A : Type 0} (worker : A → ℕ) (does : A → PoolCall → A → Type 0) (terms : Terms) (manner : Manner) (to : LineState)
+    (old new : LinkSeen) (a : A) (piece : List ℕ) : Type 0 where
+  pub runs : RunsLines worker does terms (new_line_state manner) to old new a a
+  pub bytes : bytes_in (turns_of runs.steps) ≡ piece
+
+-- the first bytes of a miner came
+pub lines_begun : {A : Type 0} (worker : A → ℕ) (does : A → PoolCall → A → Type 0) (terms : Terms) (manner : Manner) (old new : LinkSeen) (a : A)
+    → manner.role ≡ role.Miner → (buffer : List ℕ) (first : FirstPiece) → GreetsAndWaits manner buffer old new (Ok first)
+    → HasBegun worker does terms manner (begun_lines manner first.waiting (take first.count buffer)) old new a (take first.count buffer)
+lines_begun worker does terms manner old new a miner buffer first begins =
+    let came = begins.waits.1 in
+    let puts = begins.puts in
+    let piece = take first.count buffer in
+    let k = came.idles in
+    let xs : List LineStep = replicate k Idled in
+    let step = Took piece in
+    let to = begun_lines manner first.waiting piece in
+    let turns : turns_of (xs ++ step ∷ []) ≡ row k ++ map Some piece = turns_idle k (step ∷ []) ∙ ap (λ m. row k ++ m) (append-nil (map Some piece)) in
+    let sink = ap (λ (s : SinkSeen). s.held) came.came.sink in
+    record {
+      runs = record {
+        steps = xs ++ step ∷ [];
+        follows = Follows-append (worker a) terms (idle_state manner manner.idle_turns) (idle_state manner (manner.idle_turns - k)) to xs (step ∷ [])
+            (idles_follow (worker a) terms manner k manner.idle_turns came.few) (
+              record { can = can_take manner (manner.idle_turns - k); some = came.some; piece = came.short; within = omega (arith, came.short) },
+              rw came.counted refl,
+            );
+        took = rw (turns, ← ap (λ (s : SourceSeen). s.left) puts.source) came.came.took;
+        ended = rw (ended_idle k (step ∷ [])) tt;
+        put = rw (bytes_idle k (step ∷ []), sink) (none_put (bytes_of_frames (greeting manner.role)) old begins.greeted (ap (λ r. bytes_of_frames (greeting r)) miner) puts);
+        reads = came.came.reads ∙ ap (λ (s : SourceSeen). s.faults) puts.source ∙ sym (reads_idle old.source.faults k (step ∷ []));
+        writes = ap (λ (s : SinkSeen). s.faults) came.came.sink ∙ puts.writes ∙ sym (writes_idle old.sink.faults k (step ∷ []));
+        acts = rw (calls_idle k (step ∷ [])) refl;
+        same = refl;
+      };
+      bytes = ap bytes_in turns ∙ bytes_row k (map Some piece) ∙ bytes_in-map piece;
+    }
