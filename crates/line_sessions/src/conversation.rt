@@ -5,7 +5,6 @@ ghost use Rattle.pool_history.specs.declared.shares.Submission.{Submission};
 ghost use Rattle.pool_history.specs.Headers.{Briefing};
 ghost use Rattle.pool_core.specs.Following.{RollsAsAsked};
 ghost use Rattle.line_reader.specs.Lines.{IsLineText};
-ghost use Rattle.session_loop.specs.Meeting.{Leaves};
 ghost use Rattle.session_loop.specs.Standing.{Intake};
 ghost use Rattle.session_steps.specs.declared.about.About.TheVariants as topic;
 ghost use Rattle.session_steps.specs.States as stages;
@@ -20,7 +19,7 @@ use pool_core::{Session, SessionEnd};
 use pool_history::{Reply, Request, Role};
 use pool_io::SinkFailed;
 use pool_network::Link;
-use session_loop::{Acted, Acting, AfterReply, after_answer, left_end, put_bytes, told_to};
+use session_loop::{Acted, Acting, AfterReply, after_answer, put_bytes, told_to};
 use std::alloc::{AllocError, Global};
 use v1_translate::{V1Session, V1Terms};
 
@@ -113,30 +112,8 @@ impl LineConversation {
         }
     }
 
-    /// Books a share, and tells the answer.
+    /// Books a share, tells the answer, and then asks for the news.
     fn book<L: Link, A: Acting>(
-        &mut self,
-        booking: Request,
-        terms: &V1Terms,
-        link: &mut L,
-        acting: &mut A,
-    ) -> Result<(), SessionEnd>
-        requires { A.ready acting.old }
-        ensures ready { A.ready acting.new }
-        ensures runs { (intake : Intake) (brief : Briefing)
-            → Books self.old.session.about brief booking → LeadsOn A.worker A.does terms.now
-            (line_state (stages.Committing brief) intake self.old)
-            (stages.news_stage self.new.entered intake.idles) intake self.new result
-            (L.seen link.old) (L.seen link.new) acting.old acting.new }
-    {
-        let Acted { front: _, outcome } = acting.act(booking);
-        let reply = outcome?;
-        self.tell(terms, Telling::Messages, &reply, link)?;
-        Ok(())
-    }
-
-    /// Books a share, and then asks for the news.
-    fn book_first<L: Link, A: Acting>(
         &mut self,
         booking: Request,
         terms: &V1Terms,
@@ -151,7 +128,9 @@ impl LineConversation {
             (stages.next_stage self.new.entered intake.idles) intake self.new result
             (L.seen link.old) (L.seen link.new) acting.old acting.new }
     {
-        self.book(booking, terms, link, acting)?;
+        let Acted { front: _, outcome } = acting.act(booking);
+        let reply = outcome?;
+        self.tell(terms, Telling::Messages, &reply, link)?;
         self.news(terms, link, acting)
     }
 
@@ -239,7 +218,7 @@ impl LineConversation {
         match self.ask(asked, telling, terms, link, acting) {
             AfterReply::End(end) => Err(end),
             AfterReply::Poll => self.news(terms, link, acting),
-            AfterReply::Book(booking) => self.book_first(booking, terms, link, acting),
+            AfterReply::Book(booking) => self.book(booking, terms, link, acting),
         }
     }
 
@@ -342,22 +321,6 @@ impl LineConversation {
         match wish {
             Some(wish) => self.send(wish, terms, link, acting),
             None => Ok(()),
-        }
-    }
-
-    /// Leaves, where it entered.
-    pub(crate) fn leave<A: Acting>(&self, end: SessionEnd, acting: &mut A) -> SessionEnd
-        requires { A.ready acting.old }
-        ensures ready { A.ready acting.new }
-        ensures leaves { Leaves A.worker A.does self.now.entered end acting.old result acting.new }
-    {
-        if !self.entered {
-            return end;
-        }
-        let Acted { front: _, outcome } = acting.act(Request::Leave);
-        match outcome {
-            Ok(_) => end,
-            Err(cause) => left_end(end, cause),
         }
     }
 }

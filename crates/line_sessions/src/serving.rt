@@ -11,7 +11,7 @@ use line_turns::{LineTalker, hear_lines};
 use link_turns::Waiting;
 use pool_core::SessionEnd;
 use pool_network::Link;
-use session_loop::Acting;
+use session_loop::{Acting, leave};
 use session_steps::Manner;
 use std::alloc::Global;
 use v1_translate::V1Terms;
@@ -56,33 +56,9 @@ impl<A: Acting> LineTalker for LineSession<'_, '_, '_, A> {
 
 impl<A: Acting> LineSession<'_, '_, '_, A> {
     ghost use Rattle.line_turns.specs.Hearing.{intake_at};
-    ghost use Rattle.session_loop.specs.Standing.{Intake};
-    ghost use Rattle.line_sessions.specs.Moments.{EndsSo, IsServed, moment_at};
+    ghost use Rattle.line_sessions.specs.Moments.{IsServed, moment_at};
 
-    /// Hears the lines of a link, up to an end.
-    fn hear<L: Link>(
-        &mut self,
-        alloc: Global,
-        link: &mut L,
-        waiting: Waiting,
-        piece: &[u8],
-    ) -> SessionEnd
-        requires ready { A.ready self.old.acting.now }
-        requires waits { 0 < waiting.idles }
-        requires most { waiting.idles ≤ waiting.idle_turns }
-        ensures ready { A.ready self.new.acting.now }
-        ensures same { self.new.acting.ghost_name ≡ self.old.acting.ghost_name }
-        ensures ends { (last : Intake) × EndsSo A.worker A.does
-            (moment_at (intake_at waiting piece.now) self.old.terms.now self.old.conversation.now
-            self.old.acting.now (L.seen link.old))
-            result
-            (moment_at last self.new.terms.now self.new.conversation.now self.new.acting.now
-            (L.seen link.new)) }
-    {
-        hear_lines(alloc, link, self, waiting, piece)
-    }
-
-    /// Hears them, and leaves.
+    /// Hears the lines of a link, up to an end, and leaves.
     fn serve<L: Link>(
         &mut self,
         alloc: Global,
@@ -100,8 +76,8 @@ impl<A: Acting> LineSession<'_, '_, '_, A> {
             self.old.acting.now (L.seen link.old))
             result self.new.acting.now (L.seen link.new) }
     {
-        let end = self.hear(alloc, link, waiting, piece);
-        self.conversation.leave(end, self.acting)
+        let end = hear_lines(alloc, link, self, waiting, piece);
+        leave(self.conversation.entered, end, self.acting)
     }
 }
 

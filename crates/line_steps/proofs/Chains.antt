@@ -2,13 +2,15 @@
 use Rattle.std.proofs.Common.{◌≡◌, ℕ, ◌||◌, Bool, true, false, List, [], ◌∷◌, ◌++◌, Option, refl, sym, ap, ◌∙◌, append-nil}
 use Rattle.std.proofs.lemmas.Grind.{flat_map-append}
 use Rattle.std.proofs.lemmas.List.Folds.{list_any-append}
-use Rattle.pool_io.specs.Seen.{SourceSeen}
+use Rattle.pool_io.specs.declared.source.Took.{Took}
+use Rattle.pool_io.specs.Seen.{SinkSeen, SourceSeen}
 use Rattle.pool_io.specs.declared.sink.SinkFailed.{SinkFailed}
 use Rattle.pool_io.specs.Outside.{AddsBytes}
 use Rattle.pool_io.specs.Steps.{BringsSteps}
 use Rattle.pool_io.proofs.Stepping.{brought_none}
 use Rattle.stream_commands.proofs.Puts.{Adds-more, Adds-none}
 use Rattle.pool_network.specs.Seen.{LinkSeen}
+use Rattle.link_turns.specs.Waits.{TakesOf}
 use Rattle.pool_history.specs.declared.asking.Request.{Request}
 use Rattle.pool_history.specs.Calls.{PoolCall}
 use Rattle.session_loop.specs.declared.acting.Acted.{Acted}
@@ -97,6 +99,15 @@ runs_step x can leads took all put reads writes acts same = record {
   acts = rw (append-nil (call_of x)) acts;
   same = same;
 }
+
+-- one turn that is taken
+pub runs_turn : {A : Type 0} {worker : A → ℕ} {does : A → PoolCall → A → Type 0} {terms : Terms} {s t : LineState} {l l' : LinkSeen} {a : A} {answered : Took} {buffer : List ℕ}
+    → (x : LineStep) → TakesOf answered buffer l l' → CanStep (worker a) terms s x → t ≡ after_step terms s x → BringsSteps l.source.left l'.source.left (turn_of x)
+    → TakesAll (is_end x) l.source.left (turn_of x) → put_of x ≡ nothing_put → l'.source.faults ≡ reads_after_step l.source.faults x → call_of x ≡ []
+    → RunsLines worker does terms s t l l' a a
+runs_turn {l = l} x takes can leads took all put reads calls =
+    runs_step x can leads took all (rw (put, ap (λ (s : SinkSeen). s.held) takes.sink) (Adds-none l.sink.held)) reads (rw put (ap (λ (s : SinkSeen). s.faults) takes.sink))
+    (rw calls refl) refl
 
 -- one step that takes, puts and asks nothing
 pub runs_quiet : {A : Type 0} {worker : A → ℕ} {does : A → PoolCall → A → Type 0} {terms : Terms} {s t : LineState} {l : LinkSeen} {a : A}

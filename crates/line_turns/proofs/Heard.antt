@@ -1,5 +1,5 @@
 -- What is heard of a link, part by part.
-use Rattle.std.proofs.Common.{◌≡◌, ℕ, ◌-◌, ◌<◌, ◌≤◌, suc, zero, List, [], ◌∷◌, ◌++◌, Result, Ok, Err, length, take, refl, sym, ap, subst, ◌∙◌, append_assoc, arith}
+use Rattle.std.proofs.Common.{◌≡◌, ℕ, ◌-◌, ◌<◌, ◌≤◌, suc, zero, List, [], ◌∷◌, ◌++◌, Result, Ok, Err, length, take, refl, sym, ap, subst, ◌∙◌, append_assoc, append-nil, arith}
 use Rattle.std.proofs.Math.Dec.{eqb-suc-zero}
 use Rattle.std.specs.Prelude.{OnOk, if◌then◌else◌}
 use Rattle.pool_io.specs.declared.source.Took.TheVariants as took
@@ -60,18 +60,33 @@ module _ {T : Type 0} (goes_on : Hearing T → Hearing T → Type 0) (ends : Hea
   -- ---- a turn
 
   -- once the bytes that came are heard, the next turn is taken, or as many bytes came as are taken
-  pub bytes_heard : (lines : Lines) (first : List ℕ) (old new : T) (l l' : LinkSeen) (result : Result Unit SessionEnd)
-      → HearsOn goes_on ends (intake_at lines.waiting first) (intake_of lines) old l (Ok tt) new l' → IsLineText lines.reader → 0 < lines.waiting.idles
+  all_heard : (lines : Lines) (first rest : List ℕ) (old new : T) (l l' : LinkSeen) (result : Result Unit SessionEnd)
+      → goes_on (at (intake_at lines.waiting first) old l) (at (intake_at lines.waiting (lines.reader ++ rest)) new l') → rest ≡ [] → IsLineText lines.reader → 0 < lines.waiting.idles
       → GoesOnOrEnds lines.waiting result → HearsOn goes_on ends (intake_at lines.waiting first) (intake_of lines) old l result new l'
-  bytes_heard lines first old new l l' (Ok _) hears text some limits = hears
-  bytes_heard lines first old new l l' (Err reason) hears text some (limit.IdleOut, is, reason_is) = absurd (omega (arith, is, some))
-  bytes_heard lines first old new l l' (Err reason) hears text some (limit.BytesOut, is, reason_is) = record {
-    intake = intake_of lines;
-    kept_is = tt;
-    does = rw reason_is
-        (laws.to_end (at (intake_at lines.waiting first) old l) (at (intake_of lines) new l') (at (intake_of lines) new l') end.BytesOut
-        (rw hears.kept_is at hears.does) (laws.spent (at (intake_of lines) new l') text is.1));
-  }
+  all_heard lines first rest old new l l' result so_far none text some limits = heard result limits
+    where
+      all : goes_on (at (intake_at lines.waiting first) old l) (at (intake_of lines) new l')
+      all = subst (λ unmet. goes_on (at (intake_at lines.waiting first) old l) (at (intake_at lines.waiting unmet) new l'))
+          (ap (λ xs. lines.reader ++ xs) none ∙ append-nil lines.reader) so_far
+
+      heard : (result : Result Unit SessionEnd) → GoesOnOrEnds lines.waiting result → HearsOn goes_on ends (intake_at lines.waiting first) (intake_of lines) old l result new l'
+      heard (Ok _) limits = record { intake = intake_of lines; kept_is = refl; does = all }
+      heard (Err reason) (limit.IdleOut, is, reason_is) = absurd (omega (arith, is, some))
+      heard (Err reason) (limit.BytesOut, is, reason_is) = record {
+        intake = intake_of lines;
+        kept_is = tt;
+        does = rw reason_is
+            (laws.to_end (at (intake_at lines.waiting first) old l) (at (intake_of lines) new l') (at (intake_of lines) new l') end.BytesOut all (laws.spent (at (intake_of lines) new l') text is.1));
+      }
+
+  pub bytes_heard : (waiting : Waiting) (lines : Lines) → lines.waiting ≡ waiting → (first rest : List ℕ) (old new : T) (l l' : LinkSeen) (result : Result Unit SessionEnd)
+      → goes_on (at (intake_at waiting first) old l) (at (intake_at waiting (lines.reader ++ rest)) new l') → rest ≡ [] → IsLineText lines.reader → 0 < waiting.idles
+      → GoesOnOrEnds lines.waiting result → HearsOn goes_on ends (intake_at waiting first) (intake_of lines) old l result new l'
+  bytes_heard waiting lines same first rest old new l l' result so_far none text some limits =
+      subst (λ w. HearsOn goes_on ends (intake_at w first) (intake_of lines) old l result new l') same
+      (all_heard lines first rest old new l l' result
+      (subst (λ w. goes_on (at (intake_at w first) old l) (at (intake_at w (lines.reader ++ rest)) new l')) (sym same) so_far) none text
+      (subst (λ (w : Waiting). 0 < w.idles) (sym same) some) limits)
 
   -- an Idle turn, and then the next turn is taken, or there were too many
   pub idle_failed : (lines : Lines) (old new : T) (l l' : LinkSeen) (reason : SessionEnd) → HearsIdle goes_on ends old l (Err reason) new l'

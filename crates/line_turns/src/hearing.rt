@@ -2,7 +2,6 @@
 
 ghost use Rattle.std.specs.Prelude.{◌≡◌, ◌<◌, ◌≤◌, ◌++◌, length, OnOk};
 ghost use Rattle.link_turns.specs.Waits.{turns_left};
-ghost use Rattle.session_loop.specs.Standing.{GoesOnOrEnds};
 ghost use Rattle.session_steps.specs.States as states;
 ghost use Rattle.line_reader.specs.Lines.{IsLineText};
 ghost use Rattle.line_turns.specs.Hearing.{HearsToEnd, intake_at};
@@ -12,7 +11,7 @@ use line_reader::{LineReader, LineTooLong};
 use link_turns::Waiting;
 use pool_io::Took;
 use pool_network::Link;
-use session_loop::{input_end, limit_end};
+use session_loop::{input_end, keep_limits};
 use session_steps::SessionEnd;
 use std::alloc::Global;
 use stream_commands::PIECE_LEN;
@@ -27,16 +26,6 @@ struct Lines {
 impl Lines {
     ghost use Rattle.line_turns.specs.Hearing.{HearsOn};
     ghost use Rattle.line_turns.specs.Listening.{HearsHeld, HearsIdleOf, IsListening, intake_of};
-
-    /// Another turn is taken, or a limit is reached.
-    fn go_on(&self) -> Result<(), SessionEnd>
-        ensures { GoesOnOrEnds self.now.waiting result }
-    {
-        match self.waiting.limit() {
-            None => Ok(()),
-            Some(limit) => Err(limit_end(limit)),
-        }
-    }
 
     /// Tells the line that is held, if it is whole.
     fn line<L: Link, T: LineTalker>(
@@ -62,33 +51,7 @@ impl Lines {
         }
     }
 
-    /// Tells the lines of the bytes that came, one after the other.
-    fn piece<L: Link, T: LineTalker>(
-        &mut self,
-        talker: &mut T,
-        piece: &[u8],
-        link: &mut L,
-    ) -> Result<(), SessionEnd>
-        requires ready { T.ready talker.old }
-        requires text { IsLineText self.old.reader }
-        requires waits { 0 < self.old.waiting.idles }
-        ensures ready { T.ready talker.new }
-        ensures waiting { self.new.waiting ≡ self.old.waiting }
-        ensures text { OnOk result (IsLineText self.new.reader) }
-        ensures hears { HearsOn T.goes_on T.ends
-            (intake_at self.old.waiting (self.old.reader ++ piece.now)) (intake_of self.new)
-            talker.old (L.seen link.old) result talker.new (L.seen link.new) }
-    {
-        let mut rest = piece;
-        while !rest.is_empty() {
-            let count = self.reader.feed(rest);
-            rest = &rest[count..];
-            self.line(talker, link)?;
-        }
-        Ok(())
-    }
-
-    /// Tells the lines of the bytes that came and were counted.
+    /// Tells the lines of the bytes that came and were counted, one after the other.
     fn bytes<L: Link, T: LineTalker>(
         &mut self,
         talker: &mut T,
@@ -106,8 +69,13 @@ impl Lines {
             (intake_at self.old.waiting (self.old.reader ++ piece.now)) (intake_of self.new)
             talker.old (L.seen link.old) result talker.new (L.seen link.new) }
     {
-        self.piece(talker, piece, link)?;
-        self.go_on()
+        let mut rest = piece;
+        while !rest.is_empty() {
+            let count = self.reader.feed(rest);
+            rest = &rest[count..];
+            self.line(talker, link)?;
+        }
+        keep_limits(&self.waiting)
     }
 
     /// Tells an Idle turn that was counted.
@@ -122,7 +90,7 @@ impl Lines {
             talker.new (L.seen link.new) }
     {
         talker.idle(link)?;
-        self.go_on()
+        keep_limits(&self.waiting)
     }
 
     /// No byte comes any more.

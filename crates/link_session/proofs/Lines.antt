@@ -15,43 +15,12 @@ use Rattle.session_loop.specs.declared.beginning.FirstPiece.{FirstPiece}
 use Rattle.session_loop.specs.Beginning.{GreetsAndWaits}
 use Rattle.session_loop.specs.Links.{PutsOut}
 use Rattle.session_loop.proofs.Moves.{next_reads}
+use Rattle.session_loop.proofs.Rows.{row, row_before, unchanged_by}
 use Rattle.v1_rules.specs.State.{Terms}
 use Rattle.line_steps.specs.Running.{RunsLines}
 use Rattle.line_steps.specs.States.{LineState, begun_lines, new_line_state}
 use Rattle.line_steps.specs.Steps.{CanTake, Follows, Idled, LineStep, Took, bytes_of, calls_of, has_ended, reads_after, turns_of, writes_after}
 use Rattle.line_steps.proofs.Chains.{Follows-append}
-
-abbrev row : ℕ → List ReadStep
-row idles = replicate idles None
-
--- what Idle turns do, before other steps
-turns_idle : (k : ℕ) (xs : List LineStep) → turns_of (replicate k Idled ++ xs) ≡ row k ++ turns_of xs
-turns_idle zero xs = refl
-turns_idle (suc k) xs = ap (λ l. None ∷ l) (turns_idle k xs)
-
-calls_idle : (k : ℕ) (xs : List LineStep) → calls_of (replicate k Idled ++ xs) ≡ calls_of xs
-calls_idle zero xs = refl
-calls_idle (suc k) xs = calls_idle k xs
-
-bytes_idle : (k : ℕ) (xs : List LineStep) → bytes_of (replicate k Idled ++ xs) ≡ bytes_of xs
-bytes_idle zero xs = refl
-bytes_idle (suc k) xs = bytes_idle k xs
-
-reads_idle : (count k : ℕ) (xs : List LineStep) → reads_after count (replicate k Idled ++ xs) ≡ reads_after count xs
-reads_idle count zero xs = refl
-reads_idle count (suc k) xs = reads_idle count k xs
-
-writes_idle : (count k : ℕ) (xs : List LineStep) → writes_after count (replicate k Idled ++ xs) ≡ writes_after count xs
-writes_idle count zero xs = refl
-writes_idle count (suc k) xs = writes_idle count k xs
-
-ended_idle : (k : ℕ) (xs : List LineStep) → has_ended (replicate k Idled ++ xs) ≡ has_ended xs
-ended_idle zero xs = refl
-ended_idle (suc k) xs = ended_idle k xs
-
-bytes_row : (k : ℕ) (l : List ReadStep) → bytes_in (row k ++ l) ≡ bytes_in l
-bytes_row zero l = refl
-bytes_row (suc k) l = bytes_row k l
 
 -- a session that took no bytes yet, with so many Idle turns still waited for
 abbrev idle_state : Manner → ℕ → LineState
@@ -95,7 +64,7 @@ lines_begun worker does terms manner old new a miner buffer first begins =
     let xs : List LineStep = replicate k Idled in
     let step = Took piece in
     let to = begun_lines manner first.waiting piece in
-    let turns : turns_of (xs ++ step ∷ []) ≡ row k ++ map Some piece = turns_idle k (step ∷ []) ∙ ap (λ m. row k ++ m) (append-nil (map Some piece)) in
+    let turns : turns_of (xs ++ step ∷ []) ≡ row k ++ map Some piece = row_before turns_of Idled (λ l. refl) k (step ∷ []) ∙ ap (λ m. row k ++ m) (append-nil (map Some piece)) in
     let sink = ap (λ (s : SinkSeen). s.held) came.came.sink in
     record {
       runs = record {
@@ -106,12 +75,12 @@ lines_begun worker does terms manner old new a miner buffer first begins =
               rw came.counted refl,
             );
         took = rw (turns, ← ap (λ (s : SourceSeen). s.left) puts.source) came.came.took;
-        ended = rw (ended_idle k (step ∷ [])) tt;
-        put = rw (bytes_idle k (step ∷ []), sink) (none_put (bytes_of_frames (greeting manner.role)) old begins.greeted (ap (λ r. bytes_of_frames (greeting r)) miner) puts);
-        reads = came.came.reads ∙ ap (λ (s : SourceSeen). s.faults) puts.source ∙ sym (reads_idle old.source.faults k (step ∷ []));
-        writes = ap (λ (s : SinkSeen). s.faults) came.came.sink ∙ puts.writes ∙ sym (writes_idle old.sink.faults k (step ∷ []));
-        acts = rw (calls_idle k (step ∷ [])) refl;
+        ended = rw (unchanged_by has_ended Idled (λ l. refl) k (step ∷ [])) tt;
+        put = rw (unchanged_by bytes_of Idled (λ l. refl) k (step ∷ []), sink) (none_put (bytes_of_frames (greeting manner.role)) old begins.greeted (ap (λ r. bytes_of_frames (greeting r)) miner) puts);
+        reads = came.came.reads ∙ ap (λ (s : SourceSeen). s.faults) puts.source ∙ sym (unchanged_by (reads_after old.source.faults) Idled (λ l. refl) k (step ∷ []));
+        writes = ap (λ (s : SinkSeen). s.faults) came.came.sink ∙ puts.writes ∙ sym (unchanged_by (writes_after old.sink.faults) Idled (λ l. refl) k (step ∷ []));
+        acts = rw (unchanged_by calls_of Idled (λ l. refl) k (step ∷ [])) refl;
         same = refl;
       };
-      bytes = ap bytes_in turns ∙ bytes_row k (map Some piece) ∙ bytes_in-map piece;
+      bytes = ap bytes_in turns ∙ unchanged_by bytes_in None (λ l. refl) k (map Some piece) ∙ bytes_in-map piece;
     }

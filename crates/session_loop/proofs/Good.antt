@@ -38,6 +38,7 @@ use Rattle.session_steps.specs.Talks.{Talk}
 use Rattle.session_loop.specs.Good.{AreGood, IsGoodEnd, IsGoodInput, IsWithinLimit, talk_of}
 use Rattle.session_loop.specs.Running.{TakesAll, has_ended}
 use Rattle.session_loop.specs.Sessions.{IsSession}
+use Rattle.session_loop.proofs.Quiet.{IsQuietEnd, IsQuietStage, asking_quiet, booking_quiet, polling_quiet, quiet_fault, quiet_news, quiet_put}
 
 -- no step of a good session refuses a setup, or ends it for what came
 abbrev pub IsGoodStage : Stage → Type 0
@@ -46,29 +47,38 @@ IsGoodStage (Leaving reason) = IsGoodEnd reason
 IsGoodStage (Over reason) = IsGoodEnd reason
 IsGoodStage _ = Unit {0}
 
-pub good_end : (entered : Bool) (reason : SessionEnd) → IsGoodEnd reason → IsGoodStage (end_stage entered reason)
+good_end : (entered : Bool) (reason : SessionEnd) → IsGoodEnd reason → IsGoodStage (end_stage entered reason)
 good_end true reason good = good
 good_end false reason good = good
 
-pub good_next : (entered : Bool) (idles : ℕ) → IsGoodStage (next_stage entered idles)
-good_next entered zero = good_end entered end.IdleOut tt
-good_next entered (suc n) = rw (ap (λ b. if b then end_stage entered end.IdleOut else Reading) (eqb-suc-zero n)) tt
+-- an end that no input brings blames none
+quiet_good : (reason : SessionEnd) → IsQuietEnd reason → IsGoodEnd reason
+quiet_good end.IdleOut quiet = tt
+quiet_good end.BytesOut quiet = tt
+quiet_good end.PoolFull quiet = tt
+quiet_good end.ReadFault quiet = tt
+quiet_good end.WriteFault quiet = tt
+quiet_good end.LedgerFault quiet = tt
+quiet_good end.Memory quiet = tt
+quiet_good end.Done quiet = absurd quiet
+quiet_good (end.CutFrame count) quiet = absurd quiet
+quiet_good (end.TooLong len) quiet = absurd quiet
+quiet_good end.BadSetup quiet = absurd quiet
+quiet_good (end.BadMessage kind) quiet = absurd quiet
+quiet_good end.LineTooLong quiet = absurd quiet
 
-pub good_news : (entered : Bool) (idles : ℕ) → IsGoodStage (news_stage entered idles)
-good_news true idles = tt
-good_news false idles = good_next false idles
-
-pub good_put : (fault : Option SinkFailed) (entered : Bool) (stage : Stage) → IsGoodStage stage → IsGoodStage (put_stage fault entered stage)
-good_put None entered stage good = good
-good_put (Some sink.Failed) entered stage good = good_end entered end.WriteFault tt
-good_put (Some sink.Memory) entered stage good = good_end entered end.Memory tt
-
-pub good_fault : (cause : BookError) → IsGoodEnd (fault_end cause)
-good_fault fault.KeeperFault = tt
-good_fault fault.Memory = tt
+good_stage : (stage : Stage) → IsQuietStage stage → IsGoodStage stage
+good_stage (Leaving reason) quiet = quiet_good reason quiet
+good_stage (Over reason) quiet = quiet_good reason quiet
+good_stage (Refusing code flags) quiet = absurd quiet
+good_stage Greeting quiet = tt
+good_stage Reading quiet = tt
+good_stage (Asking asked) quiet = tt
+good_stage (Committing brief) quiet = tt
+good_stage Polling quiet = tt
 
 good_left : (reason : SessionEnd) (cause : BookError) → IsGoodEnd reason → IsGoodEnd (end_after_fault reason cause)
-good_left end.Done cause good = good_fault cause
+good_left end.Done cause good = quiet_good (fault_end cause) (quiet_fault cause)
 good_left (end.CutFrame count) cause good = good
 good_left (end.TooLong len) cause good = good
 good_left end.BadSetup cause good = good
@@ -82,19 +92,6 @@ good_left end.WriteFault cause good = good
 good_left end.LedgerFault cause good = good
 good_left end.Memory cause good = good
 
-good_briefed : (about : About) (brief : Briefing) (stage : Stage) → IsGoodStage stage → IsGoodStage (briefed_stage about brief stage)
-good_briefed (topic.Share sub) brief stage good = tt
-good_briefed topic.Nothing brief stage good = good
-good_briefed (topic.Opening request_id kind) brief stage good = good
-good_briefed (topic.Channel channel) brief stage good = good
-good_briefed (topic.Token request_id) brief stage good = good
-good_briefed (topic.OwnJob channel request_id) brief stage good = good
-
-good_answered : (about : About) (entered : Bool) (idles : ℕ) (answer : Reply) → IsGoodStage (answered_stage about entered idles answer)
-good_answered about entered idles (reply.PoolFull most) = good_end entered end.PoolFull tt
-good_answered about entered idles (reply.Brief brief) = good_briefed about brief (news_stage entered idles) (good_news entered idles)
-good_answered about entered idles _ = good_news entered idles
-
 -- what a call leaves of a session, and that it is good still
 pub record StaysGood (old new : State) : Type 0 where
   pub unmet : new.unmet ≡ old.unmet
@@ -106,31 +103,33 @@ pub record StaysGood (old new : State) : Type 0 where
 stays_at : (s : State) (stage : Stage) → IsGoodStage stage → StaysGood s (steps.at_stage stage s)
 stays_at s stage good = record { unmet = refl; role = refl; rolling = refl; flags = refl; stage = good }
 
-pub asking_stays : (s : State) (front : ℕ) (outcome : Outcome Reply BookError) (put : Put) → StaysGood s (after_asking s front outcome put)
-asking_stays s front (Faulted cause) put = stays_at s (end_stage s.entered (fault_end cause)) (good_end s.entered (fault_end cause) (good_fault cause))
-asking_stays s front (Replied answer) put =
-    let h = Rattle.session_steps.specs.States.hears s front answer in
-    record {
-      unmet = refl;
-      role = refl;
-      rolling = refl;
-      flags = refl;
-      stage = good_put put.fault h.entered (answered_stage h.talk.about h.entered h.idles answer) (good_answered h.talk.about h.entered h.idles answer);
-    }
+asking_stays : (s : State) (front : ℕ) (outcome : Outcome Reply BookError) (put : Put) → StaysGood s (after_asking s front outcome put)
+asking_stays s front (Faulted cause) put =
+    stays_at s (end_stage s.entered (fault_end cause)) (good_stage (end_stage s.entered (fault_end cause)) (asking_quiet s front (Faulted cause) put))
+asking_stays s front (Replied answer) put = record {
+  unmet = refl;
+  role = refl;
+  rolling = refl;
+  flags = refl;
+  stage = good_stage (after_asking s front (Replied answer) put).stage (asking_quiet s front (Replied answer) put);
+}
 
-pub booking_stays : (s : State) (outcome : Outcome Reply BookError) (put : Put) → StaysGood s (after_booking s outcome put)
-booking_stays s (Faulted cause) put = stays_at s (end_stage s.entered (fault_end cause)) (good_end s.entered (fault_end cause) (good_fault cause))
+booking_stays : (s : State) (outcome : Outcome Reply BookError) (put : Put) → StaysGood s (after_booking s outcome put)
+booking_stays s (Faulted cause) put =
+    stays_at s (end_stage s.entered (fault_end cause)) (good_stage (end_stage s.entered (fault_end cause)) (booking_quiet s (Faulted cause) put))
 booking_stays s (Replied answer) put =
-    stays_at s (put_stage put.fault s.entered (news_stage s.entered s.idles)) (good_put put.fault s.entered (news_stage s.entered s.idles) (good_news s.entered s.idles))
+    stays_at s (put_stage put.fault s.entered (news_stage s.entered s.idles))
+    (good_stage (put_stage put.fault s.entered (news_stage s.entered s.idles)) (booking_quiet s (Replied answer) put))
 
-pub news_stays : (s : State) (outcome : Outcome Reply BookError) (put : Put) → StaysGood s (after_news s outcome put)
-news_stays s (Faulted cause) put = stays_at s (end_stage s.entered (fault_end cause)) (good_end s.entered (fault_end cause) (good_fault cause))
+news_stays : (s : State) (outcome : Outcome Reply BookError) (put : Put) → StaysGood s (after_news s outcome put)
+news_stays s (Faulted cause) put =
+    stays_at s (end_stage s.entered (fault_end cause)) (good_stage (end_stage s.entered (fault_end cause)) (polling_quiet s (Faulted cause) put))
 news_stays s (Replied answer) put = record {
   unmet = refl;
   role = refl;
   rolling = refl;
   flags = refl;
-  stage = good_put put.fault s.entered (next_stage s.entered s.idles) (good_next s.entered s.idles);
+  stage = good_stage (after_news s (Replied answer) put).stage (polling_quiet s (Replied answer) put);
 }
 
 left_good : (reason : SessionEnd) (outcome : Outcome Reply BookError) → IsGoodEnd reason → IsGoodEnd (end_after reason outcome)
@@ -327,7 +326,8 @@ module _ (worker : ℕ) (left : List ℕ) where
       → AreGood s.talk.role s.talk.rolling s.talk.flags frames → IsGoodStage s.stage → IsGoodStage t.stage
   good_on s t [] frames follows flow ended good stage = rw follows stage
   good_on s t (steps.Greeted put ∷ xs) frames follows flow ended good stage =
-      good_on (after_step s (steps.Greeted put)) t xs frames follows.1 flow ended good (good_put put.fault s.entered Reading tt)
+      good_on (after_step s (steps.Greeted put)) t xs frames follows.1 flow ended good
+      (good_stage (put_stage put.fault s.entered Reading) (quiet_put put.fault s.entered Reading tt))
   good_on s t (steps.Took bytes ∷ xs) frames follows flow ended good stage =
       let b = bytes_in (turns_in xs) in
       good_on (after_step s (steps.Took bytes)) t xs frames follows.1
@@ -351,7 +351,8 @@ module _ (worker : ℕ) (left : List ℕ) where
   good_on s t (steps.Overran len ∷ xs) frames follows flow ended good stage =
       absurd (overran_none s.talk.role s.talk.rolling s.talk.flags s len frames (bytes_in (turns_in xs) ++ left) follows.0 flow good)
   good_on s t (steps.Idled ∷ xs) frames follows flow ended good stage =
-      good_on (after_step s steps.Idled) t xs frames follows.1 flow ended good (good_news s.entered (s.idles - 1))
+      good_on (after_step s steps.Idled) t xs frames follows.1 flow ended good
+      (good_stage (news_stage s.entered (s.idles - 1)) (quiet_news s.entered (s.idles - 1)))
   good_on s t (steps.Ended ∷ xs) frames follows flow ended good stage =
       let none = no_more worker (after_step s steps.Ended) t xs (ending s.entered (input_end s.unmet)) follows.1 in
       let all : bytes_in (turns_in xs) ++ left ≡ [] = ap (λ l. bytes_in l ++ left) none ∙ ended refl in

@@ -6,3 +6,5 @@ pub mod Good
 pub mod Moves
 pub mod Parts
 pub mod Turns
+pub mod Quiet
+pub mod Rows

@@ -34,6 +34,7 @@ use Rattle.session_loop.specs.Sessions.{IsSession}
 use Rattle.session_loop.specs.Standing.{intake_with, state_at}
 use Rattle.session_loop.proofs.Chains.{Follows-append, runs_on, runs_put, runs_quiet, steps_on, steps_put}
 use Rattle.session_loop.proofs.Moves.{failed_leads, next_reads}
+use Rattle.session_loop.proofs.Rows.{row, row_before, unchanged_by}
 
 -- ---- the turns that are taken
 
@@ -53,9 +54,6 @@ waits_none idle_turns waiting l some is = record {
 }
 
 -- so many Idle turns
-abbrev row : ℕ → List ReadStep
-row idles = replicate idles None
-
 row_more : (k : ℕ) → (row k ++ []) ++ None ∷ [] ≡ row (k + 1) ++ []
 row_more k = ap (λ l. l ++ None ∷ []) (append-nil (row k)) ∙ replicate_more k None ∙ sym (append-nil (row (k + 1)))
 
@@ -151,31 +149,6 @@ module _ (idle_turns : ℕ) (waiting : Waiting) (old middle new : LinkSeen) (buf
 
 -- ---- the steps that these are
 
--- what Idle turns do, before other steps
-turns_idle : (k : ℕ) (xs : List SessionStep) → turns_in (replicate k Idled ++ xs) ≡ row k ++ turns_in xs
-turns_idle zero xs = refl
-turns_idle (suc k) xs = ap (λ l. None ∷ l) (turns_idle k xs)
-
-calls_idle : (k : ℕ) (xs : List SessionStep) → calls_in (replicate k Idled ++ xs) ≡ calls_in xs
-calls_idle zero xs = refl
-calls_idle (suc k) xs = calls_idle k xs
-
-bytes_idle : (k : ℕ) (xs : List SessionStep) → bytes_in_steps (replicate k Idled ++ xs) ≡ bytes_in_steps xs
-bytes_idle zero xs = refl
-bytes_idle (suc k) xs = bytes_idle k xs
-
-reads_idle : (count k : ℕ) (xs : List SessionStep) → reads_after count (replicate k Idled ++ xs) ≡ reads_after count xs
-reads_idle count zero xs = refl
-reads_idle count (suc k) xs = reads_idle count k xs
-
-writes_idle : (count k : ℕ) (xs : List SessionStep) → writes_after count (replicate k Idled ++ xs) ≡ writes_after count xs
-writes_idle count zero xs = refl
-writes_idle count (suc k) xs = writes_idle count k xs
-
-ended_idle : (k : ℕ) (xs : List SessionStep) → has_ended (replicate k Idled ++ xs) ≡ has_ended xs
-ended_idle zero xs = refl
-ended_idle (suc k) xs = ended_idle k xs
-
 -- a session that took no bytes yet waits for them
 no_header : (len : ℕ) → ¬ BeginsOver len []
 no_header len begins =
@@ -221,18 +194,18 @@ module _ {A : Type 0} {worker : A → ℕ} {does : A → PoolCall → A → Type
       → Runs worker does (idle_state manner manner.idle_turns) to l l' a a
   idle_runs k x to few can leads took all reads sink put calls =
       let xs = replicate k Idled in
-      let turns : turns_in (xs ++ x ∷ []) ≡ row k ++ steps.turn_in x = turns_idle k (x ∷ []) ∙ ap (λ m. row k ++ m) (append-nil (steps.turn_in x)) in
+      let turns : turns_in (xs ++ x ∷ []) ≡ row k ++ steps.turn_in x = row_before turns_in Idled (λ l. refl) k (x ∷ []) ∙ ap (λ m. row k ++ m) (append-nil (steps.turn_in x)) in
       let same = ap (λ (s : SinkSeen). s.held) sink in
       record {
         steps = xs ++ x ∷ [];
         follows = Follows-append (worker a) (idle_state manner manner.idle_turns) (idle_state manner (manner.idle_turns - k)) to xs (x ∷ [])
             (idles_follow (worker a) manner k manner.idle_turns few) (can, leads);
         took = rw turns took;
-        ended = rw (turns, ended_idle k (x ∷ [])) all;
-        put = rw (bytes_idle k (x ∷ []), append-nil (put_in x).bytes, put, same) (Adds-none l.sink.held);
-        reads = reads ∙ sym (reads_idle l.source.faults k (x ∷ []));
-        writes = ap (λ (s : SinkSeen). s.faults) sink ∙ ap (λ (p : Put). steps.writes_after_put l.sink.faults p.fault) (sym put) ∙ sym (writes_idle l.sink.faults k (x ∷ []));
-        acts = rw (calls_idle k (x ∷ []), append-nil (steps.call_in x), calls) refl;
+        ended = rw (turns, unchanged_by has_ended Idled (λ l. refl) k (x ∷ [])) all;
+        put = rw (unchanged_by bytes_in_steps Idled (λ l. refl) k (x ∷ []), append-nil (put_in x).bytes, put, same) (Adds-none l.sink.held);
+        reads = reads ∙ sym (unchanged_by (reads_after l.source.faults) Idled (λ l. refl) k (x ∷ []));
+        writes = ap (λ (s : SinkSeen). s.faults) sink ∙ ap (λ (p : Put). steps.writes_after_put l.sink.faults p.fault) (sym put) ∙ sym (unchanged_by (writes_after l.sink.faults) Idled (λ l. refl) k (x ∷ []));
+        acts = rw (unchanged_by calls_in Idled (λ l. refl) k (x ∷ []), append-nil (steps.call_in x), calls) refl;
         same = refl;
       }
 
@@ -243,10 +216,6 @@ module _ {A : Type 0} {worker : A → ℕ} {does : A → PoolCall → A → Type
       refl refl refl refl refl (λ n. refl)
 
 -- an Idle turn brings no byte
-bytes_row : (k : ℕ) (l : List ReadStep) → bytes_in (row k ++ l) ≡ bytes_in l
-bytes_row zero l = refl
-bytes_row (suc k) l = bytes_row k l
-
 -- a session that was greeted, and took Idle turns and one step more
 greeted_bytes : {A : Type 0} (worker : A → ℕ) (does : A → PoolCall → A → Type 0) (old l : LinkSeen) (a : A) (manner : Manner)
     (puts : PutsOut (bytes_of_frames (greeting manner.role)) None old l) (xs : List SessionStep)
@@ -266,7 +235,7 @@ idle_bytes : {A : Type 0} (worker : A → ℕ) (does : A → PoolCall → A → 
     ≡ bytes_in (steps.turn_in x)
 unfolding idle_runs
 idle_bytes worker does l l' a manner k x to few can leads took all reads sink put calls =
-    ap bytes_in (turns_idle k (x ∷ []) ∙ ap (λ m. row k ++ m) (append-nil (steps.turn_in x))) ∙ bytes_row k (steps.turn_in x)
+    ap bytes_in (row_before turns_in Idled (λ l. refl) k (x ∷ []) ∙ ap (λ m. row k ++ m) (append-nil (steps.turn_in x))) ∙ unchanged_by bytes_in None (λ l. refl) k (steps.turn_in x)
 
 waited_bytes : {A : Type 0} (worker : A → ℕ) (does : A → PoolCall → A → Type 0) (old l l' : LinkSeen) (a : A) (manner : Manner)
     (puts : PutsOut (bytes_of_frames (greeting manner.role)) None old l) (to : State) (runs : Runs worker does (idle_state manner manner.idle_turns) to l l' a a)

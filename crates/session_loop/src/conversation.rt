@@ -10,7 +10,6 @@ ghost use Rattle.session_steps.specs.Talks.{heard, new_talk};
 ghost use Rattle.session_loop.specs.Meeting.{IsAfterAnswer};
 
 use crate::acting::{Acted, Acting};
-use crate::ends::left_end;
 use crate::putting::put_frames;
 use pool_core::{Session, SessionEnd};
 use pool_history::{Reply, Request, Role};
@@ -39,7 +38,7 @@ pub enum AfterReply {
 
 impl Conversation {
     ghost use Rattle.session_loop.specs.Links.{PutsOut};
-    ghost use Rattle.session_loop.specs.Meeting.{AsksAsTold, Hears, LeadsTo, Leaves};
+    ghost use Rattle.session_loop.specs.Meeting.{AsksAsTold, Hears, LeadsTo};
     ghost use Rattle.session_loop.specs.Running.{Runs};
     ghost use Rattle.session_loop.specs.Standing.{Intake, stage_or, state_at};
 
@@ -205,22 +204,6 @@ impl Conversation {
             AfterReply::End(end) => Err(end),
             AfterReply::Poll => self.news(link, acting),
             AfterReply::Book(booking) => self.book_first(booking, link, acting),
-        }
-    }
-
-    /// Leaves, where it entered.
-    pub(crate) fn leave<A: Acting>(&self, end: SessionEnd, acting: &mut A) -> SessionEnd
-        requires { A.ready acting.old }
-        ensures ready { A.ready acting.new }
-        ensures leaves { Leaves A.worker A.does self.now.entered end acting.old result acting.new }
-    {
-        if !self.entered {
-            return end;
-        }
-        let Acted { front: _, outcome } = acting.act(Request::Leave);
-        match outcome {
-            Ok(_) => end,
-            Err(cause) => left_end(end, cause),
         }
     }
 }

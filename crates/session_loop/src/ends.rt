@@ -2,15 +2,33 @@
 
 ghost use Rattle.std.specs.Prelude.{◌≡◌, ℕ, List, length};
 ghost use Rattle.session_steps.specs.States as states;
-ghost use Rattle.session_loop.specs.Standing.{end_at_limit};
+ghost use Rattle.session_loop.specs.Meeting.{Leaves};
+ghost use Rattle.session_loop.specs.Standing.{GoesOnOrEnds, end_at_limit};
 ghost use Rattle.session_steps.specs.States.{end_after_fault};
 
-use link_turns::Limit;
+use crate::acting::{Acted, Acting};
+use link_turns::{Limit, Waiting};
 use pool_core::SessionEnd;
-use pool_history::BookError;
+use pool_history::{BookError, Request};
+
+/// Leaves, where it entered.
+pub fn leave<A: Acting>(entered: bool, end: SessionEnd, acting: &mut A) -> SessionEnd
+    requires { A.ready acting.old }
+    ensures ready { A.ready acting.new }
+    ensures leaves { Leaves A.worker A.does entered end acting.old result acting.new }
+{
+    if !entered {
+        return end;
+    }
+    let Acted { front: _, outcome } = acting.act(Request::Leave);
+    match outcome {
+        Ok(_) => end,
+        Err(cause) => left_end(end, cause),
+    }
+}
 
 /// A leaving that isn't answered.
-pub fn left_end(end: SessionEnd, cause: BookError) -> SessionEnd
+fn left_end(end: SessionEnd, cause: BookError) -> SessionEnd
     ensures { result ≡ end_after_fault end cause }
 {
     match end {
@@ -19,8 +37,18 @@ pub fn left_end(end: SessionEnd, cause: BookError) -> SessionEnd
     }
 }
 
+/// Another turn is taken, or a limit is reached.
+pub fn keep_limits(waiting: &Waiting) -> Result<(), SessionEnd>
+    ensures { GoesOnOrEnds waiting.now result }
+{
+    match waiting.limit() {
+        None => Ok(()),
+        Some(limit) => Err(limit_end(limit)),
+    }
+}
+
 /// A limit of what is waited for.
-pub fn limit_end(limit: Limit) -> SessionEnd
+fn limit_end(limit: Limit) -> SessionEnd
     ensures { result ≡ end_at_limit limit }
 {
     match limit {

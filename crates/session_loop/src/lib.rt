@@ -15,6 +15,6 @@ mod serving;
 pub use acting::{Acted, Acting};
 pub use beginning::{FirstPiece, begin};
 pub use conversation::{AfterReply, after_answer, told_to};
-pub use ends::{input_end, left_end, limit_end};
+pub use ends::{input_end, keep_limits, leave};
 pub use putting::put_bytes;
 pub use serving::{converse, go_on};

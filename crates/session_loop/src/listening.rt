@@ -6,7 +6,7 @@ ghost use Rattle.session_steps.specs.States as states;
 
 use crate::acting::Acting;
 use crate::conversation::Conversation;
-use crate::ends::{input_end, limit_end};
+use crate::ends::{input_end, keep_limits};
 use link_turns::Waiting;
 use pool_core::SessionEnd;
 use pool_io::Took;
@@ -26,7 +26,7 @@ pub(crate) struct Listener {
 }
 
 impl Listener {
-    ghost use Rattle.session_loop.specs.Standing.{GoesOnOrEnds, HasMetAll, IsListening, intake_of, intake_with, stage_or, state_at};
+    ghost use Rattle.session_loop.specs.Standing.{HasMetAll, IsListening, intake_of, intake_with, stage_or, state_at};
     ghost use Rattle.session_loop.specs.Running.{Runs};
     ghost use Rattle.session_loop.specs.Sessions.{ReadsOn};
 
@@ -40,16 +40,6 @@ impl Listener {
             splitter: Splitter::new(alloc, MOST_PAYLOAD)?,
             waiting,
         })
-    }
-
-    /// Another turn is taken, or a limit ends the session.
-    fn go_on(&self) -> Result<(), SessionEnd>
-        ensures { GoesOnOrEnds self.now.waiting result }
-    {
-        match self.waiting.limit() {
-            None => Ok(()),
-            Some(limit) => Err(limit_end(limit)),
-        }
     }
 
     /// Meets the bytes that came and were counted.
@@ -72,7 +62,7 @@ impl Listener {
             acting.new result }
     {
         conversation.meet_all(&mut self.splitter, piece, link, acting)?;
-        self.go_on()
+        keep_limits(&self.waiting)
     }
 
     /// No byte came for now, which was counted: news may be owed.
@@ -96,7 +86,7 @@ impl Listener {
             (L.seen link.old) (L.seen link.new) acting.old acting.new }
     {
         conversation.news(link, acting)?;
-        self.go_on()
+        keep_limits(&self.waiting)
     }
 
     /// No byte comes any more.

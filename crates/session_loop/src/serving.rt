@@ -12,6 +12,7 @@ ghost use Rattle.session_loop.specs.Sessions.{IsSession};
 use crate::acting::Acting;
 use crate::beginning::begin;
 use crate::conversation::Conversation;
+use crate::ends::leave;
 use crate::listening::Listener;
 use link_turns::Waiting;
 use pool_core::SessionEnd;
@@ -90,7 +91,7 @@ pub fn go_on<L: Link, A: Acting>(
     };
     let mut conversation = Conversation::new(alloc, manner.role, manner.rolling);
     let end = conversation.serve(listener, piece, link, acting);
-    conversation.leave(end, acting)
+    leave(conversation.entered, end, acting)
 }
 
 /// Serves one session over a link, up to its end, and leaves.

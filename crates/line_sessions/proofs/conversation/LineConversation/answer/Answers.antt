@@ -10,4 +10,4 @@ returns-in-Poll-clause-runs g c = λ intake. asks_poll c.args.terms.now intake (
 pub returns-in-Book-clause-runs : goal.returns-in-Book-clause-runs
 returns-in-Book-clause-runs g c = λ intake.
     let asks = c.in-Book.ensures.runs intake in
-    asks_booking c.args.terms.now intake asks (c.book_first.ensures.runs intake asks.leads.0 asks.leads.1)
+    asks_booking c.args.terms.now intake asks (c.book.ensures.runs intake asks.leads.0 asks.leads.1)

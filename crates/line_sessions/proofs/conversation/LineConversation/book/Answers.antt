@@ -1,7 +1,7 @@
 use Rattle.std.proofs.Common.{None, Some, refl, sym, ap}
 use Rattle.std.proofs.lemmas.Result.{err_from_is_err_and}
 use Rattle.line_sessions.specs.declared.conversation.LineConversation.{LineConversation}
-use Rattle.line_sessions.proofs.Moves.{book_faulted, book_told}
+use Rattle.line_sessions.proofs.Moves.{book_faulted, book_told, leads_on}
 use Rattle.line_sessions.proofs.conversation.LineConversation.book.Goals as goal
 
 pub returns-in_err-reply-clause-runs : goal.returns-in_err-reply-clause-runs
@@ -13,12 +13,15 @@ pub returns-in_err-tell-clause-runs : goal.returns-in_err-tell-clause-runs
 returns-in_err-tell-clause-runs g c = λ intake brief books.
     let p = err_from_is_err_and c.from_residual-in_err-tell.result c.from_residual-in_err-tell.ensures.1 in
     let told = c.in_err-tell.ensures in
-    rw (p.1, p.2)
-    (book_told c.args.terms.now intake c.args.self.now c.tell.new.self c.in_ok-reply.reply (Some c.in_err-tell.field-0.0) _ refl brief c.args.booking books c.act-outcome.ensures.call c.in_ok-reply.was told.puts
-    (ap (λ (c : LineConversation). c.session) told.same) (ap (λ (c : LineConversation). c.entered) told.same) (ap (λ (c : LineConversation). c.cursor) told.same) tt)
+    let leads = book_told c.args.terms.now intake c.args.self.now c.tell.new.self c.in_ok-reply.reply (Some c.in_err-tell.field-0.0) _ refl brief c.args.booking books c.act-outcome.ensures.call
+    c.in_ok-reply.was told.puts
+    (ap (λ (c : LineConversation). c.session) told.same) (ap (λ (c : LineConversation). c.entered) told.same) (ap (λ (c : LineConversation). c.cursor) told.same) tt in
+    rw (p.1, p.2) (record { v1 = leads.v1; v1_is = tt; runs = leads.runs })
 
 pub returns-clause-runs : goal.returns-clause-runs
 returns-clause-runs g c = λ intake brief books.
     let told = c.in_ok-tell.ensures in
-    book_told c.args.terms.now intake c.args.self.now c.tell.new.self c.in_ok-reply.reply None _ refl brief c.args.booking books c.act-outcome.ensures.call c.in_ok-reply.was told.puts
-    (ap (λ (c : LineConversation). c.session) told.same) (ap (λ (c : LineConversation). c.entered) told.same) (ap (λ (c : LineConversation). c.cursor) told.same) (sym told.told)
+    leads_on c.args.terms.now intake
+    (book_told c.args.terms.now intake c.args.self.now c.tell.new.self c.in_ok-reply.reply None _ refl brief c.args.booking books c.act-outcome.ensures.call c.in_ok-reply.was told.puts
+    (ap (λ (c : LineConversation). c.session) told.same) (ap (λ (c : LineConversation). c.entered) told.same) (ap (λ (c : LineConversation). c.cursor) told.same) (sym told.told))
+    (c.news.ensures.runs intake)

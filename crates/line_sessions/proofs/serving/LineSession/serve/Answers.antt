@@ -6,11 +6,11 @@ use Rattle.line_sessions.proofs.serving.LineSession.serve.Goals as goal
 
 pub returns-clause-served : goal.returns-clause-served
 returns-clause-served g c =
-    let last = c.hear-end.ensures.ends.0 in
-    let ends = c.hear-end.ensures.ends.1 in
-    let conversation = c.hear-end.new.self.conversation.now in
+    let last = c.hear_lines-end.ensures.hears.last in
+    let ends = c.hear_lines-end.ensures.hears.ends_so.1 in
+    let conversation = c.hear_lines-end.new.talker.conversation.now in
     record {
       last = with_v1 last conversation ends.v1 (Over c.leave.result);
       over = refl;
-      runs = runs_on ends.runs (left_runs c.args.self.now.terms.now last conversation ends.v1 c.hear-end.result c.leave.result c.leave.ensures.leaves);
+      runs = runs_on ends.runs (left_runs c.args.self.now.terms.now last conversation ends.v1 c.hear_lines-end.result c.leave.result c.leave.ensures.leaves);
     }

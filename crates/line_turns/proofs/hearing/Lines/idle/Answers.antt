@@ -12,4 +12,4 @@ returns-in_err-idle-clause-hears g c =
 pub returns-clause-hears : goal.returns-clause-hears
 returns-clause-hears g c =
     idle_heard g.T.LineTalker.goes_on g.T.LineTalker.ends g.met.T.LineTalker.hears_lines c.args.self.now c.args.talker.now c.idle.new.self (g.L.Link.seen c.args.link.now) (g.L.Link.seen c.idle.new.link)
-    c.go_on.result c.in_ok-idle.ensures.hears c.requires.some c.go_on.ensures
+    c.keep_limits.result c.in_ok-idle.ensures.hears c.requires.some c.keep_limits.ensures

@@ -10,5 +10,5 @@ returns-in_err-news-clause-runs g c =
 
 pub returns-clause-runs : goal.returns-clause-runs
 returns-clause-runs g c =
-    let goes = idle_goes_on c.news.new.self.entered c.args.self.now.waiting c.go_on.result c.requires.some c.go_on.ensures in
+    let goes = idle_goes_on c.news.new.self.entered c.args.self.now.waiting c.keep_limits.result c.requires.some c.keep_limits.ensures in
     rw goes at (c.in_ok-news.ensures.runs (intake_of c.args.self.now))

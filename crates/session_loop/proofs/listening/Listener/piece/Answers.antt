@@ -23,4 +23,4 @@ returns-clause-reads g c =
     } in
     let after : Listener = record c.args.self.now { splitter = c.meet_all.new.splitter } in
     reads_at (intake_of after)
-    (runs_on (rw ran.1 at ran.2) (met_goes_on after c.meet_all.new.self c.go_on.result met c.requires.waits c.go_on.ensures))
+    (runs_on (rw ran.1 at ran.2) (met_goes_on after c.meet_all.new.self c.keep_limits.result met c.requires.waits c.keep_limits.ensures))

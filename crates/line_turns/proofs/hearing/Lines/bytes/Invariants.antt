@@ -1,7 +1,7 @@
 use Rattle.std.proofs.Common.{◌≡◌, ◌++◌, length}
 use Rattle.line_reader.specs.Lines.{IsLineText}
 use Rattle.line_turns.specs.Hearing.{intake_at}
-use Rattle.line_turns.proofs.hearing.Lines.piece.Given as goal
+use Rattle.line_turns.proofs.hearing.Lines.bytes.Given as goal
 
 abbrev pub invariant-loop-rest : goal.invariant-loop-rest
 invariant-loop-rest g l = record {
