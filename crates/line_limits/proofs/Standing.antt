@@ -10,6 +10,7 @@ use Rattle.pool_history.specs.declared.replies.Reply.{Reply}
 use Rattle.pool_history.specs.declared.replies.Reply.TheVariants as reply
 use Rattle.pool_history.specs.Calls.{PoolCall}
 use Rattle.session_steps.specs.declared.manner.Manner.{Manner}
+use Rattle.session_steps.specs.declared.ends.SessionEnd.{SessionEnd}
 use Rattle.session_steps.specs.declared.ends.SessionEnd.TheVariants as end
 use Rattle.session_steps.specs.States.{State, Stage, Asking, Committing, Greeting, Leaving, Over, Polling, Reading, Refusing, Put, end_stage, failed_end, fault_end, hears, input_end}
 use Rattle.session_steps.specs.Steps as frames
@@ -207,3 +208,9 @@ pub session_stands : (worker : ℕ) (terms : Terms) (manner : Manner) (xs : List
     → Follows worker terms (new_line_state manner) xs last → Stands (session_bounds manner.idle_turns) (outer_steps xs) last.pool
 session_stands worker terms manner xs last positive follows =
     stands_on (session_bounds manner.idle_turns) worker terms (new_line_state manner) last [] xs positive (reading_stands manner positive) follows
+
+-- and its end
+pub outer_ends_show : (worker : ℕ) (terms : Terms) (manner : Manner) (xs : List LineStep) (last : LineState) (reason : SessionEnd) → 0 < manner.idle_turns
+    → Follows worker terms (new_line_state manner) xs last → last.pool.stage ≡ Over reason → EndShows (session_bounds manner.idle_turns) (outer_steps xs) reason
+outer_ends_show worker terms manner xs last reason positive follows over =
+    subst (StageShows (session_bounds manner.idle_turns) (outer_steps xs) last.pool.idles) over (session_stands worker terms manner xs last positive follows).stage

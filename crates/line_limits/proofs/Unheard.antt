@@ -15,20 +15,20 @@ use Rattle.session_steps.specs.declared.ends.SessionEnd.{SessionEnd}
 use Rattle.session_steps.specs.declared.ends.SessionEnd.TheVariants as end
 use Rattle.session_steps.specs.States.{Stage, Asking, Committing, Greeting, Leaving, Over, Polling, Reading, Refusing, Put, end_stage, failed_end, fault_end, hears, input_end, news_stage}
 use Rattle.session_steps.specs.Steps.{after_call, end_after}
-use Rattle.session_loop.specs.Good.{IsGoodEnd}
-use Rattle.session_loop.proofs.Good.{IsGoodStage, asking_stays, booking_stays, good_fault, good_news, news_stays}
+use Rattle.session_loop.proofs.Quiet.{IsQuietEnd, IsQuietStage, asking_quiet, booking_quiet, polling_quiet, quiet_fault, quiet_news}
 use Rattle.session_limits.proofs.Standing.{any_last, any_more}
 use Rattle.v1_rules.specs.Lines.{line_reaction}
 use Rattle.v1_rules.specs.State.{Terms}
 use Rattle.line_steps.specs.Requests.{LineRequest}
 use Rattle.line_steps.specs.States.{LineState, after_called, after_entering, asks_now, enters_now, entered_next, new_line_state, sends, unless_failed}
 use Rattle.line_steps.specs.Steps.{Called, CanStep, Ended, Follows, Heard, Idled, LineStep, Missed, Overran, Requests, Spent, Starved, Took, after_step, has_ended, is_end}
-use Rattle.line_limits.specs.Ends.{IsCutLine}
+use Rattle.line_limits.specs.Ends.{IsAllHeard, IsCutLine}
 
 -- what an end says of the bytes that weren't heard
 abbrev pub Leaves : List LineStep → List ℕ → SessionEnd → Type 0
 Leaves done unheard (end.CutFrame count) = IsCutLine done unheard count
 Leaves done unheard end.LineTooLong = BeginsLongLine unheard
+Leaves done unheard end.Done = IsAllHeard done unheard
 Leaves done unheard end.BadSetup = ⊥
 Leaves done unheard (end.TooLong len) = ⊥
 Leaves done unheard (end.BadMessage kind) = ⊥
@@ -44,31 +44,31 @@ module _ (done : List LineStep) (unheard : List ℕ) where
   end_leaves true reason leaves = leaves
   end_leaves false reason leaves = leaves
 
-  -- an end that the input isn't to blame for says nothing of it
-  good_leaves : (reason : SessionEnd) → IsGoodEnd reason → Leaves done unheard reason
-  good_leaves (end.CutFrame count) good = absurd good
-  good_leaves (end.TooLong len) good = absurd good
-  good_leaves end.BadSetup good = absurd good
-  good_leaves (end.BadMessage kind) good = absurd good
-  good_leaves end.LineTooLong good = absurd good
-  good_leaves end.Done good = tt
-  good_leaves end.IdleOut good = tt
-  good_leaves end.BytesOut good = tt
-  good_leaves end.PoolFull good = tt
-  good_leaves end.ReadFault good = tt
-  good_leaves end.WriteFault good = tt
-  good_leaves end.LedgerFault good = tt
-  good_leaves end.Memory good = tt
+  -- an end that no input brings says nothing of it
+  quiet_leaves : (reason : SessionEnd) → IsQuietEnd reason → Leaves done unheard reason
+  quiet_leaves end.Done quiet = absurd quiet
+  quiet_leaves (end.CutFrame count) quiet = absurd quiet
+  quiet_leaves (end.TooLong len) quiet = absurd quiet
+  quiet_leaves end.BadSetup quiet = absurd quiet
+  quiet_leaves (end.BadMessage kind) quiet = absurd quiet
+  quiet_leaves end.LineTooLong quiet = absurd quiet
+  quiet_leaves end.IdleOut quiet = tt
+  quiet_leaves end.BytesOut quiet = tt
+  quiet_leaves end.PoolFull quiet = tt
+  quiet_leaves end.ReadFault quiet = tt
+  quiet_leaves end.WriteFault quiet = tt
+  quiet_leaves end.LedgerFault quiet = tt
+  quiet_leaves end.Memory quiet = tt
 
-  good_stage : (stage : Stage) → IsGoodStage stage → StageLeaves done unheard stage
-  good_stage (Leaving reason) good = good_leaves reason good
-  good_stage (Over reason) good = good_leaves reason good
-  good_stage (Refusing code flags) good = absurd good
-  good_stage Greeting good = tt
-  good_stage Reading good = tt
-  good_stage (Asking asked) good = tt
-  good_stage (Committing brief) good = tt
-  good_stage Polling good = tt
+  quiet_stage : (stage : Stage) → IsQuietStage stage → StageLeaves done unheard stage
+  quiet_stage (Leaving reason) quiet = quiet_leaves reason quiet
+  quiet_stage (Over reason) quiet = quiet_leaves reason quiet
+  quiet_stage (Refusing code flags) quiet = absurd quiet
+  quiet_stage Greeting quiet = tt
+  quiet_stage Reading quiet = tt
+  quiet_stage (Asking asked) quiet = tt
+  quiet_stage (Committing brief) quiet = tt
+  quiet_stage Polling quiet = tt
 
   at_reading : (stage : Stage) → stage ≡ Reading → StageLeaves done unheard stage
   at_reading stage is = subst (StageLeaves done unheard) (sym is) tt
@@ -78,7 +78,7 @@ module _ (done : List LineStep) (unheard : List ℕ) where
   failed_leaves sink.Memory = tt
 
   input_leaves : (has_ended done ≡ true) → IsLineText unheard → (bytes : List ℕ) → bytes ≡ unheard → Leaves done unheard (input_end bytes)
-  input_leaves ended text [] is = tt
+  input_leaves ended text [] is = record { ended = ended; none = sym is }
   input_leaves ended text (byte ∷ bytes) is = record {
     counted = ap length (sym is);
     some = omega arith;
@@ -107,7 +107,7 @@ module _ (done : List LineStep) (unheard : List ℕ) where
   entered_leaves wish answer s = tt
 
   entering_leaves : (wish : LineRequest) (s : LineState) (front : ℕ) (outcome : Outcome Reply BookError) → StageLeaves done unheard (after_entering wish s front outcome).pool.stage
-  entering_leaves wish s front (Faulted cause) = end_leaves s.pool.entered (fault_end cause) (good_leaves (fault_end cause) (good_fault cause))
+  entering_leaves wish s front (Faulted cause) = end_leaves s.pool.entered (fault_end cause) (quiet_leaves (fault_end cause) (quiet_fault cause))
   entering_leaves wish s front (Replied answer) = entered_leaves wish answer (record s { pool = hears s.pool front answer })
 
 -- what is said of the bytes stays, a step later
@@ -122,7 +122,7 @@ leaves_more done x unheard (end.TooLong len) leaves = leaves
 leaves_more done x unheard end.BadSetup leaves = leaves
 leaves_more done x unheard (end.BadMessage kind) leaves = leaves
 leaves_more done x unheard end.LineTooLong leaves = leaves
-leaves_more done x unheard end.Done leaves = tt
+leaves_more done x unheard end.Done leaves = record { ended = any_more is_end done (x ∷ []) leaves.ended; none = leaves.none }
 leaves_more done x unheard end.IdleOut leaves = tt
 leaves_more done x unheard end.BytesOut leaves = tt
 leaves_more done x unheard end.PoolFull leaves = tt
@@ -134,7 +134,7 @@ leaves_more done x unheard end.Memory leaves = tt
 -- so does the end, but for that of a session that was done
 left_leaves : (done : List LineStep) (unheard : List ℕ) (reason : SessionEnd) (outcome : Outcome Reply BookError) → Leaves done unheard reason → Leaves done unheard (end_after reason outcome)
 left_leaves done unheard reason (Replied answer) leaves = leaves
-left_leaves done unheard end.Done (Faulted cause) leaves = good_leaves done unheard (fault_end cause) (good_fault cause)
+left_leaves done unheard end.Done (Faulted cause) leaves = quiet_leaves done unheard (fault_end cause) (quiet_fault cause)
 left_leaves done unheard (end.CutFrame count) (Faulted cause) leaves = leaves
 left_leaves done unheard (end.TooLong len) (Faulted cause) leaves = leaves
 left_leaves done unheard end.BadSetup (Faulted cause) leaves = leaves
@@ -156,14 +156,14 @@ module _ (worker : ℕ) (terms : Terms) (done : List LineStep) (s : LineState) w
   asked_leaves : (stage : Stage) (call : PoolCall) (put : Put) → Requests stage s call → StageLeaves done s.pool.unmet stage
       → StageLeaves (done ++ Called call put ∷ []) (after_call stage s.pool call put).unmet (after_call stage s.pool call put).stage
   asked_leaves (Asking asked) call put asks leaves =
-      good_stage (done ++ Called call put ∷ []) (after_call (Asking asked) s.pool call put).unmet (after_call (Asking asked) s.pool call put).stage
-      (asking_stays s.pool call.front call.outcome put).stage
+      quiet_stage (done ++ Called call put ∷ []) (after_call (Asking asked) s.pool call put).unmet (after_call (Asking asked) s.pool call put).stage
+      (asking_quiet s.pool call.front call.outcome put)
   asked_leaves (Committing brief) call put asks leaves =
-      good_stage (done ++ Called call put ∷ []) (after_call (Committing brief) s.pool call put).unmet (after_call (Committing brief) s.pool call put).stage
-      (booking_stays s.pool call.outcome put).stage
+      quiet_stage (done ++ Called call put ∷ []) (after_call (Committing brief) s.pool call put).unmet (after_call (Committing brief) s.pool call put).stage
+      (booking_quiet s.pool call.outcome put)
   asked_leaves Polling call put asks leaves =
-      good_stage (done ++ Called call put ∷ []) (after_call Polling s.pool call put).unmet (after_call Polling s.pool call put).stage
-      (news_stays s.pool call.outcome put).stage
+      quiet_stage (done ++ Called call put ∷ []) (after_call Polling s.pool call put).unmet (after_call Polling s.pool call put).stage
+      (polling_quiet s.pool call.outcome put)
   asked_leaves (Leaving reason) call put asks leaves =
       left_leaves (done ++ Called call put ∷ []) s.pool.unmet reason call.outcome (leaves_more done (Called call put) s.pool.unmet reason leaves)
   asked_leaves Greeting call put asks leaves = absurd asks
@@ -186,7 +186,7 @@ module _ (worker : ℕ) (terms : Terms) (done : List LineStep) (s : LineState) w
       heard_leaves (done ++ x ∷ []) (after_step terms s x).pool.unmet put.fault wish t t can.reading
   step_leaves Overran can leaves = end_leaves (done ++ Overran ∷ []) s.pool.unmet s.pool.entered end.LineTooLong can.long
   step_leaves Idled can leaves =
-      good_stage (done ++ Idled ∷ []) s.pool.unmet (news_stage s.pool.entered (s.pool.idles - 1)) (good_news s.pool.entered (s.pool.idles - 1))
+      quiet_stage (done ++ Idled ∷ []) s.pool.unmet (news_stage s.pool.entered (s.pool.idles - 1)) (quiet_news s.pool.entered (s.pool.idles - 1))
   step_leaves Ended can leaves =
       end_leaves (done ++ Ended ∷ []) s.pool.unmet s.pool.entered (input_end s.pool.unmet)
       (input_leaves (done ++ Ended ∷ []) s.pool.unmet (any_last is_end done Ended refl) can.waiting.text s.pool.unmet refl)

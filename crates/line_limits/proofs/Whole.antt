@@ -15,7 +15,7 @@ use Rattle.session_steps.specs.declared.manner.Manner.{Manner}
 use Rattle.session_steps.specs.declared.ends.SessionEnd.{SessionEnd}
 use Rattle.session_steps.specs.declared.ends.SessionEnd.TheVariants as end
 use Rattle.session_limits.specs.Ends.{IsWellEnded, has_missed, has_turned_away, has_unkept, has_unwritten, is_unwritten, session_bounds}
-use Rattle.session_limits.proofs.Standing.{EndShows, StageShows}
+use Rattle.session_limits.proofs.Standing.{EndShows}
 use Rattle.session_limits.proofs.Whole.{neither}
 use Rattle.v1_rules.specs.State.{Terms}
 use Rattle.line_steps.specs.Laws.{lines_in}
@@ -24,7 +24,7 @@ use Rattle.line_steps.specs.Steps.{Called, Ended, Follows, Heard, Idled, LineSte
 use Rattle.line_steps.proofs.Whole.{taken_is_heard}
 use Rattle.line_limits.specs.Ends.{AreGoodLines, AreUnhinderedLines, ComesToEnd, IsCutLine, LineEndShows, has_missed_turn, has_unwritten_line}
 use Rattle.line_limits.specs.Laws.{GoodLinesEndWell, LineEndsHaveCauses, LineSessionsKeepLimits}
-use Rattle.line_limits.proofs.Standing.{outer_calls, outer_steps, outer_turns, session_stands}
+use Rattle.line_limits.proofs.Standing.{outer_calls, outer_ends_show, outer_steps, outer_turns, session_stands}
 use Rattle.line_limits.proofs.Unheard.{Leaves, session_leaves}
 
 outer_missed : (xs : List LineStep) → has_missed (outer_steps xs) ≡ has_missed_turn xs
@@ -66,7 +66,7 @@ shows_both idle_turns steps unheard end.ReadFault shows leaves = sym (outer_miss
 shows_both idle_turns steps unheard end.WriteFault shows leaves = sym (outer_unwritten steps) ∙ shows
 shows_both idle_turns steps unheard (end.CutFrame count) shows leaves = leaves
 shows_both idle_turns steps unheard end.LineTooLong shows leaves = leaves
-shows_both idle_turns steps unheard end.Done shows leaves = tt
+shows_both idle_turns steps unheard end.Done shows leaves = leaves
 shows_both idle_turns steps unheard end.Memory shows leaves = tt
 shows_both idle_turns steps unheard (end.TooLong len) shows leaves = leaves
 shows_both idle_turns steps unheard end.BadSetup shows leaves = leaves
@@ -75,8 +75,7 @@ shows_both idle_turns steps unheard (end.BadMessage kind) shows leaves = leaves
 pub ends_have_causes : LineEndsHaveCauses
 ends_have_causes worker terms manner steps reason positive comes =
     shows_both manner.idle_turns steps comes.last.pool.unmet reason
-    (subst (StageShows (session_bounds manner.idle_turns) (outer_steps steps) comes.last.pool.idles) comes.over
-    (session_stands worker terms manner steps comes.last positive comes.follows).stage)
+    (outer_ends_show worker terms manner steps comes.last reason positive comes.follows comes.over)
     (session_leaves worker terms manner steps comes.last reason comes.follows comes.over)
 
 -- ---- good lines

@@ -1,5 +1,5 @@
 -- What the ends of a session of lines come from (this project's own).
-use Rattle.std.specs.Prelude.{◌≡◌, ℕ, ◌<◌, Bool, true, false, List, length}
+use Rattle.std.specs.Prelude.{◌≡◌, ℕ, ◌<◌, Bool, true, false, List, [], length}
 use Rattle.std.specs.List.{AllByRecursion, list_any}
 use Rattle.pool_io.specs.declared.turn.Turn.{Turn}
 use Rattle.pool_io.specs.Steps.{IsAtLimit, IsBytesOut, IsIdleOut, bytes_in, steps_of}
@@ -43,6 +43,11 @@ pub record IsCutLine (steps : List LineStep) (unheard : List ℕ) (count : ℕ) 
   pub text : IsLineText unheard
   pub ended : has_ended steps ≡ true
 
+-- the input ended, and all that came was heard
+pub record IsAllHeard (steps : List LineStep) (unheard : List ℕ) : Type 0 where
+  pub ended : has_ended steps ≡ true
+  pub none : unheard ≡ []
+
 -- what an end shows of the steps that led to it, and of the bytes that weren't heard
 abbrev pub LineEndShows : ℕ → List LineStep → List ℕ → SessionEnd → Type 0
 LineEndShows idle_turns steps unheard end.IdleOut =
@@ -55,7 +60,7 @@ LineEndShows idle_turns steps unheard end.ReadFault = has_missed_turn steps ≡ 
 LineEndShows idle_turns steps unheard end.WriteFault = has_unwritten_line steps ≡ true
 LineEndShows idle_turns steps unheard (end.CutFrame count) = IsCutLine steps unheard count
 LineEndShows idle_turns steps unheard end.LineTooLong = BeginsLongLine unheard
-LineEndShows idle_turns steps unheard end.Done = Unit {0}
+LineEndShows idle_turns steps unheard end.Done = IsAllHeard steps unheard
 LineEndShows idle_turns steps unheard end.Memory = Unit {0}
 LineEndShows idle_turns steps unheard (end.TooLong len) = ⊥
 LineEndShows idle_turns steps unheard end.BadSetup = ⊥

@@ -2,10 +2,10 @@
 
 ghost use Rattle.line_limits.specs.Laws.{GoodLinesEndWell, LineEndsHaveCauses, LineSessionsEnterFirst, LineSessionsKeepLimits};
 
-/// A session ends for its Idle turns, its bytes, a full pool, its ledger, a read or a write only
-/// where the limit was reached, the pool answered so, or that failed; in the middle of a line only
-/// at the end of the input; for a line that is too long only where the bytes that aren't heard begin
-/// with one; and for no frame.
+/// A session is done only where its input ended and all of it was heard. It ends for its Idle turns,
+/// its bytes, a full pool, its ledger, a read or a write only where the limit was reached, the pool
+/// answered so, or that failed; in the middle of a line only at the end of the input; for a line
+/// that is too long only where the bytes that aren't heard begin with one; and for no frame.
 pub fn line_ends_have_causes()
     ensures { LineEndsHaveCauses }
 {}

@@ -1,3 +1,4 @@
 pub mod Lines
 pub mod Speaking
 pub mod Whole
+pub mod Framing

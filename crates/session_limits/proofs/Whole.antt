@@ -56,31 +56,26 @@ brought_free : (bounds : Bounds) (turns : List Turn) (left : Option (List Turn))
     → IsFree bounds (steps_of turns) → IsAtLimit bounds taken → ⊥
 brought_free bounds turns left taken brought free at = free_of bounds (steps_of turns) taken (steps_of brought.0) free brought.2 at
 
--- the same by the counts that go with a session
-pub unhindered_well : (worker : ℕ) (manner : Manner) (xs : List SessionStep) (reason : SessionEnd) (turns : List Turn) (left : Option (List Turn))
-    (old new : Failures) → 0 < manner.idle_turns → ComesTo worker manner xs reason → BringsSteps (Some turns) left (turns_in xs)
-    → CountsFailure (is_read_end reason) old.reads new.reads → CountsFailure (is_write_end reason) old.writes new.writes
-    → CountsThrough old.keeper (calls_in xs) new.keeper → has_turned_away (calls_in xs) ≡ false → IsGoodEnd reason
-    → HasNoHindrance manner.idle_turns turns old new → IsWellEnded reason
-unhindered_well worker manner xs reason turns left old new positive comes brought reads writes counts lets good free =
-    ends_well (session_bounds manner.idle_turns) xs reason good
-    (ends_show worker manner xs comes.last reason positive comes.follows comes.over)
-    (brought_free (session_bounds manner.idle_turns) turns left (turns_in xs) brought free.within)
-    (λ away. neither (has_turned_away (calls_in xs)) away lets)
-    (λ unkept. free.keeper (unkept_rose old.keeper new.keeper (calls_in xs) counts unkept))
-    (λ is. free.reads (rose_by true old.reads new.reads refl (subst (λ r. CountsFailure (is_read_end r) old.reads new.reads) is reads)))
-    (λ is. free.writes (rose_by true old.writes new.writes refl (subst (λ r. CountsFailure (is_write_end r) old.writes new.writes) is writes)))
+-- The same by the counts that go with a session, whatever shows what it ended for.
+module _ (idle_turns : ℕ) (xs : List SessionStep) (reason : SessionEnd) (turns : List Turn) (left : Option (List Turn)) (shows : EndShows (session_bounds idle_turns) xs reason)
+    (brought : BringsSteps (Some turns) left (turns_in xs)) (lets : has_turned_away (calls_in xs) ≡ false) (good : IsGoodEnd reason) where
+  pub unhindered_well : (old new : Failures) → CountsFailure (is_read_end reason) old.reads new.reads → CountsFailure (is_write_end reason) old.writes new.writes
+      → CountsThrough old.keeper (calls_in xs) new.keeper → HasNoHindrance idle_turns turns old new → IsWellEnded reason
+  unhindered_well old new reads writes counts free =
+      ends_well (session_bounds idle_turns) xs reason good shows
+      (brought_free (session_bounds idle_turns) turns left (turns_in xs) brought free.within)
+      (λ away. neither (has_turned_away (calls_in xs)) away lets)
+      (λ unkept. free.keeper (unkept_rose old.keeper new.keeper (calls_in xs) counts unkept))
+      (λ is. free.reads (rose_by true old.reads new.reads refl (subst (λ r. CountsFailure (is_read_end r) old.reads new.reads) is reads)))
+      (λ is. free.writes (rose_by true old.writes new.writes refl (subst (λ r. CountsFailure (is_write_end r) old.writes new.writes) is writes)))
 
--- the same by its own calls, none of which was answered by the keeper's fault or that the pool is full
-pub unstopped_well : (worker : ℕ) (manner : Manner) (xs : List SessionStep) (reason : SessionEnd) (turns : List Turn) (left : Option (List Turn))
-    (r r' w w' : ℕ) → 0 < manner.idle_turns → ComesTo worker manner xs reason → BringsSteps (Some turns) left (turns_in xs)
-    → CountsFailure (is_read_end reason) r r' → CountsFailure (is_write_end reason) w w' → IsFree (session_bounds manner.idle_turns) (steps_of turns)
-    → ¬ Rose r r' → ¬ Rose w w' → has_unkept (calls_in xs) ≡ false → has_turned_away (calls_in xs) ≡ false → IsGoodEnd reason → IsWellEnded reason
-unstopped_well worker manner xs reason turns left r r' w w' positive comes brought reads writes free read written kept lets good =
-    ends_well (session_bounds manner.idle_turns) xs reason good
-    (ends_show worker manner xs comes.last reason positive comes.follows comes.over)
-    (brought_free (session_bounds manner.idle_turns) turns left (turns_in xs) brought free)
-    (λ away. neither (has_turned_away (calls_in xs)) away lets)
-    (λ unkept. neither (has_unkept (calls_in xs)) unkept kept)
-    (λ is. read (rose_by true r r' refl (subst (λ e. CountsFailure (is_read_end e) r r') is reads)))
-    (λ is. written (rose_by true w w' refl (subst (λ e. CountsFailure (is_write_end e) w w') is writes)))
+  -- and by its own calls, none of which was answered by the keeper's fault or that the pool is full
+  pub unstopped_well : (r r' w w' : ℕ) → CountsFailure (is_read_end reason) r r' → CountsFailure (is_write_end reason) w w' → IsFree (session_bounds idle_turns) (steps_of turns)
+      → ¬ Rose r r' → ¬ Rose w w' → has_unkept (calls_in xs) ≡ false → IsWellEnded reason
+  unstopped_well r r' w w' reads writes free read written kept =
+      ends_well (session_bounds idle_turns) xs reason good shows
+      (brought_free (session_bounds idle_turns) turns left (turns_in xs) brought free)
+      (λ away. neither (has_turned_away (calls_in xs)) away lets)
+      (λ unkept. neither (has_unkept (calls_in xs)) unkept kept)
+      (λ is. read (rose_by true r r' refl (subst (λ e. CountsFailure (is_read_end e) r r') is reads)))
+      (λ is. written (rose_by true w w' refl (subst (λ e. CountsFailure (is_write_end e) w w') is writes)))

@@ -21,6 +21,7 @@ use Rattle.session_limits.specs.Ends.{EntersFirst, has_turned_away, is_enter, is
 use Rattle.session_limits.proofs.Entering.{enters_first}
 use Rattle.session_limits.proofs.Filling.{few_entered, only_enters}
 use Rattle.session_limits.proofs.Rising.{CountsThrough, rose_by}
+use Rattle.session_limits.proofs.Standing.{ends_show}
 use Rattle.session_limits.proofs.Whole.{neither, unhindered_well}
 use Rattle.solo_session.specs.Calling.{StandInTurn}
 use Rattle.solo_session.specs.Solo.{CountsCalls, IsServedWell, IsSoloSession, Outsides, ServesBook, ServesGoodInput, ServesSession, failures_of, sole_worker, solo_manner}
@@ -63,12 +64,12 @@ over_well : {rules : Rules} {idle_turns : ℕ} {old new : Outsides} {reason : Se
     → ((turns : List Turn) → old.source.left ≡ Some turns → IsGoodInput (solo_manner rules idle_turns) turns → IsGoodEnd reason)
     → ServesGoodInput rules idle_turns old new (solo.Over reason)
 over_well {rules = rules} {idle_turns = idle_turns} {old = old} {new = new} {reason = reason} waits session good turns is input free =
-    unhindered_well sole_worker (solo_manner rules idle_turns) session.steps reason turns new.source.left (failures_of old) (failures_of new)
-    waits (record { last = session.last; follows = session.follows; over = session.over }) (rw is at session.took) session.reads session.writes
-    (through_calls old.keeper.faults new.keeper.faults (calls_in session.steps) session.counts)
-    (all_in rules (calls_in session.steps) session.turns
-    (enters_first sole_worker (solo_manner rules idle_turns) session.steps session.last session.follows))
-    (good turns is input) free
+    let manner = solo_manner rules idle_turns in
+    unhindered_well idle_turns session.steps reason turns new.source.left
+    (ends_show sole_worker manner session.steps session.last reason waits session.follows session.over) (rw is at session.took)
+    (all_in rules (calls_in session.steps) session.turns (enters_first sole_worker manner session.steps session.last session.follows)) (good turns is input)
+    (failures_of old) (failures_of new) session.reads session.writes
+    (through_calls old.keeper.faults new.keeper.faults (calls_in session.steps) session.counts) free
 
 pub serves_session : {rules : Rules} {idle_turns : ℕ} {old new : Outsides} {reason : SessionEnd} (history : List Event) → 0 < idle_turns
     → IsSoloSession rules idle_turns old new reason history
