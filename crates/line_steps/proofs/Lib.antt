@@ -2,3 +2,4 @@ pub mod Chains
 pub mod Lines
 pub mod Counted
 pub mod Whole
+pub mod Answered

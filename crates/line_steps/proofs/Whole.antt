@@ -110,7 +110,7 @@ called_v1 : (terms : Terms) (next : Option LineRequest) (s : LineState) (call : 
 called_v1 terms (Some wish) s call put = entering_v1 wish s call.front call.outcome
 called_v1 terms None s call put = told_v1 terms s call put call.outcome refl
 
-step_v1 : (terms : Terms) (s : LineState) (x : LineStep) → (after_step terms s x).v1 ≡ v1_after terms s.v1 (heard_in s x)
+pub step_v1 : (terms : Terms) (s : LineState) (x : LineStep) → (after_step terms s x).v1 ≡ v1_after terms s.v1 (heard_in s x)
 step_v1 terms s (Heard line rest wish put) = unless_v1 put.fault _ _ (sent_v1 wish _)
 step_v1 terms s (Called call put) = called_v1 terms s.next s call put
 step_v1 terms s (Took bytes) = refl
@@ -129,10 +129,10 @@ v1_from worker terms s t (x ∷ xs) follows =
     ∙ sym (v1_on terms s.v1 (heard_in s x) (all_heard terms (after_step terms s x) xs))
 
 -- the last that was heard stands first where it is looked back on
-last_first : {B : Type 0} (x : B) (xs past : List B) → reverse xs ++ x ∷ past ≡ reverse (x ∷ xs) ++ past
+pub last_first : {B : Type 0} (x : B) (xs past : List B) → reverse xs ++ x ∷ past ≡ reverse (x ∷ xs) ++ past
 last_first x xs past = sym (append_assoc (reverse xs) (x ∷ []) past) ∙ ap (λ l. l ++ past) (sym (reverse-append (x ∷ []) xs))
 
-fold_is : (terms : Terms) (past hs : List v1.Heard) → v1_after terms (state_after terms past) hs ≡ state_after terms (reverse hs ++ past)
+pub fold_is : (terms : Terms) (past hs : List v1.Heard) → v1_after terms (state_after terms past) hs ≡ state_after terms (reverse hs ++ past)
 fold_is terms past [] = refl
 fold_is terms past (h ∷ hs) = fold_is terms (h ∷ past) hs ∙ ap (state_after terms) (last_first h hs past)
 

@@ -1,6 +1,6 @@
 //! What holds of each session of lines.
 
-ghost use Rattle.line_steps.specs.Laws.{SaidIsPut, SessionsAreFolds, TakenIsHeard};
+ghost use Rattle.line_steps.specs.Laws.{RequestsAreAnswered, SaidIsPut, SessionsAreFolds, TakenIsHeard};
 
 /// However the bytes came, those that a session took are the lines that it heard, each with its end,
 /// and then what isn't heard.
@@ -17,4 +17,10 @@ pub fn sessions_are_folds()
 /// Where no put failed, a session put the lines of all that it says to what it heard, in order.
 pub fn said_is_put()
     ensures { SaidIsPut }
+{}
+
+/// Where the pool replies to each request, each line that asks is answered, once, before the next one
+/// is heard.
+pub fn requests_are_answered()
+    ensures { RequestsAreAnswered }
 {}

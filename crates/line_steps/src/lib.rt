@@ -5,4 +5,4 @@
 
 mod laws;
 
-pub use laws::{said_is_put, sessions_are_folds, taken_bytes_are_heard};
+pub use laws::{requests_are_answered, said_is_put, sessions_are_folds, taken_bytes_are_heard};
