@@ -14,7 +14,8 @@ use session_workers::{DeskWorker, serve_link};
 use share_ledger::Book;
 use std::alloc::Global;
 use std::sync::Wait;
-use trial_support::{Tried, bytes, hex_of, number, role, word, words_of};
+use trial_support::{Tried, bytes, example_rules, hex_of, number, role, word, words_of};
+use v1_translate::V1Terms;
 
 /// Tries each line of a file: a session in a role over the turns of a link, where a take, a put or an
 /// append may fail. Says what went wrong, and how many lines there were; none where there is no
@@ -39,11 +40,12 @@ pub(crate) fn try_links(rt: &impl Wait, alloc: Global, file: &str, text: &str) -
 /// How a session ends, and the bytes that its link got.
 fn serve(rt: &impl Wait, alloc: Global, words: &[&str]) -> Option<String> {
     let role = role(words, 0)?;
+    let terms = V1Terms::of(alloc, &example_rules(alloc, true, 3).ok()?, 32).ok()?;
     let source = MemSource::new(turns(alloc, words)?, failing(alloc, words, "take")?);
     let sink = MemSink::new(Vec::new(alloc), failing(alloc, words, "put")?);
     let book = begun(alloc, true, 3, failing(alloc, words, "append")?)?;
     let mut link = Streams { source, sink };
-    let end = end_over(rt, alloc, book, &mut link, role);
+    let end = end_over(rt, alloc, book, &mut link, role, &terms);
     let Streams { source: _, sink } = link;
     let (end, got) = (end?, hex_of(alloc, sink.bytes())?);
     format!(in alloc; "{end:?} {got}").ok()
@@ -88,6 +90,7 @@ fn visit(
     pass: &mut Pass<Book<MemKeeper>>,
     link: &mut Streams<MemSource, MemSink>,
     role: Role,
+    terms: &V1Terms,
 ) -> SessionEnd
     requires { pass.old.table ≡ desk.now.table }
     ensures { pass.new.table ≡ pass.old.table }
@@ -103,7 +106,7 @@ fn visit(
         rolling: true,
         idle_turns: 2,
     };
-    let end = serve_link(alloc, &mut asker, link, manner);
+    let end = serve_link(alloc, &mut asker, link, manner, terms);
     let DeskWorker {
         rt: _,
         desk: _,
@@ -120,9 +123,10 @@ fn end_over(
     book: Book<MemKeeper>,
     link: &mut Streams<MemSource, MemSink>,
     role: Role,
+    terms: &V1Terms,
 ) -> Option<SessionEnd> {
     let (desk, mut first, second) = opened(alloc, book)?;
-    let end = visit(rt, alloc, &desk, &mut first, link, role);
+    let end = visit(rt, alloc, &desk, &mut first, link, role, terms);
     let book = closed(alloc, desk, first, second)?;
     let (_keeper, _history) = book.into_parts();
     Some(end)

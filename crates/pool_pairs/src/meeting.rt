@@ -19,6 +19,7 @@ use std::{str, thread};
 use sv2_types::Str255;
 use test_miner::{Feed, FeedEnd, Miner, MinerEnd, MinerTask, Script};
 use trial_support::example_rules;
+use v1_translate::V1Terms;
 
 /// How many turns in a row may bring nothing: so many that only who is waited for in vain gets there.
 const IDLE_TURNS: u64 = 10_000_000;
@@ -143,8 +144,9 @@ fn run_pool<R: Threads + Wait + Sync + Send + Copy + Drop>(
 ) -> Option<String> {
     let doors = Vec::from_array(alloc, [one, other]).ok()?;
     let rules = example_rules(alloc, true, 1000).ok()?;
+    let terms = V1Terms::of(alloc, &rules, 32).ok()?;
     match Book::new(alloc, rules, SureKeeper::new(alloc)) {
-        Ok(book) => serve_all(rt, alloc, book, doors, feed),
+        Ok(book) => serve_all(rt, alloc, book, doors, feed, &terms),
         Err((_keeper, _error)) => None,
     }
 }
@@ -156,6 +158,7 @@ fn serve_all<R, K: Keeper + Send + Drop, D: Door + Send + Drop>(
     book: Book<K>,
     doors: Vec<D>,
     feed: D::L,
+    terms: &V1Terms,
 ) -> Option<String>
 where
     R: Threads + Wait + Sync,
@@ -166,7 +169,7 @@ where
         idle_turns: IDLE_TURNS,
         door_turns: 1,
     };
-    match serve(rt, alloc, book, doors, feed, true, limits) {
+    match serve(rt, alloc, book, doors, feed, terms, limits) {
         Served::Ran {
             book,
             doors: _,

@@ -3,7 +3,6 @@ use mathlib.Core.List.{List, [], ◌∷◌}
 use Prim.Native.Nat.{ℕ}
 use mir.Syntax.{Lifetime}
 use base.Fml.{Lft}
-use denote.Builtin as builtin
 use denote.RattleType.{RattleType}
 use denote.Ref.{ShrRef}
 use denote.Struct.Field.{row_field}
@@ -22,6 +21,7 @@ use Rattle.pool_history.specs.contracts.refusals.BookError as BookError
 use Rattle.pool_history.specs.contracts.replies.Reply as Reply
 use Rattle.pool_io.specs.contracts.limits.Limits as Limits
 use Rattle.std.specs.contracts.alloc.Global as Global
+use Rattle.v1_translate.specs.contracts.terms.V1Terms as V1Terms
 use Rattle.pool_server.specs.contracts.parts.ThreadPart as ThreadPart
 use Rattle.pool_server.specs.contracts.parts.ThreadTask as ThreadTask
 
@@ -31,15 +31,16 @@ task_send D L d l = search (sendable, crosses) depth 40
 pub part_send : (D L K : RattleType) (g : Ghosts K.Denot) → IsSend D → IsSend L → IsSend K → IsSend (ThreadPart.the_row D L K g)
 part_send D L K g d l k = declared_send (ThreadPart.the_type D L K g) (task_send D L d l, (book_pass_send K g no_dict k, (search sendable, tt)))
 
--- what all threads share: the handle, the allocator, the desk and the limits, each by a reference
+-- what all threads share: the handle, the allocator, the desk, the terms and the limits, each by a
+-- reference
 module _ (a b c d e : Lifetime) (α β γ δ ε : Lft) (R K : RattleType) (g : Ghosts K.Denot) where
   abbrev pub captured : List RattleType
   captured =
       ShrRef a α R ∷ ShrRef b β Global.the_row
-      ∷ ShrRef c γ (Desk.the_row (Book.the_row K g) Event.the_row Request.the_row Reply.the_row BookError.the_row (ghosts K g no_dict)) ∷ ShrRef d δ builtin.bool
+      ∷ ShrRef c γ (Desk.the_row (Book.the_row K g) Event.the_row Request.the_row Reply.the_row BookError.the_row (ghosts K g no_dict)) ∷ ShrRef d δ V1Terms.the_row
       ∷ ShrRef e ε Limits.the_row ∷ []
 
   pub captured_sync : (ν : List ℕ) → IsSync R → IsSend K → IsSync (TupleAt ν captured)
   captured_sync ν r k =
       declared_sync (type_at ν captured)
-      (as_row_sync (row_field (ShrRef a α R)) (shr_sync a α R r), (as_row_sync (row_field (ShrRef b β Global.the_row)) (shr_sync b β Global.the_row (search (sendable, crosses) depth 20)), (as_row_sync (row_field _) (shr_sync c γ _ (book_desk_sync K g no_dict k)), (as_row_sync (row_field (ShrRef d δ builtin.bool)) (shr_sync d δ builtin.bool (search sendable)), (as_row_sync (row_field (ShrRef e ε Limits.the_row)) (shr_sync e ε Limits.the_row (search (sendable, crosses) depth 20)), tt)))))
+      (as_row_sync (row_field (ShrRef a α R)) (shr_sync a α R r), (as_row_sync (row_field (ShrRef b β Global.the_row)) (shr_sync b β Global.the_row (search (sendable, crosses) depth 20)), (as_row_sync (row_field _) (shr_sync c γ _ (book_desk_sync K g no_dict k)), (as_row_sync (row_field (ShrRef d δ V1Terms.the_row)) (shr_sync d δ V1Terms.the_row (search (sendable, crosses) depth 40)), (as_row_sync (row_field (ShrRef e ε Limits.the_row)) (shr_sync e ε Limits.the_row (search (sendable, crosses) depth 20)), tt)))))

@@ -54,7 +54,7 @@ module _ {D L K : Type 0} (seeing : Seeing D L) where
   pub record DoorDone (door : D) (old : Asking) (part : ThreadPart D L K) : Type 0 where
     pub row : DoorRow D
     pub part_is : part ≡ door_row_part row
-    pub worked : IsWorked (manner_of seeing.service role.Miner) seeing.service.door_turns (seeing.door door) (seeing.door row.door) old (record { pass = row.pass; faults = row.faults }) row.reason
+    pub worked : IsWorked seeing.service.terms (manner_of seeing.service role.Miner) seeing.service.door_turns (seeing.door door) (seeing.door row.door) old (record { pass = row.pass; faults = row.faults }) row.reason
 
   door_done : (door : D) (old : Asking) (t : ThreadTask D L) (pass : PoolPass) (faults : ℕ) → DoesTask seeing (task.Door door None) old t (record { pass = pass; faults = faults })
       → DoorDone door old (record { task = t; pass = pass; faults = faults })
@@ -69,7 +69,7 @@ module _ {D L K : Type 0} (seeing : Seeing D L) where
   pub record FeedDone (link : L) (old : Asking) (part : ThreadPart D L K) : Type 0 where
     pub row : FeedRow L
     pub part_is : part ≡ feed_row_part row
-    pub served : ServesLink (manner_of seeing.service role.Feed) (seeing.link link) (seeing.link row.link) old (record { pass = row.pass; faults = row.faults }) row.reason
+    pub served : ServesLink seeing.service.terms (manner_of seeing.service role.Feed) (seeing.link link) (seeing.link row.link) old (record { pass = row.pass; faults = row.faults }) row.reason
 
   feed_done : (link : L) (old : Asking) (t : ThreadTask D L) (pass : PoolPass) (faults : ℕ) → DoesTask seeing (task.Feed link None) old t (record { pass = pass; faults = faults })
       → FeedDone link old (record { task = t; pass = pass; faults = faults })

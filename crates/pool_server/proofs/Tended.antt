@@ -4,7 +4,7 @@ use Rattle.std.proofs.lemmas.List.{length-append}
 use Rattle.std.proofs.Math.Seq.{take-append_seam}
 use Rattle.std.proofs.lemmas.List.Elements.{All-from_recursion, recursion_from_All}
 use Rattle.std.specs.List.{AllByRecursion}
-use Rattle.session_steps.specs.Steps.{calls_in}
+use Rattle.link_session.specs.Courses.{calls_on}
 use Rattle.session_workers.specs.Calling.{PoolPass}
 use Rattle.pool_server.specs.declared.pairing.Tended.{Tended}
 use Rattle.pool_server.specs.declared.parts.ThreadPart.{ThreadPart}
@@ -93,7 +93,7 @@ module _ {D L K : Type 0} (seeing : Seeing D L) where
         let rows = done.asked.rows in
         let shifts = done.asked.shifts in
         let restored = unpaired rows row parts_of_rows in
-        let counted = served.asks.faults ∙ through_zero (calls_in served.steps) in
+        let counted = served.asks.faults ∙ through_zero (calls_on served.course) in
         record {
           first = paired.first;
           others = paired.others;
@@ -101,7 +101,7 @@ module _ {D L K : Type 0} (seeing : Seeing D L) where
           first_after = row.pass;
           others_after = map (λ r. r.pass) rows;
           passes_after = restored.passes_are;
-          steps = served.steps;
+          course = served.course;
           shifts = shifts;
           fed = rw (restored.link_is, restored.end_is) served.visit;
           fed_calls = served.asks.goes_on;
@@ -109,8 +109,8 @@ module _ {D L K : Type 0} (seeing : Seeing D L) where
           doors_before = done.asked.before;
           doors_after = done.asked.after ∙ ap (λ (l : List D). map seeing.door l) (sym restored.doors_are);
           ledger_faults_are = restored.ledger_faults_are ∙ ap (λ n. capped (n + faults_in rows)) counted
-              ∙ capped_sum (faulted_in (calls_in served.steps)) (faults_in rows) (faulted_in (calls_of_shifts shifts)) done.asked.faults
-              ∙ ap (λ n. capped n) (sym (faulted_both (calls_in served.steps) (calls_of_shifts shifts)));
+              ∙ capped_sum (faulted_in (calls_on served.course)) (faults_in rows) (faulted_in (calls_of_shifts shifts)) done.asked.faults
+              ∙ ap (λ n. capped n) (sym (faulted_both (calls_on served.course) (calls_of_shifts shifts)));
           door_faults_are = restored.door_faults_are ∙ ap (λ l. capped (failed_in l)) (sym done.asked.reasons);
           door_memory_is = restored.door_memory_is ∙ ap (λ l. capped (starved_in l)) (sym done.asked.reasons);
         }

@@ -16,7 +16,7 @@ use Rattle.pool_history.specs.Answering.{Answer}
 use Rattle.pool_history.specs.Calls.{GoodPoolCalls, PoolCall, wants_memory}
 use Rattle.ledger_laws.specs.Keeping.{IsKept}
 use Rattle.share_ledger.specs.Books.{BookSeen, KeepsInstead, KeepsLedger, health_of}
-use Rattle.session_steps.specs.Steps.{calls_in}
+use Rattle.link_session.specs.Courses.{calls_on}
 use Rattle.session_workers.specs.Calling.{PoolPass}
 use Rattle.session_workers.specs.Visits.{IsVisit}
 use Rattle.session_workers.specs.Shifts.{Shift, calls_at}
@@ -91,11 +91,11 @@ module _ {D L : Type 0} (seeing : Seeing D L) (table : TableId) (start : List Ev
   module _ {K : Type 0} (doors : List D) (feed : L) (passes : List PoolPass) (tended : Tended D L K) where
     -- what all passes did
     pub record Ready (count : ℕ) (is : IsTended seeing doors feed passes tended) : Type 0 where
-      pub fed : IsVisit (manner_of seeing.service role.Feed) 0 (record { before = seeing.link feed; after = seeing.link tended.feed; steps = is.steps; reason = tended.feed_end })
+      pub fed : IsVisit seeing.service.terms (manner_of seeing.service role.Feed) 0 (record { before = seeing.link feed; after = seeing.link tended.feed; course = is.course; reason = tended.feed_end })
       pub shifts_are : AreShifts seeing.service 1 is.shifts
       pub workers : workers_of tended.passes.items ≡ workers_from 0 count
-      pub calls : calls_of tended.passes.items ≡ all_calls is.steps is.shifts
-      pub rise : NumbersRise (calls_in is.steps) × AllByRecursion (λ (shift : Shift). NumbersRise (calls_at shift.answers)) is.shifts
+      pub calls : calls_of tended.passes.items ≡ all_calls is.course is.shifts
+      pub rise : NumbersRise (calls_on is.course) × AllByRecursion (λ (shift : Shift). NumbersRise (calls_at shift.answers)) is.shifts
       pub tables : AllByRecursion (λ (pass : PoolPass). pass.table ≡ table) tended.passes.items
 
     ready_for : (n : ℕ) (is : IsTended seeing doors feed passes tended) → is.first ≡ fresh_pass table start 0 → is.others ≡ fresh_passes table start (workers_from 1 n)
@@ -105,13 +105,13 @@ module _ {D L : Type 0} (seeing : Seeing D L) (table : TableId) (start : List Ev
         let on = is.fed_calls in
         let after = is.passes_after in
         record {
-          fed = subst (λ (pass : PoolPass). IsVisit (manner_of seeing.service role.Feed) pass.worker (record { before = seeing.link feed; after = seeing.link tended.feed; steps = is.steps; reason = tended.feed_end })) first is.fed;
+          fed = subst (λ (pass : PoolPass). IsVisit seeing.service.terms (manner_of seeing.service role.Feed) pass.worker (record { before = seeing.link feed; after = seeing.link tended.feed; course = is.course; reason = tended.feed_end })) first is.fed;
           shifts_are = later.shifts_are;
           workers = ap (λ (l : List PoolPass). workers_of l) after ∙ (λ i. (on.same.1 ∙ ap (λ (p : PoolPass). p.worker) first) i ∷ later.workers i);
           calls = ap (λ (l : List PoolPass). calls_of l) after
-              ∙ ap (λ (l : List PoolCall). l ++ calls_of is.others_after) (on.calls_are ∙ ap (λ (p : PoolPass). p.calls ++ calls_in is.steps) first)
-              ∙ ap (λ (l : List PoolCall). calls_in is.steps ++ l) later.calls;
-          rise = ((is.first_after.known, subst (λ (p : PoolPass). RiseFrom p.known (calls_in is.steps) is.first_after.known) first on.numbers), later.rise);
+              ∙ ap (λ (l : List PoolCall). l ++ calls_of is.others_after) (on.calls_are ∙ ap (λ (p : PoolPass). p.calls ++ calls_on is.course) first)
+              ∙ ap (λ (l : List PoolCall). calls_on is.course ++ l) later.calls;
+          rise = ((is.first_after.known, subst (λ (p : PoolPass). RiseFrom p.known (calls_on is.course) is.first_after.known) first on.numbers), later.rise);
           tables = subst (λ (l : List PoolPass). AllByRecursion (λ (pass : PoolPass). pass.table ≡ table) l) (sym after) ((on.same.0 ∙ ap (λ (p : PoolPass). p.table) first), later.tables);
         }
 
@@ -146,7 +146,7 @@ module _ {D L K : Type 0} {seeing : Seeing D L} {desk : Opening BookSeen} {start
   has_run book closed kept ledger =
       let all = ready_opened in
       record {
-        steps = is.steps;
+        course = is.course;
         shifts = is.shifts;
         fed = all.fed;
         worked = all.shifts_are;
@@ -158,7 +158,7 @@ module _ {D L K : Type 0} {seeing : Seeing D L} {desk : Opening BookSeen} {start
             (keeps-telling desk.start.keeper.records book.keeper.records book.events closed.later.tells ledger);
         good = subst (λ (l : List PoolCall). GoodPoolCalls book.events l) all.calls closed.good;
         parted =
-            subst (λ (s : BookSeen). Parted s.events book.events s.keeper.faults book.keeper.faults (all_calls is.steps is.shifts)) opened.start
+            subst (λ (s : BookSeen). Parted s.events book.events s.keeper.faults book.keeper.faults (all_calls is.course is.shifts)) opened.start
             (subst (λ (l : List PoolCall). Parted desk.start.events book.events desk.start.keeper.faults book.keeper.faults l) all.calls closed.parted);
         rise = all.rise;
         ledger_faults_are = is.ledger_faults_are;

@@ -1,11 +1,12 @@
 -- What one thread has in hand, and what it did with it (this project's own).
-use Rattle.std.specs.Prelude.{◌≡◌, ℕ, ◌<◌, Bool, Some, List, [], ◌∷◌, length, slice_index_or}
+use Rattle.std.specs.Prelude.{◌≡◌, ℕ, ◌<◌, Some, List, [], ◌∷◌, length, slice_index_or}
 use Rattle.pool_io.specs.declared.limits.Limits.{Limits}
 use Rattle.pool_network.specs.Seen.{DoorSeen, LinkSeen}
 use Rattle.pool_history.specs.declared.events.Role.{Role}
 use Rattle.pool_history.specs.declared.events.Role.TheVariants as role
 use Rattle.session_steps.specs.declared.ends.SessionEnd.{SessionEnd}
 use Rattle.session_steps.specs.declared.manner.Manner.{Manner}
+use Rattle.v1_rules.specs.State.{Terms}
 use Rattle.session_workers.specs.Visits.{Asking, ServesLink}
 use Rattle.session_workers.specs.declared.working.DoorEnd.{DoorEnd}
 use Rattle.session_workers.specs.Shifts.{IsWorked}
@@ -13,16 +14,16 @@ use Rattle.pool_server.specs.declared.parts.ThreadPart.{ThreadPart}
 use Rattle.pool_server.specs.declared.parts.ThreadTask.{ThreadTask}
 use Rattle.pool_server.specs.declared.parts.ThreadTask.TheVariants as task
 
--- whether versions roll, and after how many Idle answers in a row a session ends and a door is asked
--- no more
+-- the rules, with the class whose difficulty is shown as 1 to miners of Stratum V1, and after how many
+-- Idle answers in a row a session ends and a door is asked no more
 pub record Service : Type 0 where
-  pub rolling : Bool
+  pub terms : Terms
   pub idle_turns : ℕ
   pub door_turns : ℕ
 
-abbrev pub service_of : Bool → Limits → Service
-service_of rolling limits = record {
-  rolling = rolling;
+abbrev pub service_of : Terms → Limits → Service
+service_of terms limits = record {
+  terms = terms;
   idle_turns = limits.idle_turns;
   door_turns = limits.door_turns;
 }
@@ -30,7 +31,7 @@ service_of rolling limits = record {
 abbrev pub manner_of : Service → Role → Manner
 manner_of service role = record {
   role = role;
-  rolling = service.rolling;
+  rolling = service.terms.rules.version_rolling;
   idle_turns = service.idle_turns;
 }
 
@@ -51,12 +52,12 @@ abbrev pub DoesTask :
     {D L : Type 0} → Seeing D L → ThreadTask D L → Asking → ThreadTask D L → Asking → Type 0
 DoesTask seeing (task.Feed link ended) old (task.Feed link' ended') new =
     (reason : SessionEnd) × (ended' ≡ Some reason)
-    × ServesLink (manner_of seeing.service role.Feed) (seeing.link link) (seeing.link link') old new
-    reason
+    × ServesLink seeing.service.terms (manner_of seeing.service role.Feed) (seeing.link link)
+    (seeing.link link') old new reason
 DoesTask seeing (task.Door door ended) old (task.Door door' ended') new =
     (reason : DoorEnd) × (ended' ≡ Some reason)
-    × IsWorked (manner_of seeing.service role.Miner) seeing.service.door_turns (seeing.door door)
-    (seeing.door door') old new reason
+    × IsWorked seeing.service.terms (manner_of seeing.service role.Miner) seeing.service.door_turns
+    (seeing.door door) (seeing.door door') old new reason
 DoesTask seeing (task.Feed link ended) old (task.Door door' ended') new = ⊥
 DoesTask seeing (task.Door door ended) old (task.Feed link' ended') new = ⊥
 

@@ -9,7 +9,7 @@ use Rattle.pool_history.specs.Calls.{GoodPoolCalls, PoolCall}
 use Rattle.ledger_laws.specs.Keeping.{IsKept}
 use Rattle.share_ledger.specs.Books.{BookSeen, KeepsInstead}
 use Rattle.session_steps.specs.declared.ends.SessionEnd.{SessionEnd}
-use Rattle.session_steps.specs.Steps.{SessionStep, calls_in}
+use Rattle.link_session.specs.Courses.{Course, calls_on}
 use Rattle.session_workers.specs.Visits.{IsVisit}
 use Rattle.session_workers.specs.Shifts.{IsShift, Shift, calls_at}
 use Rattle.pool_server.specs.Counting.{capped, failed_in, faulted_in, starved_in}
@@ -26,7 +26,7 @@ pub record Hall : Type 0 where
 abbrev pub AreShifts : Service → ℕ → List Shift → Type 0
 AreShifts service worker [] = Unit {0}
 AreShifts service worker (shift ∷ shifts) =
-    IsShift (manner_of service role.Miner) worker service.door_turns shift
+    IsShift service.terms (manner_of service role.Miner) worker service.door_turns shift
     × AreShifts service (worker + 1) shifts
 
 -- the numbers of these calls rise
@@ -39,12 +39,12 @@ NumbersRise calls = (known : ℕ) × RiseFrom 0 calls known
 -- history that came; the numbers of each worker's rise.
 pub record HasRun (service : Service) (old new : Hall) (reason : SessionEnd)
     (ledger_faults door_faults door_memory : ℕ) : Type 0 where
-  pub steps : List SessionStep
+  pub course : Course
   pub shifts : List Shift
-  pub fed : IsVisit (manner_of service role.Feed) 0 (record {
+  pub fed : IsVisit service.terms (manner_of service role.Feed) 0 (record {
     before = old.feed;
     after = new.feed;
-    steps = steps;
+    course = course;
     reason = reason;
   })
   pub worked : AreShifts service 1 shifts
@@ -53,11 +53,11 @@ pub record HasRun (service : Service) (old new : Hall) (reason : SessionEnd)
   pub begins : Begins old.book.events new.book.events
   pub kept : IsKept new.book.events
   pub ledger : KeepsInstead old.book.keeper.records new.book.keeper.records new.book.events
-  pub good : GoodPoolCalls new.book.events (all_calls steps shifts)
+  pub good : GoodPoolCalls new.book.events (all_calls course shifts)
   pub parted : Parted old.book.events new.book.events old.book.keeper.faults
-      new.book.keeper.faults (all_calls steps shifts)
-  pub rise : NumbersRise (calls_in steps)
+      new.book.keeper.faults (all_calls course shifts)
+  pub rise : NumbersRise (calls_on course)
       × AllByRecursion (λ shift. NumbersRise (calls_at shift.answers)) shifts
-  pub ledger_faults_are : ledger_faults ≡ capped (faulted_in (all_calls steps shifts))
+  pub ledger_faults_are : ledger_faults ≡ capped (faulted_in (all_calls course shifts))
   pub door_faults_are : door_faults ≡ capped (failed_in (map (λ shift. shift.reason) shifts))
   pub door_memory_is : door_memory ≡ capped (starved_in (map (λ shift. shift.reason) shifts))

@@ -14,6 +14,7 @@ use session_workers::{DeskWorker, DoorEnd, serve_link, work};
 use share_ledger::Book;
 use std::alloc::Global;
 use std::sync::Wait;
+use v1_translate::V1Terms;
 
 /// The feed's link, or a door, and how that ended, once it did.
 pub(crate) enum ThreadTask<D, L> {
@@ -33,13 +34,13 @@ pub(crate) fn attend<R: Wait, K: Keeper, D: Door>(
     rt: &R,
     alloc: Global,
     desk: &Desk<Book<K>>,
-    rolling: bool,
+    terms: &V1Terms,
     limits: Limits,
     part: &mut ThreadPart<D, D::L, K>,
 )
     requires desk { part.old.pass.table ≡ desk.now.table }
     requires waits { (0 < limits.idle_turns) × (0 < limits.door_turns) }
-    ensures { IsAttended (seeing_of D.seen D.L.seen (service_of rolling limits))
+    ensures { IsAttended (seeing_of D.seen D.L.seen (service_of terms.now limits))
         part.old part.new }
 {
     let ThreadPart { task, pass, faults } = part;
@@ -51,12 +52,13 @@ pub(crate) fn attend<R: Wait, K: Keeper, D: Door>(
     };
     match task {
         ThreadTask::Feed(link, end) => {
-            let manner = manner_of(Role::Feed, rolling, limits);
-            *end = Some(serve_link(alloc, &mut asker, link, manner));
+            let manner = manner_of(Role::Feed, terms, limits);
+            *end = Some(serve_link(alloc, &mut asker, link, manner, terms));
         }
         ThreadTask::Door(door, end) => {
-            let manner = manner_of(Role::Miner, rolling, limits);
-            *end = Some(work(alloc, &mut asker, door, manner, limits.door_turns));
+            let manner = manner_of(Role::Miner, terms, limits);
+            let ended = work(alloc, &mut asker, door, manner, terms, limits.door_turns);
+            *end = Some(ended);
         }
     }
     let DeskWorker {
@@ -69,12 +71,12 @@ pub(crate) fn attend<R: Wait, K: Keeper, D: Door>(
 }
 
 /// How this role's sessions are held.
-fn manner_of(role: Role, rolling: bool, limits: Limits) -> Manner
-    ensures { result ≡ manners.manner_of (service_of rolling limits) role }
+fn manner_of(role: Role, terms: &V1Terms, limits: Limits) -> Manner
+    ensures { result ≡ manners.manner_of (service_of terms.now limits) role }
 {
     Manner {
         role,
-        rolling,
+        rolling: terms.rules().version_rolling,
         idle_turns: limits.idle_turns,
     }
 }

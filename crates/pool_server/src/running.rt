@@ -15,13 +15,14 @@ use std::alloc::Global;
 use std::sync::Wait;
 use std::thread;
 use std::thread::Threads;
+use v1_translate::V1Terms;
 
 /// Does the tasks of all parts, in as many threads.
 fn attend_each<R: Threads + Wait + Sync, K: Keeper + Send, D: Door + Send>(
     rt: &R,
     alloc: Global,
     desk: &Desk<Book<K>>,
-    rolling: bool,
+    terms: &V1Terms,
     limits: Limits,
     parts: &mut [ThreadPart<D, D::L, K>],
 )
@@ -30,7 +31,7 @@ where
     requires some { 0 < length parts.old }
     requires desk { All (λ part. part.pass.table ≡ desk.now.table) parts.old }
     requires waits { (0 < limits.idle_turns) × (0 < limits.door_turns) }
-    ensures { AttendsByPlace (seeing_of D.seen D.L.seen (service_of rolling limits))
+    ensures { AttendsByPlace (seeing_of D.seen D.L.seen (service_of terms.now limits))
         parts.old parts.new }
 {
     let threads = parts.len();
@@ -41,9 +42,9 @@ where
         &|_place: usize, part: &mut ThreadPart<D, D::L, K>|
             requires { (part.now.pass.table ≡ desk.now.table)
                 × (0 < limits.idle_turns) × (0 < limits.door_turns) }
-            ensures { IsAttended (seeing_of D.seen D.L.seen (service_of rolling limits))
+            ensures { IsAttended (seeing_of D.seen D.L.seen (service_of terms.entry.now limits))
                 part.entry.now part.exit.now }
-        { attend(rt, alloc, desk, rolling, limits, part) },
+        { attend(rt, alloc, desk, terms, limits, part) },
     );
 }
 
@@ -57,7 +58,7 @@ pub(crate) fn run<R: Threads + Wait + Sync, K: Keeper + Send, D: Door + Send>(
     mut doors: Vec<D>,
     feed: D::L,
     mut parts: Vec<ThreadPart<D, D::L, K>>,
-    rolling: bool,
+    terms: &V1Terms,
     limits: Limits,
 ) -> Tended<D, D::L, K>
 where
@@ -67,10 +68,10 @@ where
     requires empty { parts.items ≡ [] }
     requires room { vec_len doors + 1 ≤ vec_capacity parts }
     requires waits { (0 < limits.idle_turns) × (0 < limits.door_turns) }
-    ensures { IsTended (seeing_of D.seen D.L.seen (service_of rolling limits))
+    ensures { IsTended (seeing_of D.seen D.L.seen (service_of terms.now limits))
         doors.items feed passes.items result }
 {
     pair(&mut doors, &mut passes, feed, &mut parts);
-    attend_each(rt, alloc, desk, rolling, limits, parts.as_mut_slice());
+    attend_each(rt, alloc, desk, terms, limits, parts.as_mut_slice());
     unpair(parts, doors, passes)
 }

@@ -15,6 +15,7 @@ use share_ledger::Book;
 use std::alloc::Global;
 use std::sync::Wait;
 use std::thread::Threads;
+use v1_translate::V1Terms;
 
 /// What is left of a book, its doors and a feed's link.
 pub enum Served<K: Keeper, D: Door> {
@@ -44,14 +45,14 @@ pub fn serve<R: Threads + Wait + Sync, K: Keeper + Send, D: Door + Send>(
     book: Book<K>,
     doors: Vec<D>,
     feed: D::L,
-    rolling: bool,
+    terms: &V1Terms,
     limits: Limits,
 ) -> Served<K, D>
 where
     D::L: Send,
     requires few { vec_len doors < 2 ^ 32 - 1 }
     requires waits { (0 < limits.idle_turns) × (0 < limits.door_turns) }
-    ensures { HasServed (seeing_of D.seen D.L.seen (service_of rolling limits))
+    ensures { HasServed (seeing_of D.seen D.L.seen (service_of terms.now limits))
         book doors feed result }
 {
     let Ok(parts) = Vec::with_capacity(alloc, doors.len() + 1) else {
@@ -60,9 +61,7 @@ where
     let count = doors.len() as u32 + 1;
     match Desk::new(alloc, book, count) {
         Ok((desk, passes)) => {
-            let tended = run(
-                rt, alloc, &desk, passes, doors, feed, parts, rolling, limits,
-            );
+            let tended = run(rt, alloc, &desk, passes, doors, feed, parts, terms, limits);
             finish(desk, tended)
         }
         Err((book, _)) => {

@@ -75,7 +75,7 @@ module _ (service : Service) (old new : Hall) (reason : SessionEnd)
   pub keeper_failed : 0 < ledger_faults → Rose old.book.keeper.faults new.book.keeper.faults
   keeper_failed some =
       let P = λ (call : PoolCall). Rose call.faults_before call.faults_after → Rose old.book.keeper.faults new.book.keeper.faults in
-      let calls = all_calls ran.steps ran.shifts in
+      let calls = all_calls ran.course ran.shifts in
       let within = rises_within old.book.events 0 old.book.keeper.faults new.book.events new.book.keeper.faults ran.parted.ordered ran.parted.parts in
       let moved = recursion_from_All P calls (All-permutation P ran.parted.ordered calls ran.parted.same (All-from_recursion P ran.parted.ordered within)) in
       some_faulted new.book.events old.book.keeper.faults new.book.keeper.faults calls ran.good moved (omega (arith, ran.ledger_faults_are, some))

@@ -32,7 +32,8 @@ use Rattle.serve_command.specs.Words.{report_text}
 
 -- how sessions are served by these settings
 abbrev pub service_by : Settings → Service
-service_by settings = service_of settings.rules.version_rolling settings.limits
+service_by settings =
+    service_of (record { rules = settings.rules; base = settings.base }) settings.limits
 
 abbrev pub places_by : Settings → Places
 places_by settings = record {

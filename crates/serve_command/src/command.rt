@@ -11,6 +11,7 @@ ghost use Rattle.serve_command.specs.Row.{ServesOnBook, FinishesServing, ServesW
 use crate::report::print_report;
 use crate::serving::{Reached, serve_on_network};
 use crate::status::{served_status, start_status};
+use pool_history::BookError;
 use pool_io::Host;
 use pool_network::{Door, Network};
 use pool_settings::{Settings, open_settings};
@@ -19,6 +20,7 @@ use std::alloc::Global;
 use std::sync::Wait;
 use std::thread::Threads;
 use stream_commands::{Status, refusal_status};
+use v1_translate::V1Terms;
 
 /// Serves a feed and miners by the settings file of a name, and keeps their history in a new file of
 /// the other name. Each session has a thread, where threads can be made.
@@ -104,19 +106,22 @@ where
 {
     let Settings {
         rules,
+        base,
         limits,
         workers,
         address,
         feed,
-        ..
     } = settings;
-    let rolling = rules.version_rolling;
+    let Ok(terms) = V1Terms::of(alloc, &rules, base) else {
+        host.done_keeper(keeper);
+        return start_status(BookError::Memory);
+    };
     match Book::new(alloc, rules, keeper) {
         Ok(book) => {
             let feed = feed.text();
             let address = address.text();
             let reached = serve_on_network(
-                rt, alloc, network, book, feed, address, workers, rolling, limits,
+                rt, alloc, network, book, feed, address, workers, &terms, limits,
             );
             finish(alloc, host, reached)
         }

@@ -12,6 +12,7 @@ use share_ledger::Book;
 use std::alloc::Global;
 use std::sync::Wait;
 use std::thread::Threads;
+use v1_translate::V1Terms;
 
 /// What became of a book on a network.
 pub(crate) enum Reached<K: Keeper> {
@@ -37,7 +38,7 @@ pub(crate) fn serve_on_network<R: Threads + Wait + Sync, K: Keeper + Send, N: Ne
     feed: &str,
     address: &str,
     workers: u32,
-    rolling: bool,
+    terms: &V1Terms,
     limits: Limits,
 ) -> Reached<K>
 where
@@ -45,7 +46,7 @@ where
     <N::D as Door>::L: Send,
     requires few { workers ≤ 64 }
     requires waits { (0 < limits.idle_turns) × (0 < limits.door_turns) }
-    ensures served { ServesOnNetwork (service_of rolling limits)
+    ensures served { ServesOnNetwork (service_of terms.now limits)
         (record { feed = feed.now; address = address.now; workers = workers })
         (N.seen network.old) (N.seen network.new) book (reached_seen result) }
     ensures links { (N.seen network.new).links.lent ≡ (N.seen network.old).links.lent }
@@ -62,7 +63,7 @@ where
             return Reached::Unserved(book, error);
         }
     };
-    match serve(rt, alloc, book, doors, link, rolling, limits) {
+    match serve(rt, alloc, book, doors, link, terms, limits) {
         Served::Ran {
             book,
             doors,

@@ -6,7 +6,8 @@ use Rattle.pool_network.specs.declared.door.Came.TheVariants as came
 use Rattle.pool_network.specs.Doors.{AnswersSo, ComesNext, back_with}
 use Rattle.pool_network.specs.Seen.{DoorSeen, LinkSeen}
 use Rattle.session_steps.specs.declared.manner.Manner.{Manner}
-use Rattle.session_steps.specs.Steps.{calls_in}
+use Rattle.v1_rules.specs.State.{Terms}
+use Rattle.link_session.specs.Courses.{calls_on}
 use Rattle.session_workers.specs.Visits.{Asking, Visit}
 use Rattle.session_workers.proofs.Asked.{asks_both, asks_none}
 use Rattle.pool_io.specs.Outside.{CountsFailure}
@@ -22,13 +23,13 @@ links_both (Visited visit ∷ xs) ys = ap (λ (l : List LinkSeen). visit.after �
 calls_both : (xs ys : List Asked) → calls_at (xs ++ ys) ≡ calls_at xs ++ calls_at ys
 calls_both [] ys = refl
 calls_both (Waited ∷ xs) ys = calls_both xs ys
-calls_both (Visited visit ∷ xs) ys = ap (λ l. calls_in visit.steps ++ l) (calls_both xs ys) ∙ sym (append_assoc (calls_in visit.steps) (calls_at xs) (calls_at ys))
+calls_both (Visited visit ∷ xs) ys = ap (λ l. calls_on visit.course ++ l) (calls_both xs ys) ∙ sym (append_assoc (calls_on visit.course) (calls_at xs) (calls_at ys))
 
-visits_both : (manner : Manner) (worker : ℕ) (xs ys : List Asked) → AreVisits manner worker xs → AreVisits manner worker ys
-    → AreVisits manner worker (xs ++ ys)
-visits_both manner worker [] ys first then = then
-visits_both manner worker (Waited ∷ xs) ys first then = visits_both manner worker xs ys first then
-visits_both manner worker (Visited visit ∷ xs) ys first then = (first.0, visits_both manner worker xs ys first.1 then)
+visits_both : (terms : Terms) (manner : Manner) (worker : ℕ) (xs ys : List Asked) → AreVisits terms manner worker xs → AreVisits terms manner worker ys
+    → AreVisits terms manner worker (xs ++ ys)
+visits_both terms manner worker [] ys first then = then
+visits_both terms manner worker (Waited ∷ xs) ys first then = visits_both terms manner worker xs ys first then
+visits_both terms manner worker (Visited visit ∷ xs) ys first then = (first.0, visits_both terms manner worker xs ys first.1 then)
 
 waits_both : (door_turns a b c : ℕ) (xs ys : List Asked) → WaitsOn door_turns a xs b → WaitsOn door_turns b ys c → WaitsOn door_turns a (xs ++ ys) c
 waits_both door_turns a b c [] ys first then = rw first at then
@@ -84,11 +85,11 @@ counts_through : (now : ℕ) (before last after : DoorSeen) (answers : List Aske
 counts_through now before last after answers reason deals stops =
     subst (λ n. CountsFailure (is_failed_end reason) n after.faults) (unfailed before last answers deals) (stops_counted now last after reason stops)
 
-module _ (manner : Manner) (door_turns : ℕ) where
-  attends_both : (worker a b c : ℕ) (before between after : DoorSeen) (xs ys : List Asked) → Attends manner worker door_turns a b before between xs
-      → Attends manner worker door_turns b c between after ys → Attends manner worker door_turns a c before after (xs ++ ys)
+module _ (terms : Terms) (manner : Manner) (door_turns : ℕ) where
+  attends_both : (worker a b c : ℕ) (before between after : DoorSeen) (xs ys : List Asked) → Attends terms manner worker door_turns a b before between xs
+      → Attends terms manner worker door_turns b c between after ys → Attends terms manner worker door_turns a c before after (xs ++ ys)
   attends_both worker a b c before between after xs ys first then = record {
-    visits = visits_both manner worker xs ys first.visits then.visits;
+    visits = visits_both terms manner worker xs ys first.visits then.visits;
     waits = waits_both door_turns a b c xs ys first.waits then.waits;
     deals = deals_both before between after xs ys first.deals then.deals;
     comes = comes_both before.coming between.coming after.coming xs ys first.comes then.comes;
@@ -97,7 +98,7 @@ module _ (manner : Manner) (door_turns : ℕ) where
   }
 
   -- nothing was asked
-  pub on_none : (turns : ℕ) (door : DoorSeen) (asking : Asking) → AttendsOn manner door_turns turns turns door door asking asking
+  pub on_none : (turns : ℕ) (door : DoorSeen) (asking : Asking) → AttendsOn terms manner door_turns turns turns door door asking asking
   on_none turns door asking = record {
     answers = [];
     attends = record { visits = tt; waits = refl; deals = refl; comes = comes_none door.coming; back = back_none door.back; out = refl };
@@ -105,8 +106,8 @@ module _ (manner : Manner) (door_turns : ℕ) where
   }
 
   -- what was done, and then more
-  pub on_both : {a b c : ℕ} {before between after : DoorSeen} {old middle new : Asking} → AttendsOn manner door_turns a b before between old middle
-      → AttendsOn manner door_turns b c between after middle new → AttendsOn manner door_turns a c before after old new
+  pub on_both : {a b c : ℕ} {before between after : DoorSeen} {old middle new : Asking} → AttendsOn terms manner door_turns a b before between old middle
+      → AttendsOn terms manner door_turns b c between after middle new → AttendsOn terms manner door_turns a c before after old new
   on_both {a = a} {b = b} {c = c} {before = before} {between = between} {after = after} {old = old} {middle = middle} {new = new} first then =
       let xs = first.answers in
       let ys = then.answers in
@@ -126,8 +127,8 @@ comes_visited : (visit : Visit) (a b : Option (List (Arrival LinkSeen))) → Com
 comes_visited visit None b next = next
 comes_visited visit (Some told) b next = next
 
-module _ (manner : Manner) (door_turns turns : ℕ) where
-  pub on_waited : (before after : DoorSeen) (asking : Asking) → 0 < turns → AnswersSo before after came.Idle → AttendsOn manner door_turns turns (turns - 1) before after asking asking
+module _ (terms : Terms) (manner : Manner) (door_turns turns : ℕ) where
+  pub on_waited : (before after : DoorSeen) (asking : Asking) → 0 < turns → AnswersSo before after came.Idle → AttendsOn terms manner door_turns turns (turns - 1) before after asking asking
   on_waited before after asking some so = record {
     answers = Waited ∷ [];
     attends = record {
@@ -142,9 +143,9 @@ module _ (manner : Manner) (door_turns turns : ℕ) where
   }
 
   pub on_visited : (before between after : DoorSeen) (link : LinkSeen) (old new : Asking) → 0 < turns → AnswersSo before between (came.Caller link)
-      → IsWelcomed manner link between after old new → AttendsOn manner door_turns turns door_turns before after old new
+      → IsWelcomed terms manner link between after old new → AttendsOn terms manner door_turns turns door_turns before after old new
   on_visited before between after link old new some so welcomed =
-      let visit : Visit = record { before = link; after = welcomed.link_back; steps = welcomed.served.steps; reason = welcomed.reason } in
+      let visit : Visit = record { before = link; after = welcomed.link_back; course = welcomed.served.course; reason = welcomed.reason } in
       record {
         answers = Visited visit ∷ [];
         attends = record {
@@ -155,24 +156,24 @@ module _ (manner : Manner) (door_turns turns : ℕ) where
           back = welcomed.back.back ∙ ap (λ b. back_with b welcomed.link_back) so.back;
           out = (let was = welcomed.back.out in let lent = so.out in omega (arith, was, lent));
         };
-        asks = rw (append-nil (calls_in welcomed.served.steps)) welcomed.served.asks;
+        asks = rw (append-nil (calls_on welcomed.served.course)) welcomed.served.asks;
       }
 
-module _ {manner : Manner} {door_turns a b : ℕ} {before between after : DoorSeen} {old middle new : Asking} where
+module _ {terms : Terms} {manner : Manner} {door_turns a b : ℕ} {before between after : DoorSeen} {old middle new : Asking} where
   -- the door was asked once more
-  pub on_next : {left : ℕ} → AttendsOn manner door_turns a b before between old middle → AsksDoorOnce manner door_turns b between after middle new (Ok left)
-      → AttendsOn manner door_turns a left before after old new
+  pub on_next : {left : ℕ} → AttendsOn terms manner door_turns a b before between old middle → AsksDoorOnce terms manner door_turns b between after middle new (Ok left)
+      → AttendsOn terms manner door_turns a left before after old new
   on_next {left = left} so_far next =
-      on_both manner door_turns so_far
-      (subst (λ n. AttendsOn manner door_turns b n between after middle new) next.next.0
-      (subst (λ (d : DoorSeen). AttendsOn manner door_turns b next.now between d middle new) (sym next.next.2) next.attends))
+      on_both terms manner door_turns so_far
+      (subst (λ n. AttendsOn terms manner door_turns b n between after middle new) next.next.0
+      (subst (λ (d : DoorSeen). AttendsOn terms manner door_turns b next.now between d middle new) (sym next.next.2) next.attends))
 
 -- and for the last time
-pub worked : {manner : Manner} {door_turns b : ℕ} {before between after : DoorSeen} {old middle new : Asking} {reason : DoorEnd}
-    → AttendsOn manner door_turns door_turns b before between old middle → AsksDoorOnce manner door_turns b between after middle new (Err reason)
-    → IsWorked manner door_turns before after old new reason
-worked {manner = manner} {door_turns = door_turns} {before = before} {after = after} {reason = reason} so_far next =
-    let all = on_both manner door_turns so_far next.attends in
+pub worked : {terms : Terms} {manner : Manner} {door_turns b : ℕ} {before between after : DoorSeen} {old middle new : Asking} {reason : DoorEnd}
+    → AttendsOn terms manner door_turns door_turns b before between old middle → AsksDoorOnce terms manner door_turns b between after middle new (Err reason)
+    → IsWorked terms manner door_turns before after old new reason
+worked {terms = terms} {manner = manner} {door_turns = door_turns} {before = before} {after = after} {reason = reason} so_far next =
+    let all = on_both terms manner door_turns so_far next.attends in
     record {
       answers = all.answers;
       shift = record {

@@ -10,7 +10,8 @@ use Rattle.pool_network.specs.Seen.{DoorSeen, LinkSeen}
 use Rattle.pool_history.specs.Calls.{PoolCall}
 use Rattle.session_steps.specs.declared.ends.SessionEnd.{SessionEnd}
 use Rattle.session_steps.specs.declared.manner.Manner.{Manner}
-use Rattle.session_steps.specs.Steps.{calls_in}
+use Rattle.v1_rules.specs.State.{Terms}
+use Rattle.link_session.specs.Courses.{calls_on}
 use Rattle.session_workers.specs.Visits.{Asking, AsksByPass, IsVisit, ServesLink, Visit}
 use Rattle.session_workers.specs.declared.working.DoorEnd.{DoorEnd}
 use Rattle.session_workers.specs.declared.working.DoorEnd.TheVariants as end
@@ -42,14 +43,14 @@ links_in (Visited visit ∷ answers) = visit.after ∷ links_in answers
 abbrev pub calls_at : List Asked → List PoolCall
 calls_at [] = []
 calls_at (Waited ∷ answers) = calls_at answers
-calls_at (Visited visit ∷ answers) = calls_in visit.steps ++ calls_at answers
+calls_at (Visited visit ∷ answers) = calls_on visit.course ++ calls_at answers
 
 -- each who came was served by one session of this worker
-abbrev pub AreVisits : Manner → ℕ → List Asked → Type 0
-AreVisits manner worker [] = Unit {0}
-AreVisits manner worker (Waited ∷ answers) = AreVisits manner worker answers
-AreVisits manner worker (Visited visit ∷ answers) =
-    IsVisit manner worker visit × AreVisits manner worker answers
+abbrev pub AreVisits : Terms → Manner → ℕ → List Asked → Type 0
+AreVisits terms manner worker [] = Unit {0}
+AreVisits terms manner worker (Waited ∷ answers) = AreVisits terms manner worker answers
+AreVisits terms manner worker (Visited visit ∷ answers) =
+    IsVisit terms manner worker visit × AreVisits terms manner worker answers
 
 -- how many Idle answers in a row are still waited for, of so many at first: the door is asked only
 -- where there are some, one that came is waited for no more, and after a caller all are
@@ -88,9 +89,9 @@ Deals before (answer ∷ answers) after =
 
 -- a door between two moments: these answers came, each who came was served and handed back, and the
 -- waiting went on
-pub record Attends (manner : Manner) (worker door_turns turns now : ℕ) (before after : DoorSeen)
-    (answers : List Asked) : Type 0 where
-  pub visits : AreVisits manner worker answers
+pub record Attends (terms : Terms) (manner : Manner) (worker door_turns turns now : ℕ)
+    (before after : DoorSeen) (answers : List Asked) : Type 0 where
+  pub visits : AreVisits terms manner worker answers
   pub waits : WaitsOn door_turns turns answers now
   pub deals : Deals before answers after
   pub comes : ComesOn before.coming after.coming answers
@@ -111,19 +112,20 @@ is_failed_end end.Failed = true
 is_failed_end _ = false
 
 -- a worker's whole shift at its door: its answers, up to the last but for the one that ends it
-pub record IsShift (manner : Manner) (worker door_turns : ℕ) (shift : Shift) : Type 0 where
+pub record IsShift (terms : Terms) (manner : Manner) (worker door_turns : ℕ) (shift : Shift) :
+    Type 0 where
   pub now : ℕ
   pub last : DoorSeen
-  pub attends : Attends manner worker door_turns door_turns now shift.before last
+  pub attends : Attends terms manner worker door_turns door_turns now shift.before last
       shift.answers
   pub stops : StopsBy now last shift.after shift.reason
   pub counts : CountsFailure (is_failed_end shift.reason) shift.before.faults shift.after.faults
 
 -- a shift whose calls are those that the pass made
-pub record IsWorked (manner : Manner) (door_turns : ℕ) (before after : DoorSeen)
-    (old new : Asking) (reason : DoorEnd) : Type 0 where
+pub record IsWorked (terms : Terms) (manner : Manner) (door_turns : ℕ)
+    (before after : DoorSeen) (old new : Asking) (reason : DoorEnd) : Type 0 where
   pub answers : List Asked
-  pub shift : IsShift manner old.pass.worker door_turns (record {
+  pub shift : IsShift terms manner old.pass.worker door_turns (record {
     before = before;
     after = after;
     answers = answers;
@@ -132,10 +134,10 @@ pub record IsWorked (manner : Manner) (door_turns : ℕ) (before after : DoorSee
   pub asks : AsksByPass old (calls_at answers) new
 
 -- what was done so far, and whether it goes on with so many Idle answers to wait for
-pub record AttendsOn (manner : Manner) (door_turns turns now : ℕ) (before after : DoorSeen)
-    (old new : Asking) : Type 0 where
+pub record AttendsOn (terms : Terms) (manner : Manner) (door_turns turns now : ℕ)
+    (before after : DoorSeen) (old new : Asking) : Type 0 where
   pub answers : List Asked
-  pub attends : Attends manner old.pass.worker door_turns turns now before after answers
+  pub attends : Attends terms manner old.pass.worker door_turns turns now before after answers
   pub asks : AsksByPass old (calls_at answers) new
 
 abbrev pub GoesOnOrStops : ℕ → DoorSeen → DoorSeen → Result ℕ DoorEnd → Type 0
@@ -143,17 +145,17 @@ GoesOnOrStops now last after (Ok left) = (now ≡ left) × (0 < left) × (after 
 GoesOnOrStops now last after (Err reason) = StopsBy now last after reason
 
 -- the door was asked once
-pub record AsksDoorOnce (manner : Manner) (door_turns turns : ℕ) (before after : DoorSeen)
-    (old new : Asking) (result : Result ℕ DoorEnd) : Type 0 where
+pub record AsksDoorOnce (terms : Terms) (manner : Manner) (door_turns turns : ℕ)
+    (before after : DoorSeen) (old new : Asking) (result : Result ℕ DoorEnd) : Type 0 where
   pub now : ℕ
   pub last : DoorSeen
-  pub attends : AttendsOn manner door_turns turns now before last old new
+  pub attends : AttendsOn terms manner door_turns turns now before last old new
   pub next : GoesOnOrStops now last after result
 
 -- one who called was served, and the link handed back
-pub record IsWelcomed (manner : Manner) (link : LinkSeen) (before after : DoorSeen)
-    (old new : Asking) : Type 0 where
+pub record IsWelcomed (terms : Terms) (manner : Manner) (link : LinkSeen)
+    (before after : DoorSeen) (old new : Asking) : Type 0 where
   pub link_back : LinkSeen
   pub reason : SessionEnd
-  pub served : ServesLink manner link link_back old new reason
+  pub served : ServesLink terms manner link link_back old new reason
   pub back : TakesBack before after link_back

@@ -10,12 +10,11 @@ use Rattle.pool_history.specs.Refusing.{most_enters}
 use Rattle.pool_history.specs.Sessions.{enters, past_of}
 use Rattle.session_steps.specs.declared.ends.SessionEnd.{SessionEnd}
 use Rattle.session_steps.specs.declared.manner.Manner.{Manner}
-use Rattle.session_steps.specs.States.{State, Over, new_state}
-use Rattle.session_steps.specs.Steps.{SessionStep, Follows, bytes_in_steps, calls_in, turns_in}
 use Rattle.session_loop.specs.Causes.{is_read_end, is_write_end}
-use Rattle.session_loop.specs.Good.{IsGoodInput}
-use Rattle.session_loop.specs.Running.{TakesAll, has_ended}
+use Rattle.session_loop.specs.Running.{TakesAll}
 use Rattle.session_limits.specs.Ends.{Failures, HasNoHindrance, IsWellEnded, has_turned_away, has_unkept, session_bounds}
+use Rattle.v1_rules.specs.State.{Terms}
+use Rattle.link_session.specs.Courses.{Course, IsCourse, IsGoodSpeech, bytes_on, calls_on, has_ended_on, turns_on}
 use Rattle.session_workers.specs.Calling.{AddsCalls, PoolPass, faults_through}
 
 -- a pass, and how many of its calls were answered by the keeper's fault
@@ -23,11 +22,11 @@ pub record Asking : Type 0 where
   pub pass : PoolPass
   pub faults : ℕ
 
--- a link as it came and as it went, the steps of its session, and how that ended
+-- a link as it came and as it went, the course of its session, and how that ended
 pub record Visit : Type 0 where
   pub before : LinkSeen
   pub after : LinkSeen
-  pub steps : List SessionStep
+  pub course : Course
   pub reason : SessionEnd
 
 -- nothing stopped a session: its input was told and is good, no limit is reached by it, neither count
@@ -35,23 +34,23 @@ pub record Visit : Type 0 where
 pub record IsUnstopped (manner : Manner) (visit : Visit) : Type 0 where
   pub turns : List Turn
   pub told : visit.before.source.left ≡ Some turns
-  pub good : IsGoodInput manner turns
+  pub good : IsGoodSpeech manner turns
   pub within : IsFree (session_bounds manner.idle_turns) (steps_of turns)
   pub read : ¬ Rose visit.before.source.faults visit.after.source.faults
   pub written : ¬ Rose visit.before.sink.faults visit.after.sink.faults
-  pub kept : has_unkept (calls_in visit.steps) ≡ false
-  pub let_in : has_turned_away (calls_in visit.steps) ≡ false
+  pub kept : has_unkept (calls_on visit.course) ≡ false
+  pub let_in : has_turned_away (calls_on visit.course) ≡ false
 
--- Steps that begin a session of this worker and come to this end. The turns that were taken of the
--- link are those of the steps, and so are the bytes that it got; its counts rose just where the end
--- says so. What nothing stopped was served to its end, or memory ran out.
-pub record IsVisit (manner : Manner) (worker : ℕ) (visit : Visit) : Type 0 where
-  pub last : State
-  pub follows : Follows worker (new_state manner) visit.steps last
-  pub over : last.stage ≡ Over visit.reason
-  pub took : BringsSteps visit.before.source.left visit.after.source.left (turns_in visit.steps)
-  pub ended : TakesAll (has_ended visit.steps) visit.before.source.left (turns_in visit.steps)
-  pub put : AddsBytes visit.before.sink.held visit.after.sink.held (bytes_in_steps visit.steps)
+-- A course that begins a session of this worker and comes to this end, in the language that its first
+-- byte tells. The turns that were taken of the link are those of the course, and so are the bytes that
+-- it got; its counts rose just where the end says so. What nothing stopped was served to its end, or
+-- memory ran out.
+pub record IsVisit (terms : Terms) (manner : Manner) (worker : ℕ) (visit : Visit) : Type 0 where
+  pub is_course : IsCourse worker terms manner visit.course visit.reason
+  pub took : BringsSteps visit.before.source.left visit.after.source.left (turns_on visit.course)
+  pub ended : TakesAll (has_ended_on visit.course) visit.before.source.left
+      (turns_on visit.course)
+  pub put : AddsBytes visit.before.sink.held visit.after.sink.held (bytes_on visit.course)
   pub reads : CountsFailure (is_read_end visit.reason) visit.before.source.faults
       visit.after.source.faults
   pub writes : CountsFailure (is_write_end visit.reason) visit.before.sink.faults
@@ -77,19 +76,19 @@ failures_at link asking = record {
 abbrev pub ServesGoodLink :
     Manner → LinkSeen → LinkSeen → Asking → Asking → SessionEnd → Type 0
 ServesGoodLink manner before after old new reason =
-    (turns : List Turn) → before.source.left ≡ Some turns → IsGoodInput manner turns
+    (turns : List Turn) → before.source.left ≡ Some turns → IsGoodSpeech manner turns
     → HasNoHindrance manner.idle_turns turns (failures_at before old) (failures_at after new)
     → enters (past_of new.pass.seen) < most_enters → IsWellEnded reason
 
 -- a session on the link, whose calls are those that the pass made; good input is served well
-pub record ServesLink (manner : Manner) (before after : LinkSeen) (old new : Asking)
-    (reason : SessionEnd) : Type 0 where
-  pub steps : List SessionStep
-  pub visit : IsVisit manner old.pass.worker (record {
+pub record ServesLink (terms : Terms) (manner : Manner) (before after : LinkSeen)
+    (old new : Asking) (reason : SessionEnd) : Type 0 where
+  pub course : Course
+  pub visit : IsVisit terms manner old.pass.worker (record {
     before = before;
     after = after;
-    steps = steps;
+    course = course;
     reason = reason;
   })
-  pub asks : AsksByPass old (calls_in steps) new
+  pub asks : AsksByPass old (calls_on course) new
   pub complete : ServesGoodLink manner before after old new reason

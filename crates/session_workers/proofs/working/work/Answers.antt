@@ -7,7 +7,7 @@ loop-init g c = record {
   desk = c.requires.desk;
   pass = refl;
   turns = c.requires.waits.1;
-  attends = on_none c.args.manner c.args.door_turns c.args.door_turns (g.D.Door.seen c.args.door.now) _;
+  attends = on_none c.args.terms.now c.args.manner c.args.door_turns c.args.door_turns (g.D.Door.seen c.args.door.now) _;
 }
 
 pub loop-preserved : goal.loop-preserved

@@ -9,7 +9,7 @@ invariant-loop g l = record {
   turns : 0 < l.turns;
   attends :
       AttendsOn
-      l.fn.manner l.fn.door_turns l.fn.door_turns l.turns (g.D.Door.seen l.initial.door) (g.D.Door.seen l.door)
+      l.fn.terms l.fn.manner l.fn.door_turns l.fn.door_turns l.turns (g.D.Door.seen l.initial.door) (g.D.Door.seen l.door)
       (record { pass = l.initial.asker.pass.now; faults = l.initial.asker.faults })
       (record { pass = l.asker.pass.now; faults = l.asker.faults });
 }
