@@ -3,12 +3,14 @@ use Rattle.std.proofs.Common.{◌≡◌, ◌⊎◌, inl, inr, ⊎_elim, ℕ, ◌
 use Rattle.std.specs.Int.{w32, to_le_bytes}
 use Rattle.pool_io.specs.declared.keeper.KeeperFailed.{KeeperFailed}
 use Rattle.disk_io.specs.declared.disk.DiskFailed.{DiskFailed}
+use Rattle.disk_io.specs.Calls.{overwritten}
 use Rattle.disk_io.specs.Moments.{MayLeave, Moment, last_content, synced_content}
 use Rattle.ledger_disk.specs.declared.steps.PutFailed.{PutFailed}
 use Rattle.ledger_disk.specs.declared.steps.PutFailed.TheVariants.{Unwritten, Unsure}
 use Rattle.ledger_disk.specs.Crashes.{LeavesOnly, MayFind, StoresMore, Throughout, stored_entries}
 use Rattle.ledger_disk.specs.Entries.{AreShort, Begins, HasBehind, Opens, body, entries_on, front}
-use Rattle.ledger_disk.specs.Steps.{Adds, HoldsLedger, LogsPut}
+use Rattle.ledger_disk.specs.Steps.{Adds, CountsOn, HoldsLedger, LogsPut}
+use Rattle.ledger_disk.proofs.Counting.{counts_over, counts_put, throughout_counts}
 use Rattle.ledger_disk.proofs.Finding.{found_closed, found_either, front_more, has_magic, opens_just}
 use Rattle.ledger_disk.proofs.Moments.{AreWithin, Puts, PutsWithin, finds_now, finds_since, only_synced, puts_each, some_is, throughout_all, throughout_over}
 use Rattle.ledger_disk.proofs.Putting.{inside_behind, inside_gate, puts_behind, puts_gate}
@@ -85,6 +87,7 @@ module _ (bytes : List ℕ) (fits : length bytes ≤ 300100) (gate : ℕ) (old :
     same = same;
     only = tt;
     during = throughout_all (λ now. stored_entries now ≡ E) (λ now. StoresMore E bytes (Err error) (stored_entries now)) (λ now is. inl is) old told through;
+    counts = throughout_counts E old log told tells through;
     holds = holds_stored gate false E log (record { short = holds.short; size = holds.size; stored = same; gated = all });
     crash = λ count found may. ⊎_elim (λ was. inl was) (λ now. inr (inl (now.0, inl now.1))) (finds count found may);
   }
@@ -114,6 +117,9 @@ module _ (bytes : List ℕ) (fits : length bytes ≤ 300100) (gate : ℕ) (old :
 
     mid_through : Throughout (λ now. stored_entries now ≡ E) old mid_told
     mid_through = puts_each (λ es. es ≡ E) (Begins start) (Begins (start ++ entry)) old refl (λ c begins. closed c (stands_ok c begins)) mid_told behind.0
+
+    mid_counts : CountsOn [] (length E) old mid
+    mid_counts = throughout_counts E old mid mid_told behind.0.tells mid_through
 
     mid_finds : (count : ℕ) (found : Option (List (List ℕ))) → MayFind mid count found → MayFind old count found ⊎ FindsOld count found
     mid_finds count found may =
@@ -190,8 +196,8 @@ module _ (bytes : List ℕ) (fits : length bytes ≤ 300100) (gate : ℕ) (old :
         let whole : length (front E ++ 1 ∷ (body bytes ++ [])) ≡ length (front more ++ []) = ap length (front_more E bytes []) in
         omega (arith, whole, holds.size, length-append (front E) (1 ∷ (body bytes ++ [])), length-append (body bytes) [], length-append (front more) [], body_size)
 
-    add_ok : (told : Option (List Moment)) → Gate (Ok tt) told → Adds bytes (Ok tt) gate old (gate + (5 + length bytes)) told false
-    add_ok told puts =
+    add_ok : (told : Option (List Moment)) → Gate (Ok tt) told → LogsPut gate (1 ∷ []) (Ok tt) mid told → Adds bytes (Ok tt) gate old (gate + (5 + length bytes)) told false
+    add_ok told puts logs =
         let log = puts.0.log in
         let same : stored_entries log ≡ more = found_more (synced_content log) (only_synced Opened log puts.1) in
         record {
@@ -200,6 +206,9 @@ module _ (bytes : List ℕ) (fits : length bytes ≤ 300100) (gate : ℕ) (old :
           more = same;
           same = tt;
           during = over_through (Ok tt) Opened (λ c opened. inr (found_more c opened, tt)) told puts.0;
+          counts = counts_over ((length E + 1) ∷ []) (length E) old mid log mid_counts
+              (counts_put E gate 1 (length E + 1) (overwritten gate (1 ∷ []) (last_content mid)) mid log mid_same (some_is log _ (sym puts.0.tells ∙ logs))
+              (ap (λ (es : List (List ℕ)). length es) same ∙ length-append E (bytes ∷ [])));
           only = λ left may. let stands = puts.1 left may in (inr (has_magic E (1 ∷ entry) left stands), found_more left stands ∙ sym same);
           holds = holds_stored (gate + (5 + length bytes)) false more log (record {
             short = short_more bytes fits E holds.short;
@@ -213,7 +222,8 @@ module _ (bytes : List ℕ) (fits : length bytes ≤ 300100) (gate : ℕ) (old :
 
     pub add_done : (told : Option (List Moment)) (result : Result (Unit {0}) PutFailed) (u : Unit {0}) → result ≡ Ok u
         → ((log : List Moment) → mid_told ≡ Some log → LogsPut gate (1 ∷ []) result log told) → Adds bytes (Ok u) gate old (gate + (5 + length bytes)) told false
-    add_done told result u is does = add_ok told (gate_of (Ok tt) told (subst (λ (r : Result (Unit {0}) PutFailed). LogsPut gate (1 ∷ []) r mid told) is (does mid behind.0.tells)))
+    add_done told result u is does =
+        let logs = subst (λ (r : Result (Unit {0}) PutFailed). LogsPut gate (1 ∷ []) r mid told) is (does mid behind.0.tells) in add_ok told (gate_of (Ok tt) told logs) logs
 
     pub add_unwritten : (told : Option (List Moment)) (result : Result (Unit {0}) PutFailed) → result ≡ Err Unwritten
         → ((log : List Moment) → mid_told ≡ Some log → LogsPut gate (1 ∷ []) result log told) → (why : KeeperFailed) → Adds bytes (Err why) gate old gate told false
@@ -235,6 +245,8 @@ module _ (bytes : List ℕ) (fits : length bytes ≤ 300100) (gate : ℕ) (old :
           same = same;
           only = tt;
           during = over_through (Err why) (λ c. ⊥) (λ c none. absurd none) told puts.0;
+          counts = counts_over [] (length E) old mid log mid_counts
+              (throughout_counts E mid log told puts.0.tells (puts_each (λ es. es ≡ E) (HasBehind (front E) entry) (λ c. ⊥) mid mid_same (λ c none. absurd none) told puts.0));
           holds = holds_stored gate true E log (record {
             short = holds.short;
             size = holds.size;

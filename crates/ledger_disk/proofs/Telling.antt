@@ -1,14 +1,16 @@
 -- The steps of an append one behind the other, and what a disk tells of them, where it tells.
-use Rattle.std.proofs.Common.{◌≡◌, inl, inr, ⊎_elim, ℕ, Bool, false, List, [], ◌∷◌, ◌++◌, Option, None, Some, Result, Ok, Err, IsErr, OnErr, OnOk, refl, sym, ◌∙◌, ap, subst}
+use Rattle.std.proofs.Common.{◌≡◌, inl, inr, ⊎_elim, ℕ, Bool, false, List, [], ◌∷◌, ◌++◌, Option, None, Some, Result, Ok, Err, IsErr, OnErr, OnOk, length, refl, sym, ◌∙◌, ap, subst}
 use Rattle.std.proofs.lemmas.Bool.{false≢true}
 use Rattle.std.specs.Option.{IfSome, option_map}
 use Rattle.pool_io.specs.declared.keeper.KeeperFailed.{KeeperFailed}
 use Rattle.pool_io.specs.Outside.{AddsRecord}
 use Rattle.disk_io.specs.Calls.{WhereTold}
 use Rattle.disk_io.specs.Moments.{Moment}
-use Rattle.ledger_disk.specs.Crashes.{FindsMore, LeavesStored, MayFind, StoresMore, Throughout, stored_entries}
-use Rattle.ledger_disk.specs.Steps.{Adds, HoldsLedger, IsOnDisk, Shuts}
+use Rattle.pool_io.specs.Crashes.{FindsMore, StoresNext, counts_at_end}
+use Rattle.ledger_disk.specs.Crashes.{LeavesStored, MayFind, StoresMore, Throughout, counts_of, stored_entries}
+use Rattle.ledger_disk.specs.Steps.{Adds, CountsOn, HoldsLedger, IsOnDisk, Shuts}
 use Rattle.ledger_disk.proofs.Adding.{none_tells}
+use Rattle.ledger_disk.proofs.Counting.{counts_over, throughout_counts}
 use Rattle.ledger_disk.proofs.Moments.{throughout_all, throughout_over}
 
 -- the gate was put, or wasn't, and nothing more
@@ -23,6 +25,7 @@ shut_only bytes (Err error) failed gate old told is_torn shut = record {
   only = tt;
   during = throughout_all (λ now. stored_entries now ≡ stored_entries old) (λ now. StoresMore (stored_entries old) bytes (Err error) (stored_entries now)) (λ now is. inl is)
       old told shut.during;
+  counts = throughout_counts (stored_entries old) old shut.log told shut.tells shut.during;
   holds = shut.holds;
   crash = λ count found may. ⊎_elim (λ was. inl was) (λ now. inr (inl (now.0, inl now.1))) (shut.crash count found may);
 }
@@ -40,6 +43,9 @@ shut_first bytes result gate old mid later told is_torn shut add = record {
       (throughout_all (λ now. stored_entries now ≡ stored_entries old) (λ now. StoresMore (stored_entries old) bytes result (stored_entries now)) (λ now is. inl is) old (Some shut.log)
       (subst (λ (t : Option (List Moment)). Throughout (λ now. stored_entries now ≡ stored_entries old) old t) shut.tells shut.during))
       (subst (λ (es : List (List ℕ)). Throughout (λ now. StoresMore es bytes result (stored_entries now)) shut.log told) shut.same add.during);
+  counts = counts_over (counts_at_end result (length (stored_entries old))) (length (stored_entries old)) old shut.log add.log
+      (throughout_counts (stored_entries old) old shut.log mid shut.tells shut.during)
+      (subst (λ (es : List (List ℕ)). CountsOn (counts_at_end result (length es)) (length es) shut.log add.log) shut.same add.counts);
   holds = add.holds;
   crash = λ count found may.
       ⊎_elim (λ was. ⊎_elim (λ once. inl once) (λ now. inr (inl (now.0, inl now.1))) (shut.crash count found was)) (λ now. inr now)
@@ -57,6 +63,9 @@ told_shut gate (Some old) new is_torn untold shuts shut log is =
 
 abbrev told_entries : Option (List Moment) → Option (List (List ℕ))
 told_entries told = option_map stored_entries told
+
+abbrev pub told_counts : Option (List Moment) → Option (List ℕ)
+told_counts told = option_map counts_of told
 
 abbrev Found : Option (List Moment) → ℕ → Option (List (List ℕ)) → Type 0
 Found told count found = IfSome told (λ log. MayFind log count found)
@@ -105,3 +114,12 @@ module _ (bytes : List ℕ) (gate later : ℕ) (is_torn : Bool) where
       let same : stored_entries log ≡ before = ap (entries_or before) is in
       subst (λ (es : List (List ℕ)). FindsMore es bytes result (MayFind log) (MayFind add.log)) same add.crash count found
       (subst (λ (t : Option (List Moment)). Found t count found) add.tells may)
+
+  pub added_counts : (result : Result (Unit {0}) KeeperFailed) (old new : Option (List Moment)) → (old ≡ None → new ≡ None) → Added result old new
+      → (before : List (List ℕ)) → told_entries old ≡ Some before → StoresNext result (length before) (told_counts old) (told_counts new)
+  added_counts result None new untold adds before is = absurd (cc)
+  added_counts result (Some log) new untold adds before is =
+      let add = adds log refl in
+      let same : stored_entries log ≡ before = ap (entries_or before) is in
+      subst (λ (es : List (List ℕ)). StoresNext result (length es) (Some (counts_of log)) (told_counts new)) same
+      (add.counts.0, ap (λ (t : Option (List Moment)). told_counts t) add.tells ∙ ap (λ (ns : List ℕ). Some ns) add.counts.1)

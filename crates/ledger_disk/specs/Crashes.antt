@@ -12,9 +12,17 @@ use Rattle.ledger_disk.specs.Entries.{Opens, entries_on}
 abbrev pub stored_entries : List Moment → List (List ℕ)
 stored_entries log = entries_on (synced_content log)
 
--- what a ledger keeps, where its disk tells
+-- how many entries were stored at each moment, the last one first
+abbrev pub counts_of : List Moment → List ℕ
+counts_of [] = []
+counts_of (moment ∷ older) = length (stored_entries (moment ∷ older)) ∷ counts_of older
+
+-- what a ledger keeps, and how many entries were stored at each moment, where its disk tells
 abbrev pub entries_told : DiskSeen → Option (List (List ℕ))
 entries_told disk = option_map stored_entries disk.log
+
+abbrev pub counts_told : DiskSeen → Option (List ℕ)
+counts_told disk = option_map counts_of disk.log
 
 -- whatever a crash leaves behind these calls has P
 abbrev pub LeavesOnly : (List ℕ → Type 0) → List Moment → Type 0
@@ -38,18 +46,6 @@ MayFind (moment ∷ older) count found =
 -- the same of what a disk tells
 abbrev pub MayBeFound : DiskSeen → ℕ → Option (List (List ℕ)) → Type 0
 MayBeFound disk count found = IfSome disk.log (λ log. MayFind log count found)
-
--- an append behind these entries: a crash at any moment of it leaves them, or them and the new one,
--- or what one might have left before; and once the new one is stored, which is never so where the
--- append fails, them and the new one
-abbrev pub FindsMore : {E : Type 0} → List (List ℕ) → List ℕ → Result Unit E
-    → (old new : ℕ → Option (List (List ℕ)) → Type 0) → Type 0
-FindsMore before bytes result old new =
-    (count : ℕ) (found : Option (List (List ℕ))) → new count found
-    → old count found
-    ⊎ (((count ≡ length before)
-    × ((found ≡ Some before) ⊎ (found ≡ Some (before ++ bytes ∷ []))))
-    ⊎ ((count ≡ length before + 1) × (found ≡ Some (before ++ bytes ∷ [])) × OnErr result ⊥))
 
 -- a crash at any moment of a call leaves just these entries, so many being stored, or what one might
 -- have left before

@@ -1,5 +1,5 @@
 -- What the steps of an append do, and what stands on the disk between two calls of a ledger.
-use Rattle.std.specs.Prelude.{ℕ, ◌+◌, ◌≡◌, ◌⊎◌, ◌<◌, ◌≤◌, Bool, true, false, List, [], ◌∷◌, ◌++◌, length, take, drop, OnErr, OnOk, Option, None, Some, IfSome, Result, Ok, Err}
+use Rattle.std.specs.Prelude.{ℕ, ◌+◌, ◌≡◌, ◌⊎◌, ◌<◌, ◌≤◌, Bool, true, false, List, [], ◌∷◌, ◌++◌, length, take, drop, replicate, OnErr, OnOk, Option, None, Some, IfSome, Result, Ok, Err}
 use Rattle.std.specs.Int.{w32, to_le_bytes}
 use Rattle.disk_io.specs.declared.disk.DiskFailed.{DiskFailed}
 use Rattle.disk_io.specs.declared.disk.DiskFailed.TheVariants as disk
@@ -10,7 +10,8 @@ use Rattle.pool_io.specs.declared.keeper.KeeperFailed.{KeeperFailed}
 use Rattle.pool_io.specs.declared.keeper.KeeperFailed.TheVariants as keeper
 use Rattle.ledger_disk.specs.declared.steps.PutFailed.{PutFailed}
 use Rattle.ledger_disk.specs.declared.steps.PutFailed.TheVariants.{Unwritten, Unsure}
-use Rattle.ledger_disk.specs.Crashes.{FindsJust, FindsMore, IsSettled, LeavesOnly, LeavesStored, MayFind, StoresMore, Throughout, stored_entries}
+use Rattle.pool_io.specs.Crashes.{FindsMore, counts_at_end}
+use Rattle.ledger_disk.specs.Crashes.{FindsJust, IsSettled, LeavesOnly, LeavesStored, MayFind, StoresMore, Throughout, counts_of, stored_entries}
 use Rattle.ledger_disk.specs.Entries.{AreShort, Begins, HasBehind, HasNone, IsBlank, Opens, body, front}
 
 -- bytes were put: written and synced; written, or some of them, and not synced; or not written
@@ -77,6 +78,11 @@ pub record Shuts (gate : ℕ) (old : List Moment) (told : Option (List Moment)) 
       → MayFind old count found
       ⊎ ((count ≡ length (stored_entries old)) × (found ≡ Some (stored_entries old)))
 
+-- at each moment of a call so many entries were stored, and behind these so many as the list says
+abbrev pub CountsOn : (last : List ℕ) → ℕ → (old new : List Moment) → Type 0
+CountsOn last count old new =
+    (moments : ℕ) × (counts_of new ≡ last ++ (replicate moments count ++ counts_of old))
+
 -- an entry was added behind a gate that was closed, or wasn't
 pub record Adds (bytes : List ℕ) (result : Result Unit KeeperFailed) (gate : ℕ) (old : List Moment)
     (later : ℕ) (told : Option (List Moment)) (is_torn : Bool) : Type 0 where
@@ -87,6 +93,8 @@ pub record Adds (bytes : List ℕ) (result : Result Unit KeeperFailed) (gate : �
   pub only : OnOk result (LeavesStored log)
   pub during : Throughout (λ now. StoresMore (stored_entries old) bytes result (stored_entries now)) old
       told
+  pub counts : CountsOn (counts_at_end result (length (stored_entries old)))
+      (length (stored_entries old)) old log
   pub holds : HoldsLedger later is_torn (stored_entries log) log
   pub crash : FindsMore (stored_entries old) bytes result (MayFind old) (MayFind log)
 

@@ -2,11 +2,12 @@
 
 ghost use Rattle.std.specs.Prelude.{◌≡◌, ◌≤◌, ◌<◌, ◌^◌, ◌++◌, ◌∷◌, [], IfErr, IfOk, None, OnErr, OnOk, Some, false, length, List, ℕ};
 ghost use Rattle.std.specs.Option.{option_map};
+ghost use Rattle.pool_io.specs.Crashes.{FindsMore, IsSettledWith, StoresNext};
 ghost use Rattle.pool_io.specs.Outside.{AddsRecord, CountsFailure, is_failed_append};
-ghost use Rattle.disk_io.specs.Calls.{WhereTold};
+ghost use Rattle.disk_io.specs.Calls.{WhereTold, fresh_disk};
 ghost use Rattle.disk_io.specs.Moments.{last_content};
 ghost use Rattle.ledger_disk.specs.declared.opening.DiskOpenError.TheVariants.{Foreign};
-ghost use Rattle.ledger_disk.specs.Crashes.{FindsJust, FindsMore, IsSettled, LeavesStored, MayBeFound, MayFind, StoresMore, Throughout, disk_after, entries_told, is_failed_opening, stored_entries};
+ghost use Rattle.ledger_disk.specs.Crashes.{FindsJust, IsSettled, LeavesStored, MayBeFound, MayFind, StoresMore, Throughout, counts_told, disk_after, entries_told, is_failed_opening, stored_entries};
 ghost use Rattle.ledger_disk.specs.Entries.{IsForeign, Opens, body, entries_on};
 ghost use Rattle.ledger_disk.specs.Steps.{Adds, HoldsLedger, Shuts, keeper_failed_by};
 
@@ -63,6 +64,9 @@ impl<D: Disk> DiskLedger<D> {
         ensures during { WhereTold (D.seen disk).log (λ log. IsSettled log
             → Throughout (λ now. stored_entries now ≡ entries_on (last_content log)) log
             (disk_after (λ opened. opened.0) (λ back. D.seen back.0) result).log) }
+        ensures settled { IfOk result (λ opened. (content : List ℕ)
+            → (D.seen disk).log ≡ (fresh_disk content).log
+            → IsSettledWith (counts_told opened.0) (MayBeFound opened.0) opened.1.items) }
         ensures counts { CountsFailure (is_failed_opening result) (D.seen disk).faults
             (disk_after (λ opened. opened.0) (λ back. D.seen back.0) result).faults }
     {
@@ -92,6 +96,8 @@ impl<D: Disk> DiskLedger<D> {
         ensures stored { OnOk result (WhereTold self.new.log LeavesStored) }
         ensures crash { (before : List (List ℕ)) → entries_told self.old ≡ Some before
             → FindsMore before bytes.now result (MayBeFound self.old) (MayBeFound self.new) }
+        ensures moments { (before : List (List ℕ)) → entries_told self.old ≡ Some before
+            → StoresNext result (length before) (counts_told self.old) (counts_told self.new) }
         ensures during { WhereTold self.old.log (λ log. Throughout
             (λ now. StoresMore (stored_entries log) bytes.now result (stored_entries now)) log
             self.new.log) }
@@ -122,9 +128,15 @@ impl<D: Disk> DiskLedger<D> {
 }
 
 impl<D: Disk> Keeper for DiskLedger<D> {
-    ghost use Rattle.ledger_disk.specs.Crashes.{entries_told};
+    ghost use Rattle.ledger_disk.specs.Crashes.{MayBeFound, counts_told, entries_told};
 
-    ghost seen = { λ disk. record { faults = disk.faults; records = entries_told disk } };
+    ghost seen = { λ disk. record {
+      faults = disk.faults;
+      records = entries_told disk;
+      stored = counts_told disk;
+    } };
+
+    ghost may_find = { λ disk. MayBeFound disk };
 
     fn append(&mut self, bytes: &[u8]) -> Result<(), KeeperFailed> {
         DiskLedger::append(self, bytes)

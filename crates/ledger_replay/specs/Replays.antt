@@ -27,6 +27,7 @@ use Rattle.template_jobs.specs.Told.{WasTold}
 use Rattle.ledger_replay.specs.declared.error.ReplayError.{ReplayError}
 use Rattle.ledger_replay.specs.declared.error.ReplayError.TheVariants as error
 use Rattle.ledger_replay.specs.declared.replay.Replay.{Replay}
+use Rattle.ledger_replay.specs.declared.replay.ReplayedTables.{ReplayedTables}
 use Rattle.ledger_replay.specs.Shares.{WereBookedBy}
 
 -- the rules, how many events were told, and the tables that were told them
@@ -52,6 +53,20 @@ tables_of replay =
       grants = replay.grants;
       tally = replay.tally;
       headers = replay.headers;
+    }
+
+-- those that were taken out of a replay of so many events
+abbrev pub tables_with : ℕ → ReplayedTables → ReplayTables
+tables_with events replayed =
+    record {
+      rules = replayed.rules;
+      events = events;
+      sessions = replayed.sessions;
+      channels = replayed.channels;
+      jobs = replayed.jobs;
+      grants = replayed.grants;
+      tally = replayed.tally;
+      headers = replayed.headers;
     }
 
 -- tables were told these events, the last of which stands first, and they are legal

@@ -16,5 +16,5 @@ mod taking;
 mod token_events;
 
 pub use error::ReplayError;
-pub use replay::Replay;
+pub use replay::{Replay, ReplayedTables};
 pub use share_events::Credited;

@@ -29,10 +29,22 @@ pub struct Replay {
     pub(crate) ghost in_range: { IsTrue (are_in_range rules) },
 }
 
+/// The rules of a history, and the tables that were told it.
+#[derive(Drop)]
+pub struct ReplayedTables {
+    pub rules: Rules,
+    pub sessions: Sessions,
+    pub channels: Channels,
+    pub jobs: Jobs,
+    pub grants: Grants,
+    pub tally: Tally,
+    pub headers: Headers,
+}
+
 impl Replay {
     ghost use Rattle.std.specs.Prelude.{◌≡◌, [], ◌∷◌, IfOk};
     ghost use Rattle.pool_history.specs.declared.events.Event.TheVariants as event;
-    ghost use Rattle.ledger_replay.specs.Replays.{Begins, WasReplayed, event_count};
+    ghost use Rattle.ledger_replay.specs.Replays.{Begins, WasReplayed, event_count, tables_of, tables_with};
 
     /// The replay of a first event.
     pub fn begin(alloc: Global, first: Event) -> Result<Replay, ReplayError>
@@ -57,6 +69,39 @@ impl Replay {
         ensures { result ≡ event_count self.now }
     {
         self.events
+    }
+
+    /// How many blocks were told.
+    pub fn blocks(&self) -> u32
+        ensures { result ≡ (tables_of self.now).tally.blocks }
+    {
+        self.tally.blocks()
+    }
+
+    /// The rules and the tables.
+    pub fn into_tables(self) -> ReplayedTables
+        ensures { tables_with (event_count self) result ≡ tables_of self }
+    {
+        let Replay {
+            alloc: _,
+            rules,
+            events: _,
+            sessions,
+            channels,
+            jobs,
+            grants,
+            tally,
+            headers,
+        } = self;
+        ReplayedTables {
+            rules,
+            sessions,
+            channels,
+            jobs,
+            grants,
+            tally,
+            headers,
+        }
     }
 
     /// Tables that were told of these rules alone.

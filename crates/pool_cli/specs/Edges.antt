@@ -22,4 +22,4 @@ abbrev pub untold_sink : ℕ → SinkSeen
 untold_sink faults = record { faults = faults; held = None }
 
 abbrev pub untold_keeper : ℕ → KeeperSeen
-untold_keeper faults = record { faults = faults; records = None }
+untold_keeper faults = record { faults = faults; records = None; stored = None }

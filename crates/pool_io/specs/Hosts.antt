@@ -53,7 +53,8 @@ IsRefusedKeeper name old new error =
     IsRefused old new
     (openings_after_keeper {A = Unit {0}} (opening.Keeper name) (Err error) old.openings) error
 
--- The host gave a keeper over a new file of this name: it keeps nothing yet, and never failed.
+-- The host gave a keeper over a new file of this name: it keeps nothing yet, never failed, and
+-- doesn't tell what is there for good.
 pub record IsKeeperGiven (name : List ℕ) (old new : HostSeen) (keeper : KeeperSeen) : Type 0 where
   pub streams : new.streams ≡ old.streams
   pub openings : new.openings ≡ openings_after_keeper {A = Unit {0}} (opening.Keeper name) (Ok tt)
@@ -61,6 +62,7 @@ pub record IsKeeperGiven (name : List ℕ) (old new : HostSeen) (keeper : Keeper
   pub unused : IfSome keeper.records (λ records. records ≡ [])
   pub new_file : old.openings.brings name ≡ None
   pub unfailed : keeper.faults ≡ 0
+  pub untold : keeper.stored ≡ None
 
 -- it opened the file of this name and gave no output: the file came back unread
 pub record IsRefusedOutput (name : List ℕ) (old new : HostSeen) (error : HostError) : Type 0 where

@@ -1,3 +1,4 @@
+pub mod Crashes
 pub mod Hosts
 pub mod Lending
 pub mod Memory

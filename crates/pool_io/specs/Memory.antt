@@ -1,5 +1,5 @@
 -- What contracts see of the sources, sinks and keepers in memory.
-use Rattle.std.specs.Prelude.{Some}
+use Rattle.std.specs.Prelude.{None, Some}
 use Rattle.pool_io.specs.Seen.{KeeperSeen, SinkSeen, SourceSeen}
 use Rattle.pool_io.specs.declared.memory.source.MemSource.{MemSource}
 use Rattle.pool_io.specs.declared.memory.sink.MemSink.{MemSink}
@@ -13,4 +13,4 @@ abbrev pub sink_seen : MemSink → SinkSeen
 sink_seen s = record { faults = s.failing.faults; held = Some s.sink }
 
 abbrev pub keeper_seen : MemKeeper → KeeperSeen
-keeper_seen k = record { faults = k.failing.faults; records = Some k.keeper }
+keeper_seen k = record { faults = k.failing.faults; records = Some k.keeper; stored = None }

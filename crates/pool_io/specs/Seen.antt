@@ -22,3 +22,6 @@ pub record KeeperSeen : Type 0 where
   pub faults : ℕ
   -- the records that it keeps, where it tells them
   pub records : Option (List (List ℕ))
+  -- at each moment so far, the last one first, how many records were there for good, where it tells
+  -- that
+  pub stored : Option (List ℕ)

@@ -76,12 +76,13 @@ pub trait Host {
         ensures called { (seen self.new).openings
             ≡ openings_after (opening.Source name.now) result (seen self.old).openings };
 
-    /// A keeper over a new file of this name, which keeps no record yet. It fails where the name
-    /// exists.
+    /// A keeper over a new file of this name, which keeps no record yet and doesn't tell what is
+    /// there for good. It fails where the name exists.
     fn open_keeper(&mut self, name: &str) -> Result<Self::K, HostError>
         ensures fresh { IfOk result (λ keeper. (Self.K.seen keeper).faults ≡ 0) }
         ensures empty { IfOk result (λ keeper. IfSome (Self.K.seen keeper).records
             (λ records. records ≡ [])) }
+        ensures untold { IfOk result (λ keeper. (Self.K.seen keeper).stored ≡ None) }
         ensures new { OnOk result ((seen self.old).openings.brings name.now ≡ None) }
         ensures stays { (seen self.new).streams
             ≡ record (seen self.old).streams { faults = (seen self.new).streams.faults } }

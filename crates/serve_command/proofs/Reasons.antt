@@ -62,6 +62,7 @@ module _ (P : Status → Type 0) (ledger_faults door_faults door_memory : ℕ) (
   by_printed status.HostFault prints = by_counts status.HostFault prints
   by_printed status.BadSettings prints = by_counts status.BadSettings prints
   by_printed status.Limit prints = by_counts status.Limit prints
+  by_printed status.WrongLedger prints = by_counts status.WrongLedger prints
 
 -- from the moment when there were settings
 module _ (old new : WorldSeen) where
@@ -224,6 +225,7 @@ module _ (name : List ℕ) (old : WorldSeen) where
   behind read settings reads new status.ReadFault failed = absurd failed
   behind read settings reads new status.BadSettings failed = absurd failed
   behind read settings reads new status.Limit failed = absurd failed
+  behind read settings reads new status.WrongLedger failed = absurd failed
 
   has_reason : (ledger : List ℕ) (new : WorldSeen) (answer : Status) (read : HostSeen) (settings : Result Settings NoSettings)
       → OpensSettings name old.host read settings

@@ -1,7 +1,7 @@
 //! The command: settings, keeper, feed and doors are opened in this order, and the output when all
 //! sessions are over; all that was given is handed back.
 
-ghost use Rattle.std.specs.Prelude.{◌≡◌, ◌<◌, ◌-◌};
+ghost use Rattle.std.specs.Prelude.{◌≡◌, ◌<◌, ◌-◌, None};
 ghost use Rattle.pool_settings.specs.Reading.{AreInRange};
 ghost use Rattle.pool_io.specs.Hosts.{IsHandedBack};
 ghost use Rattle.share_ledger.specs.Books.{IsUnused};
@@ -94,6 +94,7 @@ where
     requires ranges { AreInRange settings }
     requires out { 0 < (H.seen host.old).openings.keepers.lent }
     requires unused { IsUnused (H.K.seen keeper).records }
+    requires untold { (H.K.seen keeper).stored ≡ None }
     ensures row { ServesOnBook settings (H.K.seen keeper)
         (record { host = H.seen host.old; network = N.seen network.old })
         (record { host = H.seen host.new; network = N.seen network.new }) result }

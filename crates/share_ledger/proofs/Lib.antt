@@ -3,6 +3,7 @@ mod Applied
 mod ChannelSteps
 mod JobSteps
 mod SessionSteps
+pub mod Recovering
 mod ShareSteps
 mod Started
 mod TokenSteps

@@ -6,3 +6,4 @@ pub mod Tokens
 pub mod Shares
 pub mod Books
 pub mod Booking
+pub mod Recovery

@@ -26,6 +26,7 @@ impl<K: Keeper> Model for Book<K> {
     ghost use Rattle.std.specs.Prelude.{◌≡◌};
     ghost use Rattle.ledger_laws.specs.Growing.{hash_after};
     ghost use Rattle.share_ledger.specs.Books.{BookSeen, KeepsLedger};
+    ghost use Rattle.share_ledger.specs.Recovery.{IsRecoverable};
 
     ghost Value = { BookSeen };
 
@@ -36,6 +37,8 @@ impl<K: Keeper> Model for Book<K> {
 
     ghost invariant = { λ book. (book.hash ≡ hash_after book.tables.value.history.events)
         × KeepsLedger (K.seen book.keeper).records
+        book.tables.value.history.events
+        × IsRecoverable (K.seen book.keeper) (K.may_find book.keeper)
         book.tables.value.history.events };
 }
 
@@ -46,15 +49,18 @@ impl<K: Keeper> Book<K> {
     ghost use Rattle.pool_history.specs.Sessions.{past_of};
     ghost use Rattle.pool_history.specs.Summary.{summary_of, summary_text};
     ghost use Rattle.pool_history.specs.Calls.{blames_keeper};
+    ghost use Rattle.ledger_laws.specs.Growing.{hash_after};
     ghost use Rattle.ledger_laws.specs.Keeping.{IsKept};
     ghost use Rattle.pool_io.specs.Outside.{CountsFailure};
     ghost use Rattle.share_ledger.specs.Books.{IsReplied, IsUnused, KeepsInstead, KeepsLedger, is_keeper_fault};
+    ghost use Rattle.share_ledger.specs.Recovery.{IsRecoverable, IsStored};
 
     /// The book of a pool that starts, with a keeper that keeps nothing yet: the magic and the Start
     /// record are kept as one piece.
     pub fn new(alloc: Global, rules: Rules, keeper: K) -> Result<Book<K>, (K, BookError)>
         requires rules { IsTrue (are_in_range rules) }
         requires unused { IsUnused (K.seen keeper).records }
+        requires recovers { IsRecoverable (K.seen keeper) (K.may_find keeper) [] }
         ensures ok { IfOk result (λ book. book.events ≡ event.Start rules ∷ []) }
         ensures kept { IfOk result (λ book.
             KeepsInstead (K.seen keeper).records book.keeper.records book.events) }
@@ -62,6 +68,8 @@ impl<K: Keeper> Book<K> {
         ensures refused { IfErr result (λ failed. (K.seen failed.0).records ≡ (K.seen keeper).records) }
         ensures fault { IfErr result (λ failed. CountsFailure (blames_keeper failed.1)
             (K.seen keeper).faults (K.seen failed.0).faults) }
+        ensures unbegun { IfErr result (λ failed.
+            IsRecoverable (K.seen failed.0) (K.may_find failed.0) []) }
     {
         let tables = match start_tables(alloc, rules) {
             Ok(tables) => tables,
@@ -78,6 +86,34 @@ impl<K: Keeper> Book<K> {
                 tables,
             }),
             Err(error) => Err((keeper, error)),
+        }
+    }
+
+    /// The book of a history that was kept before, with the hash behind its last record, and with a
+    /// keeper that has just its records or tells none.
+    pub fn of_tables(
+        alloc: Global,
+        tables: Tables,
+        hash: [u8; 32],
+        keeper: K,
+    ) -> Result<Book<K>, (K, AllocError)>
+        requires hashed { hash ≡ hash_after tables.history.events }
+        requires ledger { KeepsLedger (K.seen keeper).records tables.history.events }
+        requires recovers { IsRecoverable (K.seen keeper) (K.may_find keeper)
+            tables.history.events }
+        ensures events { IfOk result (λ book. book.events ≡ tables.history.events) }
+        ensures keeper { IfOk result (λ book. book.keeper ≡ K.seen keeper) }
+        ensures refused { IfErr result (λ failed. failed.0 ≡ keeper) }
+    {
+        match Box::new(alloc, tables) {
+            Ok(tables) => Ok(Book {
+                alloc,
+                keeper,
+                hash,
+                piece: Vec::new(alloc),
+                tables,
+            }),
+            Err(_) => Err((keeper, AllocError)),
         }
     }
 
@@ -126,17 +162,19 @@ impl<K: Keeper> Book<K> {
     }
 
     /// That the history is legal and has a ledger, and that the keeper has just that ledger, where it
-    /// tells its records.
+    /// tells its records, all of it for good, where it tells that.
     pub fn history_is_kept(&self)
         ensures history { IsKept self.now.events }
         ensures ledger { KeepsLedger self.now.keeper.records self.now.events }
+        ensures stored { IsStored self.now.keeper self.now.events }
     {
         self.tables.are_kept()
     }
 
-    /// The keeper, and the history.
+    /// The keeper, of which a crash left nothing but fronts of the history, and the history.
     pub fn into_parts(self) -> (K, History)
         ensures keeper { K.seen result.0 ≡ self.keeper }
+        ensures recovers { IsRecoverable (K.seen result.0) (K.may_find result.0) self.events }
         ensures history { result.1.events ≡ self.events }
     {
         let Book {

@@ -6,7 +6,9 @@ ghost use Rattle.pool_history.specs.Ledger.{HasRecord, kept_records, ledger_text
 ghost use Rattle.ledger_laws.specs.Growing.{hash_after};
 ghost use Rattle.ledger_records.specs.Pieces.{piece_behind};
 ghost use Rattle.pool_io.specs.Outside.{AddsRecord, CountsFailure};
+ghost use Rattle.ledger_laws.specs.Keeping.{KeepsOn};
 ghost use Rattle.share_ledger.specs.Books.{KeepsInstead, KeepsLedger, is_keeper_fault};
+ghost use Rattle.share_ledger.specs.Recovery.{IsRecoverable, RecoversNext, pieces_of};
 ghost use Rattle.share_ledger.specs.Planning.{Changes, IsNext, IsReady, MakesStep};
 
 use crate::planning::{Planned, Step};
@@ -29,11 +31,15 @@ pub(crate) fn carry_out<K: Keeper>(
     requires ready { IfOk step (IsReady tables.old) }
     requires hashed { hash.old ≡ hash_after tables.old.history.events }
     requires kept { KeepsLedger (K.seen keeper.old).records tables.old.history.events }
+    requires recovers { IsRecoverable (K.seen keeper.old) (K.may_find keeper.old)
+        tables.old.history.events }
     ensures made { IfOk result
         (MakesStep step tables.old.history.events tables.new.history.events) }
     ensures same { OnErr result (tables.new.history.events ≡ tables.old.history.events) }
     ensures hash { hash.new ≡ hash_after tables.new.history.events }
     ensures kept { KeepsInstead (K.seen keeper.old).records (K.seen keeper.new).records
+        tables.new.history.events }
+    ensures recovers { IsRecoverable (K.seen keeper.new) (K.may_find keeper.new)
         tables.new.history.events }
     ensures counts { CountsFailure (is_keeper_fault result) (K.seen keeper.old).faults
         (K.seen keeper.new).faults }
@@ -70,6 +76,11 @@ fn commit<K: Keeper>(
     ensures same { OnErr result (tables.new ≡ tables.old) }
     ensures same_hash { OnErr result (hash.new ≡ hash.old) }
     ensures same_records { OnErr result ((K.seen keeper.new).records ≡ (K.seen keeper.old).records) }
+    ensures recovers { pieces_of (tables.old.history.events ++ planned.event ∷ [])
+        ≡ pieces_of tables.old.history.events ++ piece_behind hash.old planned.event ∷ []
+        → IsRecoverable (K.seen keeper.old) (K.may_find keeper.old) tables.old.history.events
+        → RecoversNext result (K.seen keeper.new) (K.may_find keeper.new) tables.old.history.events
+        planned.event }
 {
     let Planned {
         event,
@@ -98,6 +109,11 @@ fn keep<K: Keeper>(
     ensures kept { OnOk result (AddsRecord (K.seen keeper.old).records (K.seen keeper.new).records
         (piece_behind hash.now event.now)) }
     ensures same { OnErr result ((K.seen keeper.new).records ≡ (K.seen keeper.old).records) }
+    ensures recovers { (history : List Event) → KeepsOn history (event.now ∷ [])
+        → pieces_of (history ++ event.now ∷ [])
+        ≡ pieces_of history ++ piece_behind hash.now event.now ∷ []
+        → IsRecoverable (K.seen keeper.old) (K.may_find keeper.old) history
+        → RecoversNext result (K.seen keeper.new) (K.may_find keeper.new) history event.now }
     ensures counts { CountsFailure (is_keeper_fault result) (K.seen keeper.old).faults
         (K.seen keeper.new).faults }
 {
@@ -122,6 +138,9 @@ pub(crate) fn keep_start<K: Keeper>(
     ensures kept { OnOk result (AddsRecord (K.seen keeper.old).records (K.seen keeper.new).records
         (ledger_text (event.now ∷ []))) }
     ensures same { OnErr result ((K.seen keeper.new).records ≡ (K.seen keeper.old).records) }
+    ensures recovers { KeepsOn [] (event.now ∷ [])
+        → IsRecoverable (K.seen keeper.old) (K.may_find keeper.old) []
+        → RecoversNext result (K.seen keeper.new) (K.may_find keeper.new) [] event.now }
     ensures counts { CountsFailure (is_keeper_fault result) (K.seen keeper.old).faults
         (K.seen keeper.new).faults }
 {
@@ -141,6 +160,10 @@ fn append<K: Keeper>(keeper: &mut K, piece: &[u8]) -> Result<(), BookError>
     ensures kept { OnOk result (AddsRecord (K.seen keeper.old).records (K.seen keeper.new).records
         piece.now) }
     ensures same { OnErr result ((K.seen keeper.new).records ≡ (K.seen keeper.old).records) }
+    ensures recovers { (history : List Event) (next : Event) → KeepsOn history (next ∷ [])
+        → pieces_of (history ++ next ∷ []) ≡ pieces_of history ++ piece.now ∷ []
+        → IsRecoverable (K.seen keeper.old) (K.may_find keeper.old) history
+        → RecoversNext result (K.seen keeper.new) (K.may_find keeper.new) history next }
     ensures counts { CountsFailure (is_keeper_fault result) (K.seen keeper.old).faults
         (K.seen keeper.new).faults }
 {

@@ -16,3 +16,4 @@ mod tables;
 mod token_plans;
 
 pub use book::Book;
+pub use tables::Tables;

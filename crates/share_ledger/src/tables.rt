@@ -12,9 +12,10 @@ use std::alloc::{AllocError, Global};
 use std::marker::Model;
 use template_jobs::Jobs;
 
-/// The events, and tables that were told each of them. Contracts see what each of these shows.
+/// The events, and tables that were told each of them: all that a book has but its keeper. Contracts
+/// see what each of these shows.
 #[derive(Drop)]
-pub(crate) struct Tables {
+pub struct Tables {
     pub history: History,
     pub sessions: Sessions,
     pub channels: Channels,

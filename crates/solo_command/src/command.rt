@@ -1,7 +1,7 @@
 //! The command, over whatever host: settings, keeper, input and output are opened in this order, and
 //! all that the host gave is handed back.
 
-ghost use Rattle.std.specs.Prelude.{◌≡◌, ◌<◌, ◌==◌, ◌-◌};
+ghost use Rattle.std.specs.Prelude.{◌≡◌, ◌<◌, ◌==◌, ◌-◌, None};
 ghost use Rattle.pool_io.specs.Outside.{CountsFailure};
 ghost use Rattle.pool_settings.specs.Reading.{AreInRange};
 ghost use Rattle.stream_commands.specs.Statuses.{status_code};
@@ -64,6 +64,7 @@ fn serve_session<H: Host>(alloc: Global, host: &mut H, settings: Settings, keepe
     requires ranges { AreInRange settings }
     requires out { 0 < (H.seen host.old).openings.keepers.lent }
     requires unused { IsUnused (H.K.seen keeper).records }
+    requires untold { (H.K.seen keeper).stored ≡ None }
     ensures row { SessionRow settings (H.K.seen keeper) (H.seen host.old) (H.seen host.new) result }
     ensures sources { (H.seen host.new).streams.sources.lent ≡ (H.seen host.old).streams.sources.lent }
     ensures sinks { (H.seen host.new).streams.sinks.lent ≡ (H.seen host.old).streams.sinks.lent }

@@ -1,10 +1,11 @@
 //! The session, from its keeper to its end.
 
-ghost use Rattle.std.specs.Prelude.{◌≡◌, ◌<◌, IsTrue, List, Some};
+ghost use Rattle.std.specs.Prelude.{◌≡◌, ◌<◌, [], IsTrue, List, Some};
 ghost use Rattle.pool_io.specs.declared.turn.Turn.{Turn};
 ghost use Rattle.pool_history.specs.Accounts.{are_in_range};
 ghost use Rattle.session_loop.specs.Good.{IsGoodEnd, IsGoodInput};
 ghost use Rattle.share_ledger.specs.Books.{IsUnused};
+ghost use Rattle.share_ledger.specs.Recovery.{IsRecoverable};
 ghost use Rattle.solo_session.specs.Solo.{BlamesNoInput, ServesFreshBook, ServesSession, manner_of, solo_manner};
 
 use crate::{SoleBook, sole_calls_go_on};
@@ -46,6 +47,7 @@ pub fn serve_solo<S: Source, T: Sink, K: Keeper>(
 ) -> Solo<S, T, K>
     requires rules { IsTrue (are_in_range rules) }
     requires unused { IsUnused (K.seen keeper).records }
+    requires recovers { IsRecoverable (K.seen keeper) (K.may_find keeper) [] }
     requires waits { 0 < limits.idle_turns }
     ensures served { ServesSession rules limits.idle_turns (record {
       source = S.seen source;

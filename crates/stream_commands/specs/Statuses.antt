@@ -19,6 +19,7 @@ status_code status.HostFault = 7
 status_code status.Memory = 8
 status_code status.BadSettings = 9
 status_code status.Limit = 10
+status_code status.WrongLedger = 11
 
 -- the status of a run over a source and a sink
 abbrev pub status_of_end : End → Status

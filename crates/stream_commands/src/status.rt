@@ -29,6 +29,8 @@ pub enum Status {
     BadSettings,
     /// No byte came for too long, or too many came.
     Limit,
+    /// The ledger that is there is none of this pool's.
+    WrongLedger,
 }
 
 impl Status {
@@ -47,6 +49,7 @@ impl Status {
             Status::Memory => 8,
             Status::BadSettings => 9,
             Status::Limit => 10,
+            Status::WrongLedger => 11,
         }
     }
 }

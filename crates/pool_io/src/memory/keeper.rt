@@ -66,9 +66,9 @@ impl SureKeeper {
 }
 
 impl Keeper for SureKeeper {
-    ghost use Rattle.std.specs.Prelude.{Some};
+    ghost use Rattle.std.specs.Prelude.{None, Some};
 
-    ghost seen = { λ k. record { faults = 0; records = Some k } };
+    ghost seen = { λ k. record { faults = 0; records = Some k; stored = None } };
 
     fn append(&mut self, bytes: &[u8]) -> Result<(), KeeperFailed> {
         let Ok(bytes) = Vec::from_slice(self.alloc, bytes) else {
@@ -90,12 +90,13 @@ pub struct MemKeeper {
 }
 
 impl MemKeeper {
-    ghost use Rattle.std.specs.Prelude.{[], Some};
+    ghost use Rattle.std.specs.Prelude.{[], None, Some};
     ghost use Rattle.pool_io.specs.Memory.{keeper_seen};
 
     /// A keeper that keeps no record yet.
     pub fn new(alloc: Global, failing: Vec<u64>) -> MemKeeper
-        ensures { keeper_seen result ≡ record { faults = 0; records = Some [] } }
+        ensures { keeper_seen result
+            ≡ record { faults = 0; records = Some []; stored = None } }
     {
         MemKeeper {
             keeper: SureKeeper::new(alloc),

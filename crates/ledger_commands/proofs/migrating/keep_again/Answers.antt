@@ -12,6 +12,7 @@ returns-in-Ok-kept-clause-row g c = inl (record {
     unused = c.in-Ok.ensures.empty;
     new_file = c.in-Ok.ensures.new;
     unfailed = c.in-Ok.ensures.fresh;
+    untold = c.in-Ok.ensures.untold;
   };
   streams = c.done_keeper.ensures.streams;
   openings = c.done_keeper.ensures.back;
@@ -32,6 +33,7 @@ returns-in-Err-kept-clause-row g c = inl (record {
     unused = c.in-Ok.ensures.empty;
     new_file = c.in-Ok.ensures.new;
     unfailed = c.in-Ok.ensures.fresh;
+    untold = c.in-Ok.ensures.untold;
   };
   streams = c.done_keeper.ensures.streams;
   openings = c.done_keeper.ensures.back;

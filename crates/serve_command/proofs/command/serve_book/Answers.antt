@@ -1,4 +1,5 @@
-use Rattle.std.proofs.Common.{inl, inr, refl}
+use Rattle.std.proofs.Common.{[], inl, inr, refl}
+use Rattle.share_ledger.proofs.Recovering.{untold-recovers}
 use Rattle.pool_history.specs.declared.refusals.BookError.TheVariants as fault
 use Rattle.serve_command.specs.Serving.{reached_seen}
 use Rattle.serve_command.proofs.command.serve_book.Goals as goal
@@ -36,3 +37,8 @@ returns-in_default-clause-row g c = inr (record {
   network = refl;
   answered = c.start_status.ensures;
 })
+
+-- a host's keeper doesn't tell what is there for good
+pub new-requires-clause-recovers : goal.new-requires-clause-recovers
+new-requires-clause-recovers g c =
+    untold-recovers [] (g.H.K.Keeper.seen c.args.keeper) (g.H.K.Keeper.may_find c.args.keeper) c.requires.untold

@@ -1,4 +1,5 @@
-use Rattle.std.proofs.Common.{◌+◌, ◌-◌, arith, inl, refl}
+use Rattle.std.proofs.Common.{[], ◌+◌, ◌-◌, arith, inl, refl}
+use Rattle.share_ledger.proofs.Recovering.{untold-recovers}
 use Rattle.solo_command.proofs.command.serve_session.Goals as goal
 
 pub returns-clause-row : goal.returns-clause-row
@@ -39,3 +40,7 @@ returns-clause-row g c =
         openings = rw (c.done_keeper-2.ensures.back, c.done_sink.ensures.openings, c.done_source-2.ensures.openings, c.in-Ok-output.ensures.called, c.in-Ok.ensures.called) refl;
       },
     )
+
+pub serve_solo-source-requires-clause-recovers : goal.serve_solo-source-requires-clause-recovers
+serve_solo-source-requires-clause-recovers g c =
+    untold-recovers [] (g.H.K.Keeper.seen c.args.keeper) (g.H.K.Keeper.may_find c.args.keeper) c.requires.untold
