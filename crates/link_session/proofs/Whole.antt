@@ -45,6 +45,8 @@ framed session speaks = record {
   took = session.runs.took;
   ended = session.runs.ended;
   put = session.runs.put;
+  reads = session.runs.reads;
+  writes = session.runs.writes;
   acts = session.runs.acts;
   same = session.runs.same;
 }
@@ -105,6 +107,8 @@ lines_served {worker = worker} {does = does} {terms = terms} {l = l} {m = m} {l'
         took = whole.took;
         ended = whole.ended;
         put = whole.put;
+        reads = whole.reads;
+        writes = whole.writes;
         acts = whole.acts;
         same = whole.same;
       };

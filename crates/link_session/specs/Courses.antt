@@ -48,6 +48,15 @@ abbrev pub bytes_on : Course → List ℕ
 bytes_on (Framed steps) = frames.bytes_in_steps steps
 bytes_on (Lined steps) = lines.bytes_of steps
 
+-- a count of reads that failed, and one of writes, behind the steps
+abbrev pub reads_on : ℕ → Course → ℕ
+reads_on count (Framed steps) = frames.reads_after count steps
+reads_on count (Lined steps) = lines.reads_after count steps
+
+abbrev pub writes_on : ℕ → Course → ℕ
+writes_on count (Framed steps) = frames.writes_after count steps
+writes_on count (Lined steps) = lines.writes_after count steps
+
 -- the end of the input is among the steps
 abbrev pub has_ended_on : Course → Bool
 has_ended_on (Framed steps) = frames_run.has_ended steps
@@ -81,6 +90,8 @@ pub record IsServed {A : Type 0} (worker : A → ℕ) (does : A → PoolCall →
   pub took : BringsSteps link.source.left link'.source.left (turns_on course)
   pub ended : TakesAll (has_ended_on course) link.source.left (turns_on course)
   pub put : AddsBytes link.sink.held link'.sink.held (bytes_on course)
+  pub reads : link'.source.faults ≡ reads_on link.source.faults course
+  pub writes : link'.sink.faults ≡ writes_on link.sink.faults course
   pub acts : Acts does acting (calls_on course) acting'
   pub same : worker acting' ≡ worker acting
 
