@@ -1,3 +1,5 @@
 pub mod Moments
 pub mod Calls
+pub mod Disks
 pub mod Memory
+pub mod MemoryDisks

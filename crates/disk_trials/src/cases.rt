@@ -5,27 +5,36 @@ use case_lines::bytes;
 use disk_io::{Failures, MemDisk};
 use std::alloc::Global;
 
-/// A disk of these bytes that fails: `3 5 part 1` at its calls 3 and 5, of which one byte is done, and
-/// `from 3 part 0` from then on. Without words it never does.
+/// A disk of these bytes that fails so.
 pub(crate) fn disk(alloc: Global, content: &str, failing: &str) -> Result<MemDisk> {
     let disk = MemDisk::new(alloc, bytes(alloc, content)?);
-    let mut listed = Vec::new(alloc);
-    let (from, part) = match failing.split_once("part") {
-        None => return Ok(disk),
-        Some((calls, part)) => {
-            let part = part.trim().parse()?;
-            match calls.trim().strip_prefix("from") {
-                Some(from) => (from.trim().parse()?, part),
-                None => {
-                    for call in calls.split_whitespace() {
-                        listed.push(call.parse()?)?;
-                    }
-                    (u64::MAX, part)
-                }
-            }
-        }
+    Ok(match failures(alloc, failing)? {
+        Some(failures) => disk.with_failures(failures),
+        None => disk,
+    })
+}
+
+/// Which calls fail: for `3 5 part 1` the calls 3 and 5, of which one byte is done, for `from 3 part 0`
+/// each from then on, and without words none.
+pub(crate) fn failures(alloc: Global, failing: &str) -> Result<Option<Failures>> {
+    let Some((calls, part)) = failing.split_once("part") else {
+        return Ok(None);
     };
-    Ok(disk.with_failures(Failures { listed, from, part }))
+    let part = part.trim().parse()?;
+    let (listed, from) = match calls.trim().strip_prefix("from") {
+        Some(from) => (Vec::new(alloc), from.trim().parse()?),
+        None => (numbers(alloc, calls)?, u64::MAX),
+    };
+    Ok(Some(Failures { listed, from, part }))
+}
+
+/// These numbers, one behind the other.
+pub(crate) fn numbers(alloc: Global, words: &str) -> Result<Vec<u64>> {
+    let mut numbers = Vec::new(alloc);
+    for word in words.split_whitespace() {
+        numbers.push(word.parse()?)?;
+    }
+    Ok(numbers)
 }
 
 /// The pick that takes one of these numbers for each call, round and round.

@@ -1,9 +1,10 @@
-//! Tries disks in memory, and ledgers on them, on cases from data files.
+//! Tries disks in memory, their openings by names, and ledgers on them, on cases from data files.
 #![tactic(auto)]
 
 mod cases;
 mod disks;
 mod ledgers;
+mod names;
 
 use anyhow::{Result, bail};
 use case_lines::{Trial, try_files};
@@ -16,6 +17,7 @@ impl Trial for DiskTrial {
         match subject {
             "disks" => disks::found(alloc, given),
             "ledgers" => ledgers::appended(alloc, given),
+            "names" => names::found(alloc, given),
             "openings" => ledgers::opened(alloc, given),
             _ => bail!("no subject is named {subject}"),
         }
@@ -23,5 +25,5 @@ impl Trial for DiskTrial {
 }
 
 fn main(rt: HostRuntime) -> Result<()> {
-    try_files::<DiskTrial, HostRuntime>(&rt, &["disks", "ledgers", "openings"])
+    try_files::<DiskTrial, HostRuntime>(&rt, &["disks", "names", "ledgers", "openings"])
 }

@@ -2,6 +2,7 @@
 -- memory does.
 use Rattle.std.specs.Prelude.{ℕ, List, [], take, Option, None}
 use Rattle.std.specs.Io.KnownBytes.{Consumes, Keeps, IsAtEnd}
+use Rattle.disk_io.specs.Calls.{DiskSeen}
 use Rattle.pool_io.specs.Seen.{KeeperSeen, SinkSeen, SourceSeen}
 use Rattle.pool_io.specs.declared.source.Took.{Took}
 use Rattle.pool_io.specs.declared.source.Took.TheVariants.{Bytes, End, Idle, Failed}
@@ -23,3 +24,6 @@ untold_sink faults = record { faults = faults; held = None }
 
 abbrev pub untold_keeper : ℕ → KeeperSeen
 untold_keeper faults = record { faults = faults; records = None; stored = None }
+
+abbrev pub untold_disk : ℕ → DiskSeen
+untold_disk faults = record { faults = faults; log = None }

@@ -8,6 +8,7 @@ ghost use Rattle.std.specs.Vec.Iter.{into_iter_items};
 mod edge;
 #[cfg(test)]
 mod edge_tests;
+mod file_disk;
 mod file_keeper;
 #[cfg(test)]
 mod program_tests;
