@@ -1,0 +1,4 @@
+pub mod Replying
+pub mod Calling
+pub mod Answering
+pub mod Serving
