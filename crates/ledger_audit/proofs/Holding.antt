@@ -40,7 +40,7 @@ fed_one (Some records) held piece count most less within =
     fed_unit records.format held (take count piece) most (omega (arith, less, length-take-le count piece within))
 
 -- some bytes more are held
-fed_bytes : (records : Option Records) (held part bytes : List ℕ) → HasReadBytes records held bytes → HasReadBytes records (held ++ part) (bytes ++ part)
+pub fed_bytes : (records : Option Records) (held part bytes : List ℕ) → HasReadBytes records held bytes → HasReadBytes records (held ++ part) (bytes ++ part)
 fed_bytes None held part bytes read = ap (λ h. h ++ part) read
 fed_bytes (Some records) held part bytes read = record {
   history = read.history;

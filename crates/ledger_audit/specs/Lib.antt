@@ -1,5 +1,6 @@
 pub mod Auditing
 pub mod Duty
+pub mod Judging
 pub mod Lacking
 pub mod Lines
 pub mod OneVerdict

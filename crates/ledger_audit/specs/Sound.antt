@@ -51,7 +51,7 @@ split-eight (_ ∷ _ ∷ _ ∷ _ ∷ _ ∷ _ ∷ []) more rest a b c d e f g h l
 split-eight (_ ∷ _ ∷ _ ∷ _ ∷ _ ∷ _ ∷ _ ∷ []) more rest a b c d e f g h long same = absurd (omega (arith, long))
 split-eight (p ∷ q ∷ r ∷ s ∷ t ∷ u ∷ v ∷ w ∷ bytes) more rest a b c d e f g h long same = (bytes, cc)
 
-no_magic-more : (bytes more : List ℕ) → 8 ≤ length bytes → HasNoMagic bytes → HasNoMagic (bytes ++ more)
+pub no_magic-more : (bytes more : List ℕ) → 8 ≤ length bytes → HasNoMagic bytes → HasNoMagic (bytes ++ more)
 no_magic-more bytes more eight none = record {
   plain = λ rest same. (let p = split-eight bytes more rest 83 86 50 76 69 68 71 49 eight same in none.plain p.0 p.1);
   chained = λ rest same. (let p = split-eight bytes more rest 83 86 50 76 69 68 71 50 eight same in none.chained p.0 p.1);
@@ -75,7 +75,7 @@ begins-more format before bytes behind more begins = record {
 }
 
 -- a defect is one of the longer bytes
-stopped-more : (bytes more : List ℕ) (v : Verdict) → HasDefect bytes v → Stopped (bytes ++ more) v
+pub stopped-more : (bytes more : List ℕ) (v : Verdict) → HasDefect bytes v → Stopped (bytes ++ more) v
 stopped-more bytes more v defect = record {
   format = defect.format;
   before = defect.before;

@@ -107,6 +107,59 @@ impl Auditor {
     }
 }
 
+impl Auditor {
+    ghost use Rattle.ledger_audit.specs.Auditing.{HasReadBytes, IsBetweenRecords, lacking_of};
+    ghost use Rattle.ledger_audit.specs.Judging.{GoesOnOrHasVerdict};
+    ghost use Rattle.ledger_audit.specs.Verdicts.{IsVerdictOf};
+
+    /// Nothing was read yet.
+    pub(crate) fn begin(alloc: Global) -> Auditor
+        ensures between { IsBetweenRecords result }
+        ensures none { HasReadBytes result.records result.held.items [] }
+    {
+        Auditor {
+            alloc,
+            held: Vec::new(alloc),
+            records: None,
+        }
+    }
+
+    /// Reads a piece, or says what verdict the bytes have, whatever follows them.
+    pub(crate) fn hear(&mut self, piece: &[u8]) -> Result<(), Halt>
+        requires { IsBetweenRecords self.old }
+        ensures between { OnOk result (IsBetweenRecords self.new) }
+        ensures goes { (bytes : List ℕ) → HasReadBytes self.old.records self.old.held.items bytes
+            → GoesOnOrHasVerdict self.new (bytes ++ piece.now) result }
+    {
+        if piece.len() as u64 > MOST_BYTES - self.taken() {
+            return Err(Halt::Memory);
+        }
+        let mut rest = piece;
+        while !rest.is_empty() {
+            let count = match self.feed(rest) {
+                Ok(count) => count,
+                Err(_) => return Err(Halt::Memory),
+            };
+            rest = &rest[count..];
+            self.advance()?;
+        }
+        Ok(())
+    }
+
+    /// What the bytes are, as they end here.
+    pub(crate) fn verdict(&self) -> Verdict
+        requires { 0 < lacking_of self.now.records self.now.held.items }
+        ensures { (bytes : List ℕ) → HasReadBytes self.now.records self.now.held.items bytes
+            → IsVerdictOf bytes result }
+    {
+        match &self.records {
+            Some(_) if self.held.is_empty() => Verdict::Legal,
+            Some(records) => Verdict::NotALedger(records.place),
+            None => Verdict::NotALedger(0),
+        }
+    }
+}
+
 ghost use Rattle.ledger_audit.specs.Units as units;
 
 /// How many bytes are lacking of a record and its hash.
