@@ -1,5 +1,5 @@
 -- The front of a header, hashed (this project's own).
-use Rattle.std.specs.Prelude.{ℕ, List, ◌++◌}
+use Rattle.std.specs.Prelude.{ℕ, ◌++◌}
 use Rattle.std.specs.Int.{w32, to_le_bytes}
 use Rattle.sha2.specs.declared.Sha256.{Sha256}
 use Rattle.sha2.specs.Hashers.{Holds256}

@@ -1,11 +1,13 @@
 //! Which share of the job is credited, and which is refused.
 ghost use Rattle.std.specs.Prelude.{◌≡◌, ◌≤◌, ℕ, List, [], ◌∷◌, ◌++◌, length, IfOk, OnOk, IsSome, None};
 ghost use Rattle.std.specs.List.{list_any};
+ghost use Rattle.block_header.specs.Layout.{header_bytes};
 ghost use Rattle.fixed_command.specs.Rolling.{rolled_of, is_same};
 
 use crate::front::Front;
 use crate::submission::{Rolled, rolled_of};
-use block_header::meets_class;
+use block_header::{Header, meets_class};
+use foreseen_headers::Foreseen;
 use mining_msgs::SubmitSharesStandard;
 use std::alloc::{AllocError, Global};
 
@@ -18,6 +20,24 @@ pub struct Job {
     pub root: [u8; 32],
     /// The compact target.
     pub nbits: u32,
+}
+
+impl Job {
+    /// The header that a share makes of the job.
+    pub fn header(&self, rolled: &Rolled) -> [u8; 80]
+        ensures { result ≡ header_bytes rolled.now.version self.now.prev_hash self.now.root
+            rolled.now.ntime self.now.nbits rolled.now.nonce }
+    {
+        Header {
+            version: rolled.version,
+            prev_hash: self.prev_hash,
+            root: self.root,
+            ntime: rolled.ntime,
+            nbits: self.nbits,
+            nonce: rolled.nonce,
+        }
+        .bytes()
+    }
 }
 
 /// Why a share isn't credited, by the first condition that fails.
@@ -63,7 +83,7 @@ pub struct Judge {
 }
 
 impl Judge {
-    ghost use Rattle.fixed_command.specs.Answers.{first_refusal};
+    ghost use Rattle.fixed_command.specs.Answers.{first_refusal, hash_of};
     ghost use Rattle.fixed_command.specs.Judging.{RemembersCredits};
 
     pub fn new(alloc: Global, class: u8, job: &Job) -> Judge
@@ -94,17 +114,43 @@ impl Judge {
         }
     }
 
-    fn first_refusal(&self, share: &SubmitSharesStandard) -> Option<Refusal>
-        requires { self.now.front.version ≡ share.now.version }
-        ensures { (earlier : List _) → RemembersCredits self.now earlier
-            → result ≡ first_refusal self.now.class self.now.job earlier share.now }
+    /// The hash of the header with what a share rolls.
+    fn hash(&mut self, rolled: &Rolled, foreseen: &Foreseen) -> [u8; 32]
+        ensures hash { result ≡ hash_of self.old.job rolled.now }
+        ensures class { self.new.class ≡ self.old.class }
+        ensures job { self.new.job ≡ self.old.job }
+        ensures credited { self.new.credited ≡ self.old.credited }
+        ensures remembers { (earlier : List _) → RemembersCredits self.old earlier
+            → RemembersCredits self.new earlier }
+    {
+        match foreseen.find(&self.job.header(rolled)) {
+            Some(hash) => hash,
+            None => {
+                self.turn_to(rolled.version);
+                self.front.hash(rolled.ntime, rolled.nonce)
+            }
+        }
+    }
+
+    fn first_refusal(
+        &mut self,
+        share: &SubmitSharesStandard,
+        foreseen: &Foreseen,
+    ) -> Option<Refusal>
+        ensures verdict { (earlier : List _) → RemembersCredits self.old earlier
+            → result ≡ first_refusal self.old.class self.old.job earlier share.now }
+        ensures class { self.new.class ≡ self.old.class }
+        ensures job { self.new.job ≡ self.old.job }
+        ensures credited { self.new.credited ≡ self.old.credited }
+        ensures remembers { (earlier : List _) → RemembersCredits self.old earlier
+            → RemembersCredits self.new earlier }
     {
         let rolled = rolled_of(share);
         if share.channel_id != 1 {
             Some(Refusal::InvalidChannelId)
         } else if share.job_id != 1 {
             Some(Refusal::InvalidJobId)
-        } else if !meets_class(&self.front.hash(rolled.ntime, rolled.nonce), self.class) {
+        } else if !meets_class(&self.hash(&rolled, foreseen), self.class) {
             Some(Refusal::DifficultyTooLow)
         } else if is_among(&self.credited, &rolled) {
             Some(Refusal::DuplicateShare)
@@ -114,7 +160,11 @@ impl Judge {
     }
 
     /// The first condition that fails; where none does, the share is credited.
-    pub fn judge(&mut self, share: &SubmitSharesStandard) -> Result<Option<Refusal>, AllocError>
+    pub fn judge(
+        &mut self,
+        share: &SubmitSharesStandard,
+        foreseen: &Foreseen,
+    ) -> Result<Option<Refusal>, AllocError>
         ensures verdict { (earlier : List _) → RemembersCredits self.old earlier
             → IfOk result (λ refusal. refusal ≡ first_refusal self.old.class self.old.job earlier
             share.now) }
@@ -128,8 +178,7 @@ impl Judge {
         ensures class { self.new.class ≡ self.old.class }
         ensures job { self.new.job ≡ self.old.job }
     {
-        self.turn_to(share.version);
-        let refusal = self.first_refusal(share);
+        let refusal = self.first_refusal(share, foreseen);
         if refusal.is_none() {
             self.credited.push(rolled_of(share))?;
         }

@@ -4,7 +4,8 @@ ghost use Rattle.std.specs.Prelude.{◌≡◌, ◌++◌, ℕ, List, OnOk, IsErrO
 
 use crate::answer::put_answer;
 use crate::judge::{Job, Judge};
-use crate::submission::{PAYLOAD_LEN, holds_other, read_share};
+use crate::submission::{FRAME_LEN, PAYLOAD_LEN, holds_other, read_share, rolled_at};
+use foreseen_headers::Foreseen;
 use std::alloc::{AllocError, Global};
 use stream_commands::{Stop, StreamCommand};
 use sv2_frames::{Splitter, TooLong};
@@ -21,6 +22,8 @@ pub struct FixedTask {
 pub struct FixedJob {
     pub judge: Judge,
     pub splitter: Splitter,
+    /// The headers of shares that come next.
+    pub foreseen: Foreseen,
 }
 
 impl FixedJob {
@@ -28,6 +31,33 @@ impl FixedJob {
     ghost use Rattle.fixed_command.specs.Duty.{AnswersShares};
     ghost use Rattle.fixed_command.specs.Judging.{HasAnsweredShares, HoldsRest};
     ghost use Rattle.fixed_command.specs.Submitting.{IsOtherHeader};
+
+    /// Hashes the headers of the shares that these bytes begin with, where there are at least two
+    /// and none is foreseen any more. It says how many are foreseen behind the first. Bytes that are
+    /// no shares are hashed for nothing.
+    fn look_ahead(&mut self, rest: &[u8], left: usize) -> usize
+        ensures judge { self.new.judge ≡ self.old.judge }
+        ensures splitter { self.new.splitter ≡ self.old.splitter }
+    {
+        if left > 0 {
+            return left - 1;
+        }
+        let count = (rest.len() / FRAME_LEN).min(4);
+        if count < 2 || self.splitter.held() > 0 {
+            return 0;
+        }
+        // The last one fills the lanes that are left.
+        let last = FRAME_LEN * (count - 1);
+        let job = &self.judge.job;
+        let headers = [
+            job.header(&rolled_at(rest, 0)),
+            job.header(&rolled_at(rest, FRAME_LEN)),
+            job.header(&rolled_at(rest, last.min(2 * FRAME_LEN))),
+            job.header(&rolled_at(rest, last.min(3 * FRAME_LEN))),
+        ];
+        self.foreseen.foresee(&headers);
+        count - 1
+    }
 
     /// Judges the frame that is held, where it is whole, and appends its answer.
     fn frame(&mut self, text: &mut Vec<u8>) -> Result<(), Stop>
@@ -52,7 +82,7 @@ impl FixedJob {
             // it too.
             Err(TooLong(_)) => return Err(Stop::Refused),
         };
-        let refusal = self.judge.judge(&share)?;
+        let refusal = self.judge.judge(&share, &self.foreseen)?;
         put_answer(text, self.judge.class, share, refusal)?;
         self.splitter.drop_frame();
         Ok(())
@@ -83,12 +113,15 @@ impl StreamCommand for FixedJob {
         Ok(FixedJob {
             judge: Judge::new(alloc, task.class, &task.job),
             splitter,
+            foreseen: Foreseen::of(&[[0; 80]; 4]),
         })
     }
 
     fn read(&mut self, piece: &[u8], text: &mut Vec<u8>) -> Result<(), Stop> {
         let mut rest = piece;
+        let mut left = 0;
         while !rest.is_empty() {
+            left = self.look_ahead(rest, left);
             let count = self.splitter.feed(rest);
             rest = &rest[count..];
             self.frame(text)?;

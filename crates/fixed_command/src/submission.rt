@@ -1,6 +1,6 @@
 //! The frames that bring shares (Stratum V2, "SubmitSharesStandard").
 
-ghost use Rattle.std.specs.Prelude.{◌≡◌, ◌↔◌, ◌<◌, ◌^◌, length, IsTrue, IsSomeAnd, MatchBool};
+ghost use Rattle.std.specs.Prelude.{◌≡◌, ◌↔◌, ◌<◌, ◌≤◌, ◌^◌, length, IsTrue, IsSomeAnd, MatchBool};
 ghost use Rattle.sv2_frames.specs.Framing.{header_of};
 ghost use Rattle.fixed_command.specs.Rolling.{rolled_of};
 ghost use Rattle.fixed_command.specs.Submitting.{IsShareHeader, IsOtherHeader, BeginsShare, share_payload};
@@ -14,6 +14,9 @@ const CHANNEL_BIT: u16 = 0x8000;
 
 /// The bytes of its payload.
 pub const PAYLOAD_LEN: u32 = 24;
+
+/// The bytes of its frame.
+pub const FRAME_LEN: usize = 30;
 
 /// What a header has of the share.
 #[derive(Clone, Copy, Debug, PartialEq, Eq)]
@@ -32,6 +35,27 @@ pub fn rolled_of(share: &SubmitSharesStandard) -> Rolled
         ntime: share.ntime,
         nonce: share.nonce,
     }
+}
+
+/// What the share rolls whose frame is at this place, or nothing where it isn't whole.
+pub fn rolled_at(bytes: &[u8], at: usize) -> Rolled
+    requires { at ≤ 90 }
+{
+    Rolled {
+        version: number_at(bytes, at + 26),
+        ntime: number_at(bytes, at + 22),
+        nonce: number_at(bytes, at + 18),
+    }
+}
+
+// The number of four bytes at this place, the lowest first, or 0 where they aren't there.
+fn number_at(bytes: &[u8], at: usize) -> u32
+    requires { at ≤ 116 }
+{
+    if at + 4 > bytes.len() {
+        return 0;
+    }
+    u32::from_le_bytes([bytes[at], bytes[at + 1], bytes[at + 2], bytes[at + 3]])
 }
 
 /// Whether a frame with this header brings a share.

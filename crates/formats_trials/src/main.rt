@@ -7,6 +7,7 @@ mod fields;
 mod files;
 mod headers;
 mod hosts;
+mod lanes;
 mod messages;
 mod settings;
 mod splitting;
@@ -18,11 +19,12 @@ use case_lines::{Trial, try_files};
 use std::alloc::Global;
 
 /// What is tried.
-const SUBJECTS: [&str; 11] = [
+const SUBJECTS: [&str; 12] = [
     "comparing",
     "sv2_types",
     "sv2_frames",
     "messages",
+    "lanes",
     "block_header",
     "transactions",
     "assemblies",
@@ -41,6 +43,7 @@ impl Trial for Formats {
             "sv2_types" => fields::found(alloc, given),
             "sv2_frames" => splitting::found(alloc, given),
             "messages" => messages::found(alloc, given),
+            "lanes" => lanes::found(alloc, given),
             "block_header" => headers::found(alloc, given),
             "transactions" => transactions::found(alloc, given),
             "assemblies" => assemblies::found(alloc, given),

@@ -1,0 +1,5 @@
+mod Fixed
+mod LaneFacts
+mod Majority
+pub mod Whole
+mod Words

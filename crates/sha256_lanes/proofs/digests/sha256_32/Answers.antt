@@ -1,0 +1,7 @@
+use Rattle.std.proofs.Common.{◌∙◌}
+use Rattle.sha256_lanes.proofs.Whole.{digests_are}
+use Rattle.sha256_lanes.proofs.digests.sha256_32.Goals as goal
+
+pub returns : goal.returns
+returns c = c.digests_of.ensures
+    ∙ digests_are (λ m. m) c.hash_32.result c.args.messages.now c.told-messages c.hash_32.ensures

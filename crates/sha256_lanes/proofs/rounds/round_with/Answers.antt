@@ -1,0 +1,23 @@
+use Rattle.std.proofs.Common.{◌∙◌, ap, sym, refl}
+use Rattle.sha2.specs.Sha256.{add32}
+use Rattle.sha256_lanes.proofs.LaneFacts.{lane_at}
+use Rattle.sha256_lanes.proofs.Fixed.{add32_assoc}
+use Rattle.sha256_lanes.proofs.rounds.round_with.Goals as goal
+
+pub returns : goal.returns
+returns c = λ l lt k w e.
+    let v = c.args.v in
+    rw (
+      lane_at l v 0,
+      lane_at l v 1,
+      lane_at l v 2,
+      lane_at l v 3,
+      lane_at l v 4,
+      lane_at l v 5,
+      lane_at l v 6,
+      lane_at l v 7,
+      c.add.ensures l lt,
+      c.add-2.ensures l lt,
+      c.temp1_with-t1.ensures l lt ∙ ap (add32 _) e ∙ sym (add32_assoc _ k w),
+      c.temp2-t2.ensures l lt,
+    ) refl
