@@ -1,0 +1,5 @@
+pub mod Fitting
+pub mod Lists
+pub mod Entries
+pub mod Parts
+pub mod Reading

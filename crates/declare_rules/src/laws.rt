@@ -1,0 +1,20 @@
+//! What follows from the definitions alone.
+
+ghost use Rattle.declare_rules.specs.Laws.{AllAskedPathsAreOfTransactions, GivenWereGranted, ListsWaitForMissing};
+
+/// Each path that a Grant is asked for is that of the ids of the transactions which its declaration
+/// lists by their witness ids, in their order, each of which was read.
+pub fn asked_paths_are_of_transactions()
+    ensures { AllAskedPathsAreOfTransactions }
+{}
+
+/// A declaration waits exactly where a place of its list is missing.
+pub fn lists_wait_for_missing()
+    ensures { ListsWaitForMissing }
+{}
+
+/// Each token that was given was granted when the session had asked for one for its user: a token
+/// that answers a declaration is none of these.
+pub fn given_tokens_were_granted()
+    ensures { GivenWereGranted }
+{}
