@@ -7,7 +7,7 @@ use v1_lines::answer_id;
 
 /// The id that a request is answered by: a whole number, a text or null.
 #[derive(Drop)]
-pub(crate) struct LineId {
+pub struct LineId {
     value: Value,
 }
 

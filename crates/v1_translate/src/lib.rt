@@ -15,6 +15,8 @@ mod terms;
 mod waiting;
 
 pub use asking::V1Ask;
+pub use ids::LineId;
+pub use sayings::{say_answer, say_code};
 pub use session::V1Session;
 pub use shares::CheckedShare;
 pub use step::V1Step;

@@ -19,7 +19,7 @@ use v1_lines::{
 
 /// Appends the answer to a request.
 #[tactic(auto, unfolding(crate::specs::Saying::line_of))]
-pub(crate) fn say_answer(
+pub fn say_answer(
     alloc: Global,
     id: LineId,
     answer: Value,
@@ -65,12 +65,7 @@ pub(crate) fn refuse(
 
 /// Appends the error that a code of Stratum V2 becomes.
 #[tactic(auto, unfolding(crate::specs::Saying::line_of))]
-pub(crate) fn say_code(
-    alloc: Global,
-    id: LineId,
-    code: &str,
-    out: &mut Vec<u8>,
-) -> Result<(), AllocError>
+pub fn say_code(alloc: Global, id: LineId, code: &str, out: &mut Vec<u8>) -> Result<(), AllocError>
     ensures { IfOk result (λ done. out.new.items
         ≡ out.old.items ++ line_of (state.CodeRefusal id code.now)) }
 {

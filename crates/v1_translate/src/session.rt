@@ -57,7 +57,7 @@ impl Model for V1Session {
 }
 
 impl V1Session {
-    ghost use Rattle.std.specs.Prelude.{◌≡◌, ◌++◌, IfOk, Ok, Some};
+    ghost use Rattle.std.specs.Prelude.{◌≡◌, ◌++◌, IfOk, Ok, Some, option_map};
     ghost use Rattle.serde_json.specs.Find.{get_item};
     ghost use Rattle.serde_json.specs.View.{items_view, view};
     ghost use Rattle.v1_lines.specs.Requests as requests;
@@ -95,6 +95,23 @@ impl V1Session {
         ensures { result ≡ self.now.channel }
     {
         self.channel
+    }
+
+    /// The account, once one was taken.
+    pub fn account(&self) -> Option<&Str255>
+        ensures { option_map (λ account. account.now) result ≡ self.now.account }
+    {
+        self.account.as_ref()
+    }
+
+    /// Takes the last submission with a sequence number from those that wait, and gives the id of
+    /// its line, which is then the caller's to answer.
+    pub fn take_share(&mut self, sequence: u32) -> Option<LineId>
+        ensures id { result ≡ messages.answered sequence self.old.waiting }
+        ensures rest { self.new
+            ≡ record self.old { waiting = messages.still_waiting sequence self.old.waiting } }
+    {
+        take_waiting(&mut self.waiting, sequence)
     }
 
     /// Hears a line of the miner, without its end. Appends what is said to `out`, and to `up` the

@@ -1,0 +1,8 @@
+pub mod Callers
+pub mod Heard
+pub mod Held
+pub mod Leads
+pub mod Messages
+pub mod Openings
+pub mod Runs
+pub mod Verdicts

@@ -1,0 +1,9 @@
+pub mod Answering
+pub mod Frames
+pub mod Jobs
+pub mod Laws
+pub mod Miners
+pub mod Outputs
+pub mod Refusals
+pub mod State
+pub mod Steps

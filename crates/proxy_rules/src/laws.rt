@@ -1,0 +1,55 @@
+//! What holds of every proxy, whatever it was brought.
+
+ghost use Rattle.proxy_rules.specs.Laws.{
+  AnswersAreOfSubmissions,
+  AnswersGoToTheirMiner,
+  ExtranoncesHaveOneLead,
+  LeadsDiffer,
+  SharesHaveTheIdsOfLines,
+  SpacesAreApart,
+  SubmissionsAreAnsweredOnce,
+  SubmissionsAreOfLines,
+};
+
+/// The leads of two miners that are joined differ, and each seat is of the upstream's channel.
+pub fn leads_differ()
+    ensures { LeadsDiffer }
+{}
+
+/// An extranonce behind the upstream's prefix begins with one lead at most.
+pub fn extranonces_have_one_lead()
+    ensures { ExtranoncesHaveOneLead }
+{}
+
+/// No extranonce is in the space of two miners that are joined, and each is in the upstream's.
+pub fn spaces_are_apart()
+    ensures { SpacesAreApart }
+{}
+
+/// What goes upstream is the setup, one opening at most, and submissions: each is that of one line,
+/// and has the next sequence number.
+pub fn submissions_are_of_lines()
+    ensures { SubmissionsAreOfLines }
+{}
+
+/// A share that a line asks for has the id of that line, by which it is answered.
+pub fn shares_have_the_ids_of_lines()
+    ensures { SharesHaveTheIdsOfLines }
+{}
+
+/// Each submission that went upstream was answered once, or its miner left before, or it waits.
+pub fn submissions_are_answered_once()
+    ensures { SubmissionsAreAnsweredOnce }
+{}
+
+/// What is answered, dropped or waits are the submissions of lines, each once, with its caller and
+/// the id of its line.
+pub fn answers_are_of_submissions()
+    ensures { AnswersAreOfSubmissions }
+{}
+
+/// A message that answers submissions, and the end of the upstream, say to each miner the answers to
+/// its own, and nothing else.
+pub fn answers_go_to_their_miner()
+    ensures { AnswersGoToTheirMiner }
+{}
