@@ -4,7 +4,9 @@
     read-ledger.py LEDGER
 
 It needs Python 3 alone, and nothing of this pool's program: what it knows of a ledger is what
-docs/POOL.md says under "The ledger". Both formats are read. Hashes and other bytes are printed in
+docs/POOL.md says under "The ledger" and "A durable ledger". Both formats are read, and durable
+ledgers, of which it changes nothing: of one that a pool has open, or that a crash left, it shows the
+events that would be found. Hashes and other bytes are printed in
 hexadecimal as they stand in the ledger, versions and nbits as numbers of eight hex digits.
 
 It says where the bytes are no ledger, and in format 2 where a hash isn't that of what stands before
@@ -14,10 +16,13 @@ Status 0: all of it was read. 1: the file couldn't be read. 2: the words are wro
 no ledger, or a hash is wrong.
 """
 import hashlib
+import io
 import json
 import sys
 
 MAGICS = {b"SV2LEDG1": 1, b"SV2LEDG2": 2}
+DURABLE_MAGIC = b"SV2DISK1"
+ENTRY_LIMIT = 300_100
 BODY_LIMIT = 300_000
 HASH_LENGTH = 32
 
@@ -244,6 +249,29 @@ def events_of(ledger):
         count += 1
 
 
+def entries_in(content):
+    """The entries of a durable ledger, up to the first place where none is."""
+    at = len(DURABLE_MAGIC)
+    while content[at:at + 1] == b"\1":
+        length = int.from_bytes(content[at + 1:at + 5], "little")
+        end = at + 5 + length
+        if length > ENTRY_LIMIT or len(content) <= end:
+            return
+        yield content[at + 5:end]
+        at = end
+
+
+def opened(name):
+    """The bytes of a ledger's file; of a durable one those of its entries, and of none the magic alone,
+    which is the ledger of the history without events."""
+    ledger = open(name, "rb")
+    if ledger.peek(8)[:8] != DURABLE_MAGIC:
+        return ledger
+    with ledger:
+        row = b"".join(entries_in(ledger.read()))
+    return io.BufferedReader(io.BytesIO(row or b"SV2LEDG2"))
+
+
 def print_events(ledger):
     """Prints all events up to the first defect, which is raised. Answers how many there are."""
     events = events_of(ledger)
@@ -262,7 +290,7 @@ def main():
         print("usage: read-ledger.py LEDGER", file=sys.stderr)
         return 2
     try:
-        with open(sys.argv[1], "rb") as ledger:
+        with opened(sys.argv[1]) as ledger:
             count, chained = print_events(ledger)
     except Defect as defect:
         print(defect)

@@ -6,7 +6,7 @@
 The page stands by itself: it asks no network and no library, and its own script computes the chain of
 hashes again from the records that it shows. It needs Python 3 alone, and nothing of this pool's
 program: what it knows of a ledger, of blocks and of rewards is what docs/POOL.md says. Both formats
-are read.
+are read, and durable ledgers.
 
 It doesn't judge whether an event was legal; `audit LEDGER` does. Nothing of it is proved.
 
@@ -586,7 +586,7 @@ def main():
         print("usage: report.py LEDGER", file=sys.stderr)
         return 2
     try:
-        with open(sys.argv[1], "rb") as ledger:
+        with ledgers.opened(sys.argv[1]) as ledger:
             history = history_of(ledger)
             ledger.seek(0)
             content = ledger.read()

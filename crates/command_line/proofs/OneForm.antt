@@ -1,14 +1,16 @@
 -- Words have one class and one job.
-use Rattle.std.proofs.Common.{◌≡◌, ℕ, List, [], ◌++◌, take, drop, get_or, refl, sym, ap, ◌∙◌, inl, inr, arith}
+use Rattle.std.proofs.Common.{◌≡◌, ℕ, List, [], ◌++◌, take, drop, get_or, codes, refl, sym, ap, ◌∙◌, inl, inr, arith}
 use Rattle.std.specs.Int.{w32, to_le_bytes, from_le_bytes}
 use Rattle.std.proofs.lemmas.List.{take_at, drop_at}
 use Rattle.std.proofs.lemmas.Nat.{from_le_bytes-to_le_bytes_4}
 use Rattle.fixed_command.specs.declared.judge.Job.{Job}
 use Rattle.command_line.specs.Numbers.{IsNumber}
 use Rattle.command_line.specs.declared.words.Form.{Form}
-use Rattle.command_line.specs.declared.words.Form.TheVariants.{SoloFixed, Frames, Solo, Serve, Audit, Migrate, Load, Mine, Feed}
-use Rattle.command_line.specs.Forms.{AskAtAddress, IsForm, IsJob, IsSoloFixed}
-use Rattle.command_line.specs.Running.{IsAlone, IsWithinLimits}
+use Rattle.command_line.specs.declared.words.Form.TheVariants.{SoloFixed, Frames, Solo, Serve, Audit, Migrate, Load, Mine, Feed, Durable}
+use Rattle.command_line.specs.declared.words.OnDisk.{OnDisk}
+use Rattle.command_line.specs.declared.words.OnDisk.TheVariants as disk
+use Rattle.command_line.specs.Forms.{AskAtAddress, AskForDisk, IsDurable, IsForm, IsJob, IsSoloFixed}
+use Rattle.command_line.specs.Running.{IsAlone, IsOffDisk, IsWithinLimits}
 
 one_number : (text other : List ℕ) (m n : ℕ) → text ≡ other → IsNumber text m → IsNumber other n → m ≡ n
 one_number text other m n same a b = sym a.value ∙ ap (λ t. Rattle.std.specs.Str.Parse.digits_value 10 t) same ∙ b.value
@@ -39,9 +41,30 @@ module _ (words : List (List ℕ)) (class other : ℕ) (job work : Job) (a : IsS
       let bytes : a.bytes ≡ b.bytes = cc in
       one_job a.bytes b.bytes job work bytes a.is_job b.is_job
 
--- a letter of the first word
+-- a letter of the first word, and the second letter of the second one
 abbrev letter : ℕ → List (List ℕ) → ℕ
 letter place words = get_or (get_or words 0 []) place 0
+
+abbrev second : List (List ℕ) → ℕ
+second words = get_or (get_or words 1 []) 1 0
+
+-- the words of a command over a disk begin with that it is durable
+durably : (words : List (List ℕ)) (command : OnDisk) → IsDurable words command → get_or words 0 [] ≡ codes "durable"
+durably words disk.Solo is = ap (λ (ws : List (List ℕ)). get_or ws 0 []) is.spelled
+durably words disk.Serve is = ap (λ (ws : List (List ℕ)). get_or ws 0 []) is.spelled
+durably words disk.Audit is = ap (λ (ws : List (List ℕ)). get_or ws 0 []) is.spelled
+
+-- and are of one command
+one_command : (words : List (List ℕ)) (command other : OnDisk) → IsDurable words command → IsDurable words other → command ≡ other
+one_command words disk.Solo disk.Solo is also = refl
+one_command words disk.Serve disk.Serve is also = refl
+one_command words disk.Audit disk.Audit is also = refl
+one_command words disk.Solo disk.Serve is also = absurd (let other : 111 ≡ 101 = ap second (sym is.spelled ∙ also.spelled) in omega (arith, other))
+one_command words disk.Serve disk.Solo is also = absurd (let other : 101 ≡ 111 = ap second (sym is.spelled ∙ also.spelled) in omega (arith, other))
+one_command words disk.Solo disk.Audit is also = absurd (let other : 111 ≡ 117 = ap second (sym is.spelled ∙ also.spelled) in omega (arith, other))
+one_command words disk.Audit disk.Solo is also = absurd (let other : 117 ≡ 111 = ap second (sym is.spelled ∙ also.spelled) in omega (arith, other))
+one_command words disk.Serve disk.Audit is also = absurd (let other : 101 ≡ 117 = ap second (sym is.spelled ∙ also.spelled) in omega (arith, other))
+one_command words disk.Audit disk.Serve is also = absurd (let other : 117 ≡ 101 = ap second (sym is.spelled ∙ also.spelled) in omega (arith, other))
 
 -- the words are of one form
 pub one_form : (words : List (List ℕ)) (form other : Form) → IsForm words form → IsForm words other → form ≡ other
@@ -131,6 +154,25 @@ one_form words (Mine class count) (Mine other most) is also =
 one_form words (Mine class count) Feed is also = absurd (let other : 109 ≡ 102 = ap (letter 0) (sym is.spelled ∙ also.spelled) in omega (arith, other))
 one_form words Feed (Mine class count) is also = absurd (let other : 102 ≡ 109 = ap (letter 0) (sym is.spelled ∙ also.spelled) in omega (arith, other))
 one_form words Feed Feed is also = refl
+one_form words (SoloFixed class job) (Durable command) is also = absurd (let other : 115 ≡ 100 = ap (λ (w : List ℕ). get_or w 0 0) (sym (ap (λ (ws : List (List ℕ)). get_or ws 0 []) is.spelled) ∙ durably words command also) in omega (arith, other))
+one_form words (Durable command) (SoloFixed class job) is also = absurd (let other : 100 ≡ 115 = ap (λ (w : List ℕ). get_or w 0 0) (sym (durably words command is) ∙ ap (λ (ws : List (List ℕ)). get_or ws 0 []) also.spelled) in omega (arith, other))
+one_form words Frames (Durable command) is also = absurd (let other : 102 ≡ 100 = ap (λ (w : List ℕ). get_or w 0 0) (sym (ap (λ (ws : List (List ℕ)). get_or ws 0 []) is) ∙ durably words command also) in omega (arith, other))
+one_form words (Durable command) Frames is also = absurd (let other : 100 ≡ 102 = ap (λ (w : List ℕ). get_or w 0 0) (sym (durably words command is) ∙ ap (λ (ws : List (List ℕ)). get_or ws 0 []) also) in omega (arith, other))
+one_form words Solo (Durable command) is also = absurd (let other : 115 ≡ 100 = ap (λ (w : List ℕ). get_or w 0 0) (sym (ap (λ (ws : List (List ℕ)). get_or ws 0 []) is.spelled) ∙ durably words command also) in omega (arith, other))
+one_form words (Durable command) Solo is also = absurd (let other : 100 ≡ 115 = ap (λ (w : List ℕ). get_or w 0 0) (sym (durably words command is) ∙ ap (λ (ws : List (List ℕ)). get_or ws 0 []) also.spelled) in omega (arith, other))
+one_form words Serve (Durable command) is also = absurd (let other : 115 ≡ 100 = ap (λ (w : List ℕ). get_or w 0 0) (sym (ap (λ (ws : List (List ℕ)). get_or ws 0 []) is.spelled) ∙ durably words command also) in omega (arith, other))
+one_form words (Durable command) Serve is also = absurd (let other : 100 ≡ 115 = ap (λ (w : List ℕ). get_or w 0 0) (sym (durably words command is) ∙ ap (λ (ws : List (List ℕ)). get_or ws 0 []) also.spelled) in omega (arith, other))
+one_form words Audit (Durable command) is also = absurd (let other : 97 ≡ 100 = ap (λ (w : List ℕ). get_or w 0 0) (sym (ap (λ (ws : List (List ℕ)). get_or ws 0 []) is.spelled) ∙ durably words command also) in omega (arith, other))
+one_form words (Durable command) Audit is also = absurd (let other : 100 ≡ 97 = ap (λ (w : List ℕ). get_or w 0 0) (sym (durably words command is) ∙ ap (λ (ws : List (List ℕ)). get_or ws 0 []) also.spelled) in omega (arith, other))
+one_form words Migrate (Durable command) is also = absurd (let other : 109 ≡ 100 = ap (λ (w : List ℕ). get_or w 0 0) (sym (ap (λ (ws : List (List ℕ)). get_or ws 0 []) is.spelled) ∙ durably words command also) in omega (arith, other))
+one_form words (Durable command) Migrate is also = absurd (let other : 100 ≡ 109 = ap (λ (w : List ℕ). get_or w 0 0) (sym (durably words command is) ∙ ap (λ (ws : List (List ℕ)). get_or ws 0 []) also.spelled) in omega (arith, other))
+one_form words (Load number) (Durable command) is also = absurd (let other : 108 ≡ 100 = ap (λ (w : List ℕ). get_or w 0 0) (sym (ap (λ (ws : List (List ℕ)). get_or ws 0 []) is.spelled) ∙ durably words command also) in omega (arith, other))
+one_form words (Durable command) (Load number) is also = absurd (let other : 100 ≡ 108 = ap (λ (w : List ℕ). get_or w 0 0) (sym (durably words command is) ∙ ap (λ (ws : List (List ℕ)). get_or ws 0 []) also.spelled) in omega (arith, other))
+one_form words (Mine class count) (Durable command) is also = absurd (let other : 109 ≡ 100 = ap (λ (w : List ℕ). get_or w 0 0) (sym (ap (λ (ws : List (List ℕ)). get_or ws 0 []) is.spelled) ∙ durably words command also) in omega (arith, other))
+one_form words (Durable command) (Mine class count) is also = absurd (let other : 100 ≡ 109 = ap (λ (w : List ℕ). get_or w 0 0) (sym (durably words command is) ∙ ap (λ (ws : List (List ℕ)). get_or ws 0 []) also.spelled) in omega (arith, other))
+one_form words Feed (Durable command) is also = absurd (let other : 102 ≡ 100 = ap (λ (w : List ℕ). get_or w 0 0) (sym (ap (λ (ws : List (List ℕ)). get_or ws 0 []) is.spelled) ∙ durably words command also) in omega (arith, other))
+one_form words (Durable command) Feed is also = absurd (let other : 100 ≡ 102 = ap (λ (w : List ℕ). get_or w 0 0) (sym (durably words command is) ∙ ap (λ (ws : List (List ℕ)). get_or ws 0 []) also.spelled) in omega (arith, other))
+one_form words (Durable command) (Durable other) is also = ap Durable (one_command words command other is also)
 
 pub within_limits : (words : List (List ℕ)) (form : Form) → IsForm words form → IsWithinLimits form
 within_limits words (SoloFixed class job) is = is.limit
@@ -142,6 +184,7 @@ within_limits words Migrate is = tt
 within_limits words (Load number) is = tt
 within_limits words (Mine class count) is = (is.easy, is.some)
 within_limits words Feed is = tt
+within_limits words (Durable command) is = tt
 
 -- words that ask for nothing at an address are of a form that doesn't
 pub alone : (words : List (List ℕ)) (form : Form) → IsForm words form → (AskAtAddress words → ⊥) → IsAlone form
@@ -153,4 +196,20 @@ alone words Audit is none = tt
 alone words Migrate is none = tt
 alone words (Load number) is none = tt
 alone words (Mine class count) is none = none (inr (inl (class, count, is)))
-alone words Feed is none = none (inr (inr is))
+alone words Feed is none = none (inr (inr (inl is)))
+alone words (Durable disk.Solo) is none = tt
+alone words (Durable disk.Serve) is none = none (inr (inr (inr is)))
+alone words (Durable disk.Audit) is none = tt
+
+-- words that ask for no disk are of a form that doesn't
+pub off_disk : (words : List (List ℕ)) (form : Form) → IsForm words form → (AskForDisk words → ⊥) → IsOffDisk form
+off_disk words (SoloFixed class job) is none = tt
+off_disk words Frames is none = tt
+off_disk words Solo is none = tt
+off_disk words Serve is none = tt
+off_disk words Audit is none = tt
+off_disk words Migrate is none = tt
+off_disk words (Load number) is none = tt
+off_disk words (Mine class count) is none = tt
+off_disk words Feed is none = tt
+off_disk words (Durable command) is none = none (command, is)

@@ -4,7 +4,9 @@ use Rattle.std.specs.Int.{w32, to_le_bytes}
 use Rattle.hex.specs.Hex.{decode_sized}
 use Rattle.fixed_command.specs.declared.judge.Job.{Job}
 use Rattle.command_line.specs.declared.words.Form.{Form}
-use Rattle.command_line.specs.declared.words.Form.TheVariants.{SoloFixed, Frames, Solo, Serve, Audit, Migrate, Load, Mine, Feed}
+use Rattle.command_line.specs.declared.words.Form.TheVariants.{SoloFixed, Frames, Solo, Serve, Audit, Migrate, Load, Mine, Feed, Durable}
+use Rattle.command_line.specs.declared.words.OnDisk.{OnDisk}
+use Rattle.command_line.specs.declared.words.OnDisk.TheVariants as disk
 use Rattle.command_line.specs.Numbers.{IsNumber}
 
 -- the bytes are the job's previous hash, merkle root and nbits, as they stand in a header
@@ -82,6 +84,29 @@ pub record IsFeed (words : List (List ℕ)) : Type 0 where
   pub address : List ℕ
   pub spelled : words ≡ codes "feed" ∷ script ∷ address ∷ []
 
+-- `durable solo SETTINGS LEDGER`: the names of a file and of a disk
+pub record IsDurableSolo (words : List (List ℕ)) : Type 0 where
+  pub settings : List ℕ
+  pub ledger : List ℕ
+  pub spelled : words ≡ codes "durable" ∷ codes "solo" ∷ settings ∷ ledger ∷ []
+
+-- `durable serve SETTINGS LEDGER`: the names of a file and of a disk
+pub record IsDurableServe (words : List (List ℕ)) : Type 0 where
+  pub settings : List ℕ
+  pub ledger : List ℕ
+  pub spelled : words ≡ codes "durable" ∷ codes "serve" ∷ settings ∷ ledger ∷ []
+
+-- `durable audit LEDGER`: the name of a disk
+pub record IsDurableAudit (words : List (List ℕ)) : Type 0 where
+  pub ledger : List ℕ
+  pub spelled : words ≡ codes "durable" ∷ codes "audit" ∷ ledger ∷ []
+
+-- the words ask for this command over a disk
+abbrev pub IsDurable : List (List ℕ) → OnDisk → Type 0
+IsDurable words disk.Solo = IsDurableSolo words
+IsDurable words disk.Serve = IsDurableServe words
+IsDurable words disk.Audit = IsDurableAudit words
+
 -- the words are of this form
 abbrev pub IsForm : List (List ℕ) → Form → Type 0
 IsForm words (SoloFixed class job) = IsSoloFixed words class job
@@ -93,6 +118,7 @@ IsForm words Migrate = IsMigrate words
 IsForm words (Load number) = IsLoad words number
 IsForm words (Mine class count) = IsMine words class count
 IsForm words Feed = IsFeed words
+IsForm words (Durable command) = IsDurable words command
 
 -- the words are none of the forms
 abbrev pub HasNoForm : List (List ℕ) → Type 0
@@ -102,3 +128,8 @@ HasNoForm words = (form : Form) → IsForm words form → ⊥
 abbrev pub AskAtAddress : List (List ℕ) → Type 0
 AskAtAddress words =
     IsServe words ⊎ ((class : ℕ) × (count : ℕ) × IsMine words class count) ⊎ IsFeed words
+    ⊎ IsDurableServe words
+
+-- the words ask for a disk
+abbrev pub AskForDisk : List (List ℕ) → Type 0
+AskForDisk words = (command : OnDisk) × IsDurable words command

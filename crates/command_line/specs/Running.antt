@@ -8,6 +8,9 @@ use Rattle.ledger_commands.specs.Auditing.{AuditRow}
 use Rattle.fixed_command.specs.Duty.{share_duty}
 use Rattle.frames_command.specs.Duty.{listing_duty}
 use Rattle.ledger_commands.specs.Migrating.{MigrateRow}
+use Rattle.durable_commands.specs.Auditing.{DurableAuditRow}
+use Rattle.durable_commands.specs.Serving.{DurableServeRow, Surroundings, world_in}
+use Rattle.durable_commands.specs.Soloing.{DurableSoloRow, HostAndDisks}
 use Rattle.feed_command.specs.Row.{FeedRow}
 use Rattle.load_command.specs.Row.{LoadRow}
 use Rattle.mine_command.specs.Row.{MineRow}
@@ -16,8 +19,10 @@ use Rattle.pool_io.specs.Hosts.{HostSeen}
 use Rattle.pool_network.specs.Worlds.{WorldSeen}
 use Rattle.solo_command.specs.Row.{SoloRow}
 use Rattle.command_line.specs.declared.words.Form.{Form}
-use Rattle.command_line.specs.declared.words.Form.TheVariants.{SoloFixed, Frames, Solo, Serve, Audit, Migrate, Load, Mine, Feed}
-use Rattle.command_line.specs.Forms.{IsAudit, IsFeed, IsMigrate, IsMine, IsServe, IsSolo}
+use Rattle.command_line.specs.declared.words.Form.TheVariants.{SoloFixed, Frames, Solo, Serve, Audit, Migrate, Load, Mine, Feed, Durable}
+use Rattle.command_line.specs.declared.words.OnDisk.{OnDisk}
+use Rattle.command_line.specs.declared.words.OnDisk.TheVariants as disk
+use Rattle.command_line.specs.Forms.{IsAudit, IsDurableAudit, IsDurableServe, IsDurableSolo, IsFeed, IsMigrate, IsMine, IsServe, IsSolo}
 
 -- a command over standard input and output: what it owes at each status, and that it asked for
 -- these alone
@@ -25,47 +30,82 @@ abbrev pub OwesStreams : Duty → HostSeen → HostSeen → Status → Type 0
 OwesStreams duty old new status = StreamRow duty old.streams new.streams status
     × AsksForStreams old.openings new.openings status
 
--- what each form of words owes at each status: a row a command; none but `serve`, `mine`
--- and `feed` asks the network for anything
-abbrev pub OwesRow : List (List ℕ) → Form → WorldSeen → WorldSeen → Status → Type 0
-OwesRow words (SoloFixed class job) old new status =
+-- what each form of words but those over a disk owes at each status: a row a command; none but
+-- `serve`, `mine` and `feed` asks the network for anything
+abbrev pub OwesPlainRow : List (List ℕ) → Form → WorldSeen → WorldSeen → Status → Type 0
+OwesPlainRow words (SoloFixed class job) old new status =
     OwesStreams (share_duty class job) old.host new.host status × (new.network ≡ old.network)
-OwesRow words Frames old new status =
+OwesPlainRow words Frames old new status =
     OwesStreams listing_duty old.host new.host status × (new.network ≡ old.network)
-OwesRow words Solo old new status =
+OwesPlainRow words Solo old new status =
     ((names : IsSolo words) × SoloRow names.settings names.ledger old.host new.host status)
     × (new.network ≡ old.network)
-OwesRow words Serve old new status =
+OwesPlainRow words Serve old new status =
     (names : IsServe words) × ServeRow names.settings names.ledger old new status
-OwesRow words Audit old new status =
+OwesPlainRow words Audit old new status =
     ((name : IsAudit words) × AuditRow name.ledger old.host new.host status)
     × (new.network ≡ old.network)
-OwesRow words Migrate old new status =
+OwesPlainRow words Migrate old new status =
     ((names : IsMigrate words)
     × MigrateRow names.old_ledger names.new_ledger old.host new.host status)
     × (new.network ≡ old.network)
-OwesRow words (Load number) old new status =
+OwesPlainRow words (Load number) old new status =
     LoadRow number old.host new.host status × (new.network ≡ old.network)
-OwesRow words (Mine class count) old new status =
+OwesPlainRow words (Mine class count) old new status =
     (names : IsMine words class count)
     × MineRow names.address (record { user = names.user; class = class; count = count }) old new
     status
-OwesRow words Feed old new status =
+OwesPlainRow words Feed old new status =
     (names : IsFeed words) × FeedRow names.script names.address old new status
+OwesPlainRow words (Durable command) old new status = ⊥
+
+abbrev pub on_disks : Surroundings → HostAndDisks
+on_disks all = record { host = all.host; disks = all.disks }
+
+-- what the commands over a disk owe
+abbrev pub OwesDurableRow : List (List ℕ) → OnDisk → Surroundings → Surroundings → Status → Type 0
+OwesDurableRow words disk.Solo old new status =
+    ((names : IsDurableSolo words)
+    × DurableSoloRow names.settings names.ledger (on_disks old) (on_disks new) status)
+    × (new.network ≡ old.network)
+OwesDurableRow words disk.Serve old new status =
+    (names : IsDurableServe words) × DurableServeRow names.settings names.ledger old new status
+OwesDurableRow words disk.Audit old new status =
+    ((name : IsDurableAudit words)
+    × DurableAuditRow name.ledger (on_disks old) (on_disks new) status)
+    × (new.network ≡ old.network)
+
+-- what each form owes; the others ask for no disk
+abbrev pub OwesRow : List (List ℕ) → Form → Surroundings → Surroundings → Status → Type 0
+OwesRow words (Durable command) old new status = OwesDurableRow words command old new status
+OwesRow words form old new status =
+    OwesPlainRow words form (world_in old) (world_in new) status × (new.disks ≡ old.disks)
 
 -- the answer is the number of a status, and what the form owes at it stands
-pub record DoesForm (words : List (List ℕ)) (form : Form) (old new : WorldSeen) (answer : ℕ) :
+pub record DoesForm (words : List (List ℕ)) (form : Form) (old new : Surroundings) (answer : ℕ) :
     Type 0 where
   pub status : Status
   pub told_as : answer ≡ status_code status
   pub owed : OwesRow words form old new status
+
+-- so does none of them at an address but `durable serve`
+abbrev pub StaysOffNetwork : OnDisk → Type 0
+StaysOffNetwork disk.Solo = Unit {0}
+StaysOffNetwork disk.Serve = ⊥
+StaysOffNetwork disk.Audit = Unit {0}
 
 -- the form asks for nothing at an address
 abbrev pub IsAlone : Form → Type 0
 IsAlone Serve = ⊥
 IsAlone (Mine class count) = ⊥
 IsAlone Feed = ⊥
+IsAlone (Durable command) = StaysOffNetwork command
 IsAlone _ = Unit {0}
+
+-- the form asks for no disk
+abbrev pub IsOffDisk : Form → Type 0
+IsOffDisk (Durable command) = ⊥
+IsOffDisk _ = Unit {0}
 
 -- the numbers of a form are within their limits
 abbrev pub IsWithinLimits : Form → Type 0
@@ -78,3 +118,4 @@ IsWithinLimits Migrate = Unit {0}
 IsWithinLimits (Load number) = Unit {0}
 IsWithinLimits (Mine class count) = (class ≤ 24) × (0 < count)
 IsWithinLimits Feed = Unit {0}
+IsWithinLimits (Durable command) = Unit {0}

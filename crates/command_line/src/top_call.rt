@@ -12,12 +12,14 @@ ghost use Rattle.serve_command.specs.Row.{ServeRow};
 ghost use Rattle.pool_io.specs.Hosts.{IsHandedBack};
 ghost use Rattle.solo_command.specs.Row.{SoloRow};
 ghost use Rattle.command_line.specs.declared.words.Form.{Form as Asked};
-ghost use Rattle.command_line.specs.Forms.{AskAtAddress, HasNoForm, IsAudit, IsFeed, IsForm, IsMigrate, IsMine, IsServe, IsSolo};
-ghost use Rattle.command_line.specs.Running.{DoesForm, IsAlone, IsWithinLimits, OwesRow};
+ghost use Rattle.command_line.specs.Forms.{AskAtAddress, AskForDisk, HasNoForm, IsAudit, IsDurable, IsDurableAudit, IsDurableServe, IsDurableSolo, IsFeed, IsForm, IsMigrate, IsMine, IsServe, IsSolo};
+ghost use Rattle.command_line.specs.Running.{DoesForm, IsAlone, IsOffDisk, IsWithinLimits, OwesDurableRow, OwesRow};
 
+use crate::on_disk::durable_named;
 use crate::words::{
     Form, Word, audit_name, feed_names, form_of, migrate_names, serve_names, solo_names,
 };
+use disk_io::Disks;
 use feed_command::feed;
 use fixed_command::judge_shares;
 use frames_command::list_frames;
@@ -32,57 +34,78 @@ use std::thread::Threads;
 use stream_commands::Status;
 
 /// Does what the words ask for, and answers the status of the process.
-pub fn run<R: Threads + Wait + Sync, H: Host, N: Network>(
+pub fn run<R: Threads + Wait + Sync, H: Host, N: Network, V: Disks>(
     rt: &R,
     alloc: Global,
     host: &mut H,
     network: &mut N,
+    disks: &mut V,
     words: &[Word],
 ) -> u8
 where
     H::K: Send,
     N::D: Send,
     <N::D as Door>::L: Send,
+    V::Z: Send,
     // 2 exactly where the words are none of the forms; then nothing was opened.
     ensures usage { result ≡ 2 ↔ HasNoForm words.now }
     ensures unopened { result ≡ 2 → H.seen host.new ≡ H.seen host.old }
 
     // What the words ask for was done: the answer is a status, and what the command owes at it
-    // stands. Where the host and the network tell their opening calls, they are those that the words
-    // ask for, in their order, up to the first that was refused or to the step at which the command
-    // ended.
+    // stands. Where the host, the network and what gives disks tell their opening calls, they are those
+    // that the words ask for, in their order, up to the first that was refused or to the step at which
+    // the command ended.
     ensures does { (form : Asked) → IsForm words.now form → DoesForm
-        words.now form (record { host = H.seen host.old; network = N.seen network.old })
-        (record { host = H.seen host.new; network = N.seen network.new }) result }
+        words.now form (record {
+          host = H.seen host.old;
+          network = N.seen network.old;
+          disks = V.seen disks.old;
+        }) (record {
+          host = H.seen host.new;
+          network = N.seen network.new;
+          disks = V.seen disks.new;
+        }) result }
 
     // So for each words: 2, or a form that they have was done.
     ensures formed { (result ≡ 2) ⊎ ((form : Asked) × IsForm words.now form × DoesForm
-        words.now form (record { host = H.seen host.old; network = N.seen network.old })
-        (record { host = H.seen host.new; network = N.seen network.new }) result) }
+        words.now form (record {
+          host = H.seen host.old;
+          network = N.seen network.old;
+          disks = V.seen disks.old;
+        }) (record {
+          host = H.seen host.new;
+          network = N.seen network.new;
+          disks = V.seen disks.new;
+        }) result) }
 
-    // Whatever the words: there are no other statuses, and everything that the host and the network
-    // gave has come back. Nothing but `serve`, `mine` and `feed` asks for anything at an address, and
-    // where the words are none of theirs, 7 is answered exactly where the host's count rose, by one.
+    // Whatever the words: there are no other statuses, and everything that was given has come back.
+    // Nothing but `serve`, durable or not, `mine` and `feed` asks for anything at an address, and
+    // nothing but the durable commands for a disk; where the words are none of all these, 7 is answered
+    // exactly where the host's count rose, by one.
     ensures statuses { (status : Answer) × (result ≡ status_code status) }
     ensures back { IsHandedBack (H.seen host.old) (H.seen host.new) }
     ensures links { (N.seen network.new).links.lent ≡ (N.seen network.old).links.lent }
     ensures doors { (N.seen network.new).doors.lent ≡ (N.seen network.old).doors.lent }
     ensures alone { (AskAtAddress words.now → ⊥) → N.seen network.new ≡ N.seen network.old }
-    ensures counts { (AskAtAddress words.now → ⊥) → CountsFailure (result == 7)
-        (H.seen host.old).streams.faults (H.seen host.new).streams.faults }
+    ensures disks { (V.seen disks.new).disks.lent ≡ (V.seen disks.old).disks.lent }
+    ensures undisked { (AskForDisk words.now → ⊥) → V.seen disks.new ≡ V.seen disks.old }
+    ensures counts { (AskAtAddress words.now → ⊥) → (AskForDisk words.now → ⊥)
+        → CountsFailure (result == 7) (H.seen host.old).streams.faults
+        (H.seen host.new).streams.faults }
 {
     match form_of(words) {
         None => Status::Usage.code(),
-        Some(form) => perform(rt, alloc, host, network, words, form).code(),
+        Some(form) => perform(rt, alloc, host, network, disks, words, form).code(),
     }
 }
 
 /// Does what a form asks for.
-fn perform<R: Threads + Wait + Sync, H: Host, N: Network>(
+fn perform<R: Threads + Wait + Sync, H: Host, N: Network, V: Disks>(
     rt: &R,
     alloc: Global,
     host: &mut H,
     network: &mut N,
+    disks: &mut V,
     words: &[Word],
     form: Form,
 ) -> Status
@@ -90,16 +113,26 @@ where
     H::K: Send,
     N::D: Send,
     <N::D as Door>::L: Send,
+    V::Z: Send,
     requires limits { IsWithinLimits form }
     requires names { IsForm words.now form }
     ensures row { OwesRow words.now form
-        (record { host = H.seen host.old; network = N.seen network.old })
-        (record { host = H.seen host.new; network = N.seen network.new }) result }
+        (record {
+          host = H.seen host.old;
+          network = N.seen network.old;
+          disks = V.seen disks.old;
+        }) (record {
+          host = H.seen host.new;
+          network = N.seen network.new;
+          disks = V.seen disks.new;
+        }) result }
     ensures back { IsHandedBack (H.seen host.old) (H.seen host.new) }
     ensures links { (N.seen network.new).links.lent ≡ (N.seen network.old).links.lent }
     ensures doors { (N.seen network.new).doors.lent ≡ (N.seen network.old).doors.lent }
     ensures alone { IsAlone form → N.seen network.new ≡ N.seen network.old }
-    ensures counts { IsAlone form → CountsFailure (status_code result == 7)
+    ensures disks { (V.seen disks.new).disks.lent ≡ (V.seen disks.old).disks.lent }
+    ensures undisked { IsOffDisk form → V.seen disks.new ≡ V.seen disks.old }
+    ensures counts { IsAlone form → IsOffDisk form → CountsFailure (status_code result == 7)
         (H.seen host.old).streams.faults (H.seen host.new).streams.faults }
 {
     match form {
@@ -112,6 +145,9 @@ where
         Form::Load { number } => load(alloc, host, number),
         Form::Mine { class, count } => mine_named(alloc, host, network, words, class, count),
         Form::Feed => feed_named(alloc, host, network, words),
+        Form::Durable { command } => {
+            durable_named(rt, alloc, host, network, disks, words, command)
+        }
     }
 }
 

@@ -5,7 +5,8 @@ ghost use Rattle.std.specs.Prelude.{IfSome, IfNone, Ok, [], ◌∷◌, codes};
 ghost use Rattle.hex.specs.Hex.{decode_sized};
 ghost use Rattle.command_line.specs.Numbers.{IsNumber};
 ghost use Rattle.fixed_command.specs.declared.judge.Job.{Job as Work};
-ghost use Rattle.command_line.specs.Forms.{IsAudit, IsFeed, IsForm, IsFrames, IsJob, IsLoad, IsMigrate, IsMine, IsServe, IsSolo, IsSoloFixed};
+ghost use Rattle.command_line.specs.declared.words.OnDisk.{OnDisk as Durable};
+ghost use Rattle.command_line.specs.Forms.{IsAudit, IsDurable, IsDurableAudit, IsDurableServe, IsDurableSolo, IsFeed, IsForm, IsFrames, IsJob, IsLoad, IsMigrate, IsMine, IsServe, IsSolo, IsSoloFixed};
 
 use fixed_command::Job;
 use hex::FromHex;
@@ -45,6 +46,17 @@ impl Word {
     }
 }
 
+/// A command over a disk.
+#[derive(Clone, Copy, Debug, PartialEq, Eq)]
+pub enum OnDisk {
+    /// `durable solo SETTINGS LEDGER`
+    Solo,
+    /// `durable serve SETTINGS LEDGER`
+    Serve,
+    /// `durable audit LEDGER`
+    Audit,
+}
+
 /// What the words ask for.
 #[derive(Drop)]
 pub enum Form {
@@ -66,6 +78,8 @@ pub enum Form {
     Mine { class: u8, count: u32 },
     /// `feed SCRIPT ADDRESS`
     Feed,
+    /// One of those over a disk.
+    Durable { command: OnDisk },
 }
 
 /// The form that the words have, if they have one.
@@ -97,7 +111,74 @@ pub fn form_of(words: &[Word]) -> Option<Form>
     if let Some((class, count)) = mine_numbers(words) {
         return Some(Form::Mine { class, count });
     }
+    if let Some(command) = durable_command(words) {
+        return Some(Form::Durable { command });
+    }
     solo_fixed_form(words)
+}
+
+/// The command over a disk that the words ask for, if they ask for one.
+fn durable_command(words: &[Word]) -> Option<OnDisk>
+    ensures found { IfSome result (IsDurable words.now) }
+    ensures none { IfNone result ((command : Durable) → IsDurable words.now command → ⊥) }
+{
+    if durable_solo_names(words).is_some() {
+        return Some(OnDisk::Solo);
+    }
+    if durable_serve_names(words).is_some() {
+        return Some(OnDisk::Serve);
+    }
+    if durable_audit_name(words).is_some() {
+        return Some(OnDisk::Audit);
+    }
+    None
+}
+
+/// The words behind `durable solo`, where there are two: the names of the settings file and of the
+/// ledger's disk.
+pub fn durable_solo_names(words: &[Word]) -> Option<(&Word, &Word)>
+    ensures found { IfSome result (λ names. words.now
+        ≡ codes "durable" ∷ codes "solo" ∷ names.0.now ∷ names.1.now ∷ []) }
+    ensures none { IfNone result (IsDurableSolo words.now → ⊥) }
+{
+    names_behind_both(words, "solo")
+}
+
+/// The words behind `durable serve`, where there are two: the names of the settings file and of the
+/// ledger's disk.
+pub fn durable_serve_names(words: &[Word]) -> Option<(&Word, &Word)>
+    ensures found { IfSome result (λ names. words.now
+        ≡ codes "durable" ∷ codes "serve" ∷ names.0.now ∷ names.1.now ∷ []) }
+    ensures none { IfNone result (IsDurableServe words.now → ⊥) }
+{
+    names_behind_both(words, "serve")
+}
+
+/// The two words behind `durable` and this one, where there are just two.
+fn names_behind_both<'a>(words: &'a [Word], command: &str) -> Option<(&'a Word, &'a Word)>
+    ensures found { IfSome result (λ names. words.now
+        ≡ codes "durable" ∷ command.now ∷ names.0.now ∷ names.1.now ∷ []) }
+    ensures none { IfNone result ((one other : List ℕ)
+        → words.now ≡ codes "durable" ∷ command.now ∷ one ∷ other ∷ [] → ⊥) }
+{
+    match words {
+        [durable, word, one, other] if durable.says("durable") && word.says(command) => {
+            Some((one, other))
+        }
+        _ => None,
+    }
+}
+
+/// The word behind `durable audit`, where there is one: the name of the ledger's disk.
+pub fn durable_audit_name(words: &[Word]) -> Option<&Word>
+    ensures found { IfSome result (λ name. words.now
+        ≡ codes "durable" ∷ codes "audit" ∷ name.now ∷ []) }
+    ensures none { IfNone result (IsDurableAudit words.now → ⊥) }
+{
+    match words {
+        [durable, audit, ledger] if durable.says("durable") && audit.says("audit") => Some(ledger),
+        _ => None,
+    }
 }
 
 /// Whether the words are `frames`.

@@ -18,6 +18,8 @@ mod tcp;
 mod tcp_tests;
 
 use command_line::{Word, run};
+use disk_io::Disks;
+use file_disk::FileDisks;
 use pool_io::Host;
 use pool_network::{Door, Network};
 use std::alloc::{AllocError, Global};
@@ -50,19 +52,21 @@ fn words_behind_name(alloc: Global, mut texts: Args) -> Result<Vec<Word>, AllocE
 }
 
 /// Does what the words of a process ask for, and answers its status.
-fn answer<E: Env + AllocGlobal, R: Threads + Wait + Sync, H: Host, N: Network>(
+fn answer<E: Env + AllocGlobal, R: Threads + Wait + Sync, H: Host, N: Network, V: Disks>(
     process: &E,
     rt: &R,
     host: &mut H,
     network: &mut N,
+    disks: &mut V,
 ) -> u8
 where
     H::K: Send,
     N::D: Send,
     <N::D as Door>::L: Send,
+    V::Z: Send,
 {
     match words_of(process) {
-        Ok(words) => run(rt, process.alloc(), host, network, &words),
+        Ok(words) => run(rt, process.alloc(), host, network, disks, &words),
         // A word that is no text is in none of the forms.
         Err(error) if error.kind() == io::ErrorKind::InvalidData => Status::Usage.code(),
         Err(_) => Status::Memory.code(),
@@ -72,5 +76,6 @@ where
 fn main(rt: HostRuntime) -> ExitCode {
     let mut host = StreamHost::new(rt.alloc(), rt.stdin(), rt.stdout(), rt);
     let mut network = TcpNetwork::new(rt.alloc(), rt);
-    ExitCode::from(answer(&rt, &rt, &mut host, &mut network))
+    let mut disks = FileDisks::new(rt.alloc(), rt);
+    ExitCode::from(answer(&rt, &rt, &mut host, &mut network, &mut disks))
 }

@@ -3,6 +3,7 @@
 
 use crate::answer;
 use crate::edge_tests::{remove_folder, stand_in_new_folder};
+use crate::file_disk::FileDisks;
 use crate::stream_host::StreamHost;
 use crate::tcp::TcpNetwork;
 use crate::tcp_tests::own_address;
@@ -52,7 +53,9 @@ where
     let output = File::create(rt, "output")?;
     let mut host = StreamHost::new(rt.alloc(), input, &output, *rt);
     let mut network = TcpNetwork::new(rt.alloc(), *rt);
-    Ok(answer(&(Line(line), rt.alloc()), rt, &mut host, &mut network))
+    let mut disks = FileDisks::new(rt.alloc(), *rt);
+    let process = (Line(line), rt.alloc());
+    Ok(answer(&process, rt, &mut host, &mut network, &mut disks))
 }
 
 /// The settings of the worked session, and a provider that nobody is.
@@ -69,6 +72,9 @@ const BEGUN: &[u8] =
 const SETUP: &[u8] =
     b"\x00\x00\x00\x10\x00\x00\x00\x02\x00\x02\x00\x00\x00\x00\x00\x00\x00\x00\x00\x00\x00\x00";
 
+/// The answer to it.
+const ACCEPTED: &[u8] = b"\x00\x00\x01\x06\x00\x00\x02\x00\x00\x00\x00\x00";
+
 /// SubmitSharesStandard with the version, time and nonce of Bitcoin's first block, and its Success.
 const SHARE: &[u8] = b"\x00\x80\x1a\x18\x00\x00\x01\x00\x00\x00\x00\x00\x00\x00\
     \x01\x00\x00\x00\x1d\xac\x2b\x7c\x29\xab\x5f\x49\x01\x00\x00\x00";
@@ -77,7 +83,7 @@ const CREDITED: &[u8] =
     b"\x00\x80\x1c\x14\x00\x00\x01\x00\x00\x00\x00\x00\x00\x00\x01\x00\x00\x00\x00\x00\x00\x00\x00\x08\x00\x00";
 
 /// Lines of words, each with its input, and the status and the output that answer it.
-const LINES: [(&[u8], &[u8], u8, &[u8]); 13] = [
+const LINES: [(&[u8], &[u8], u8, &[u8]); 21] = [
     (b"maqefwi", b"", 2, b""),
     (b"maqefwi \xff", b"", 2, b""),
     (
@@ -102,6 +108,24 @@ const LINES: [(&[u8], &[u8], u8, &[u8]); 13] = [
         b"legal\nsessions 0\nevents 1\ncredits 0\nblocks 0\npool 0\n",
     ),
     (b"maqefwi serve settings unserved", b"", 7, b""),
+    (b"maqefwi durable solo settings", b"", 2, b""),
+    (b"maqefwi durable solo settings kept", b"", 0, b""),
+    (b"maqefwi durable serve settings kept", b"", 7, b""),
+    (b"maqefwi durable solo settings session", SETUP, 0, ACCEPTED),
+    (b"maqefwi durable solo settings session", b"", 0, b""),
+    (
+        b"maqefwi durable audit session",
+        b"",
+        0,
+        b"legal\nsessions 1\nevents 3\ncredits 0\nblocks 0\npool 0\n",
+    ),
+    (
+        b"maqefwi durable audit new",
+        b"",
+        0,
+        b"legal\nsessions 0\nevents 0\ncredits 0\nblocks 0\npool 0\n",
+    ),
+    (b"maqefwi durable solo settings begun", SETUP, 11, b""),
     (b"maqefwi audit ", b"", 7, b""),
     (b"maqefwi audit \xc3\xa9", b"", 7, b""),
     (
@@ -134,6 +158,11 @@ fn each_word_counts_and_files_are_left_for_others(rt: HostRuntime) -> Result<(),
     assert!(rt; fs::read(&rt, "copy")?.as_slice() == b"SV2LEDG2".as_slice());
     assert!(rt; fs::read(&rt, "begun")?.as_slice() == BEGUN);
     assert!(rt; fs::read(&rt, "unserved")?.as_slice() == BEGUN);
+    assert!(rt; fs::read(&rt, "new")?.as_slice() == b"SV2DISK1\0".as_slice());
+    let mut kept = b"SV2DISK1\x01\x45\0\0\0".to_vec(rt.alloc())?;
+    kept.extend_from_slice(BEGUN)?;
+    kept.push(0)?;
+    assert!(rt; fs::read(&rt, "kept")?.as_slice() == kept.as_slice());
     remove_folder(&rt)
 }
 

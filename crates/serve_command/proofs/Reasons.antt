@@ -15,6 +15,7 @@ use Rattle.pool_io.specs.Steps.{bytes_in, steps_of}
 use Rattle.pool_history.specs.declared.refusals.BookError.{BookError}
 use Rattle.pool_history.specs.declared.refusals.BookError.TheVariants as fault
 use Rattle.pool_history.specs.Calls.{blames_keeper}
+use Rattle.session_steps.specs.declared.ends.SessionEnd.{SessionEnd}
 use Rattle.pool_settings.specs.declared.settings.Settings.{Settings}
 use Rattle.pool_settings.specs.Reading.{AreSettings}
 use Rattle.stream_commands.specs.Statuses.{status_of_refusal}
@@ -28,7 +29,7 @@ use Rattle.stream_commands.specs.Texts.{PutsText}
 use Rattle.stream_commands.specs.Reading.{IsOutside, is_read_fault}
 use Rattle.stream_commands.specs.declared.reading.Unread.{Unread}
 use Rattle.stream_commands.specs.declared.reading.Unread.TheVariants as unread
-use Rattle.serve_command.specs.Row.{BringsSettings, FinishesServing, GivesKeeperBack, HasFailure, HasNoStart, HasReason, ServeRow, ServesAfterSettings, ServesByNames, ServesOnBook, ServesWithKeeper, places_by, service_by}
+use Rattle.serve_command.specs.Row.{BringsSettings, FinishesServing, GivesKeeperBack, HasFailedKeeper, HasFailureBy, HasNoStart, HasReason, HasReasonBy, ServeRow, ServesAfterSettings, ServesByNames, ServesOnBook, ServesWithKeeper, places_by, service_by}
 use Rattle.pool_network.specs.Worlds.{WorldSeen}
 use Rattle.stream_commands.specs.Printing.{HasNoOutput, PrintedOnHost, PrintsText}
 use Rattle.serve_command.specs.Serving.{IsUnserved, ReachedSeen, Served, ServesOnNetwork, Unserved}
@@ -51,7 +52,7 @@ module _ (P : Status → Type 0) (ledger_faults door_faults door_memory : ℕ) (
       (λ unfailed. cond_both (door_faults == 0) printed status.HostFault P (λ closed. prints) (λ some. opened (some_if door_faults some)))
       (λ some. kept (some_if ledger_faults some))) (λ some. memory)
 
-  by_printed : (printed : Status) → P printed → P (status_of_served ledger_faults door_faults door_memory printed)
+  pub by_printed : (printed : Status) → P printed → P (status_of_served ledger_faults door_faults door_memory printed)
   by_printed status.Memory prints = memory
   by_printed status.Done prints = by_counts status.Done prints
   by_printed status.Usage prints = by_counts status.Usage prints
@@ -64,28 +65,72 @@ module _ (P : Status → Type 0) (ledger_faults door_faults door_memory : ℕ) (
   by_printed status.Limit prints = by_counts status.Limit prints
   by_printed status.WrongLedger prints = by_counts status.WrongLedger prints
 
--- from the moment when there were settings
-module _ (old new : WorldSeen) where
+-- from the moment when there were settings, whatever a failure of what keeps the records is
+module _ (Kept Wrong : Type 0) (old new : WorldSeen) where
   host_refused : (error : HostError) → CountsFailure (is_failed_gift {A = Unit {0}} (Err error)) old.host.streams.faults new.host.streams.faults
-      → HasFailure old new (status_of_refusal error)
+      → HasFailureBy Kept Wrong old new (status_of_refusal error)
   host_refused host.Failed counts = inl (omega (arith, counts))
   host_refused host.Memory counts = tt
 
   network_refused : (error : HostError) → CountsFailure (is_failed_gift {A = Unit {0}} (Err error)) old.network.faults new.network.faults
-      → HasFailure old new (status_of_refusal error)
+      → HasFailureBy Kept Wrong old new (status_of_refusal error)
   network_refused host.Failed counts = inr (inl (omega (arith, counts)))
   network_refused host.Memory counts = tt
 
-  unserved : (settings : Settings) (error : HostError) → IsUnserved (places_by settings) old.network new.network error
-      → HasFailure old new (status_of_refusal error)
+  pub unserved : (settings : Settings) (error : HostError) → IsUnserved (places_by settings) old.network new.network error
+      → HasFailureBy Kept Wrong old new (status_of_refusal error)
   unserved settings error (inl none) = network_refused error none.counts
   unserved settings error (inr (inl none)) = network_refused error none.counts
-  unserved settings error (inr (inr none)) = subst (λ e. HasFailure old new (status_of_refusal e)) (sym none.error_is) tt
+  unserved settings error (inr (inr none)) = subst (λ e. HasFailureBy Kept Wrong old new (status_of_refusal e)) (sym none.error_is) tt
 
-  -- with a keeper that the host gave
+  -- the report was printed where the host's streams stood as before
+  module _ (given middle : HostSeen) (begun : given.streams ≡ old.host.streams) (same : new.host.streams ≡ middle.streams) where
+    unprinted : (error : HostError) → HasNoOutput given middle error → HasFailureBy Kept Wrong old new (status_of_refusal error)
+    unprinted error none =
+        host_refused error
+        (subst (λ n. CountsFailure (is_failed_gift {A = Unit {0}} (Err error)) n new.host.streams.faults) (ap (λ (s : StreamsSeen). s.faults) begun)
+        (subst (λ n. CountsFailure (is_failed_gift {A = Unit {0}} (Err error)) given.streams.faults n) (ap (λ (s : StreamsSeen). s.faults) (sym same)) none.counts))
+
+    printed_by : (text : List ℕ) (printed : Status) (prints : PrintedOnHost text status.Done given middle printed)
+        → PutsText (record { faults = 0; held = given.streams.output }) prints.put text status.Done printed → HasFailureBy Kept Wrong old new printed
+    printed_by text printed prints (inl done) = subst (HasFailureBy Kept Wrong old new) (sym done.0) tt
+    printed_by text printed prints (inr front) = elim front.cause [
+      | inl failed ↦ subst (HasFailureBy Kept Wrong old new) (sym failed.0) (
+        prints.put,
+        subst (λ sinks. CameBack old.host.streams.sinks sinks prints.put) (ap (λ (s : StreamsSeen). s.sinks) (sym same))
+            (subst (λ sinks. CameBack sinks middle.streams.sinks prints.put) (ap (λ (s : StreamsSeen). s.sinks) begun) prints.sinks),
+        omega (arith, failed.1),
+      )
+      | inr memory ↦ subst (HasFailureBy Kept Wrong old new) (sym memory.0) tt
+    ]
+
+    pub printed_or : (text : List ℕ) (printed : Status) → PrintsText text status.Done given middle printed → HasFailureBy Kept Wrong old new printed
+    printed_or text printed (inl prints) = printed_by text printed prints prints.puts
+    printed_or text printed (inr none) = subst (HasFailureBy Kept Wrong old new) (sym none.1) (unprinted none.0 none.2)
+
+  -- all were served, and the report was printed, or not
+  pub served_with : (settings : Settings) (begun ended : BookSeen) (reason : SessionEnd) (ledger_faults door_faults door_memory : ℕ) (printed : Status)
+      → ServesOnNetwork (service_by settings) (places_by settings) old.network new.network begun (Served ended reason ledger_faults door_faults door_memory)
+      → (Rose begun.keeper.faults ended.keeper.faults → Kept) → HasFailureBy Kept Wrong old new printed
+      → HasFailureBy Kept Wrong old new (status_of_served ledger_faults door_faults door_memory printed)
+  served_with settings begun ended reason ledger_faults door_faults door_memory printed serves kept prints =
+      by_printed (HasFailureBy Kept Wrong old new) ledger_faults door_faults door_memory tt (λ some. kept (serves.keeper_failed some))
+      (λ some. inr (inr (record {
+        doors = serves.doors;
+        doors_back = serves.doors_back;
+        opened = serves.gives.opened;
+        lists = serves.gives.lists;
+        failed = serves.doors_failed some;
+      }))) printed prints
+
+-- over a keeper that a host gave
+module _ (old new : WorldSeen) where
+  abbrev HasFailed : Status → Type 0
+  HasFailed answer = HasFailureBy (HasFailedKeeper old.host new.host) ⊥ old new answer
+
   module _ (ledger : List ℕ) (given : HostSeen) (keeper : KeeperSeen) (out : IsKeeperGiven ledger old.host given keeper) where
     kept : (middle : HostSeen) (back : KeeperSeen) → middle.openings.keepers ≡ given.openings.keepers → GivesKeeperBack middle new.host back
-        → 0 < back.faults → HasFailure old new status.KeeperFault
+        → 0 < back.faults → HasFailedKeeper old.host new.host
     kept middle back same gives some = (
       back,
       came_back old.host.openings.keepers new.host.openings.keepers back
@@ -95,35 +140,9 @@ module _ (old new : WorldSeen) where
     )
 
     unstarted : (cause : BookError) (back : KeeperSeen) → CountsFailure (blames_keeper cause) keeper.faults back.faults
-        → GivesKeeperBack given new.host back → HasFailure old new (status_of_start cause)
+        → GivesKeeperBack given new.host back → HasFailed (status_of_start cause)
     unstarted fault.KeeperFault back counts gives = kept given back refl gives (omega (arith, counts, out.unfailed))
     unstarted fault.Memory back counts gives = tt
-
-    unprinted : (middle : HostSeen) (error : HostError) → HasNoOutput given middle error → new.host.streams ≡ middle.streams
-        → HasFailure old new (status_of_refusal error)
-    unprinted middle error none same =
-        host_refused error
-        (subst (λ n. CountsFailure (is_failed_gift {A = Unit {0}} (Err error)) n new.host.streams.faults) (ap (λ (s : StreamsSeen). s.faults) out.streams)
-        (subst (λ n. CountsFailure (is_failed_gift {A = Unit {0}} (Err error)) given.streams.faults n) (ap (λ (s : StreamsSeen). s.faults) (sym same)) none.counts))
-
-    printed_by : (text : List ℕ) (middle : HostSeen) (printed : Status) (prints : PrintedOnHost text status.Done given middle printed) → new.host.streams ≡ middle.streams
-        → PutsText (record { faults = 0; held = given.streams.output }) prints.put text status.Done printed → HasFailure old new printed
-    printed_by text middle printed prints same (inl done) = subst (HasFailure old new) (sym done.0) tt
-    printed_by text middle printed prints same (inr front) = elim front.cause [
-      | inl failed ↦ subst (HasFailure old new) (sym failed.0) (
-        prints.put,
-        subst (λ sinks. CameBack old.host.streams.sinks sinks prints.put) (ap (λ (s : StreamsSeen). s.sinks) (sym same))
-            (subst (λ sinks. CameBack sinks middle.streams.sinks prints.put) (ap (λ (s : StreamsSeen). s.sinks) out.streams) prints.sinks),
-        omega (arith, failed.1),
-      )
-      | inr memory ↦ subst (HasFailure old new) (sym memory.0) tt
-    ]
-
-    printed_or : (text : List ℕ) (middle : HostSeen) (printed : Status) → PrintsText text status.Done given middle printed → new.host.streams ≡ middle.streams
-        → HasFailure old new printed
-    printed_or text middle printed (inl prints) same = printed_by text middle printed prints same prints.puts
-    printed_or text middle printed (inr none) same =
-        subst (HasFailure old new) (sym none.1) (unprinted middle none.0 none.2 same)
 
     no_output : (middle : HostSeen) (error : HostError) → HasNoOutput given middle error → middle.openings.keepers ≡ given.openings.keepers
     no_output middle host.Failed none = ap (λ (o : Openings). o.keepers) none.openings
@@ -136,35 +155,29 @@ module _ (old new : WorldSeen) where
 
     served_by : (settings : Settings) (answer : Status) (begun : BookSeen) (r : ReachedSeen)
         → ServesOnNetwork (service_by settings) (places_by settings) old.network new.network begun r
-        → FinishesServing given new.host r answer → HasFailure old new answer
+        → FinishesServing given new.host r answer → HasFailed answer
     served_by settings answer begun (Served ended reason ledger_faults door_faults door_memory) serves finishes =
         let printed = finishes.0 in
         let reported = finishes.2 in
-        subst (HasFailure old new) (sym finishes.1)
-        (by_printed (HasFailure old new) ledger_faults door_faults door_memory tt
-        (λ some. (let rose : Rose begun.keeper.faults ended.keeper.faults = serves.keeper_failed some in
-        kept reported.middle ended.keeper (still_out (report_text reason ended.events) reported.middle printed reported.prints) reported.back (omega (arith, rose))))
-        (λ some. inr (inr (record {
-          doors = serves.doors;
-          doors_back = serves.doors_back;
-          opened = serves.gives.opened;
-          lists = serves.gives.lists;
-          failed = serves.doors_failed some;
-        }))) printed (printed_or (report_text reason ended.events) reported.middle printed reported.prints reported.back.streams))
+        let text = report_text reason ended.events in
+        subst HasFailed (sym finishes.1)
+        (served_with (HasFailedKeeper old.host new.host) ⊥ old new settings begun ended reason ledger_faults door_faults door_memory printed serves
+        (λ (rose : Rose begun.keeper.faults ended.keeper.faults). kept reported.middle ended.keeper (still_out text reported.middle printed reported.prints) reported.back (omega (arith, rose)))
+        (printed_or (HasFailedKeeper old.host new.host) ⊥ old new given reported.middle out.streams reported.back.streams text printed reported.prints))
     served_by settings answer begun (Unserved ended error) serves finishes =
-        subst (HasFailure old new) (sym finishes.0) (unserved settings error serves.1)
+        subst HasFailed (sym finishes.0) (unserved (HasFailedKeeper old.host new.host) ⊥ old new settings error serves.1)
 
     on_book : (settings : Settings) (answer : Status)
-        → ServesOnBook settings keeper (record { host = given; network = old.network }) new answer → HasFailure old new answer
+        → ServesOnBook settings keeper (record { host = given; network = old.network }) new answer → HasFailed answer
     on_book settings answer (inl served) = served_by settings answer served.begun served.reached served.serves served.finishes
     on_book settings answer (inr none) =
-        subst (HasFailure old new) (sym none.answered) (unstarted none.cause none.keeper_back none.counts none.back)
+        subst HasFailed (sym none.answered) (unstarted none.cause none.keeper_back none.counts none.back)
 
   with_keeper : (settings : Settings) (ledger : List ℕ) (answer : Status) → ServesWithKeeper settings ledger old new answer
-      → HasFailure old new answer
+      → HasFailed answer
   with_keeper settings ledger answer (inl serves) = on_book ledger serves.1 serves.0 serves.2 settings answer serves.3
   with_keeper settings ledger answer (inr none) =
-      subst (HasFailure old new) (sym none.1) (host_refused none.0 none.2.counts)
+      subst HasFailed (sym none.1) (host_refused (HasFailedKeeper old.host new.host) ⊥ old new none.0 none.2.counts)
 
 -- a file that brings settings has no other answer than these, but for a fault or lack of memory
 not_outside : (none : NoSettings) → (none ≡ no_settings.ReadFault → ⊥) → (none ≡ no_settings.Memory → ⊥) → (read : Result (List ℕ) Unread) → IsOutside read
@@ -182,7 +195,7 @@ read_failed (Err unread.IdleOut) count answers counts = cc
 read_failed (Err unread.ReadFault) count answers counts = omega (arith, counts)
 read_failed (Err unread.Memory) count answers counts = cc
 
-module _ (name : List ℕ) (old : WorldSeen) where
+module _ (Kept Wrong : Type 0) (name : List ℕ) (old : WorldSeen) where
   no_settings_file : (read : HostSeen) (none : NoSettings) → ReadsSettings name old.host read (Err none)
       → (none ≡ no_settings.ReadFault → ⊥) → (none ≡ no_settings.Memory → ⊥)
       → ((bytes : List ℕ) (settings : Settings) → AreSettings bytes settings → AnswersBytes bytes (Err none) → ⊥)
@@ -196,8 +209,8 @@ module _ (name : List ℕ) (old : WorldSeen) where
     ]
 
   -- no settings were found
-  without : (read : HostSeen) (none : NoSettings) → OpensSettings name old.host read (Err none)
-      → HasReason name old (record { host = read; network = old.network }) (status_of_no_settings none)
+  pub without : (read : HostSeen) (none : NoSettings) → OpensSettings name old.host read (Err none)
+      → HasReasonBy Kept Wrong name old (record { host = read; network = old.network }) (status_of_no_settings none)
   without read (no_settings.Host host.Failed) opens = inl (omega (arith, opens.counts))
   without read (no_settings.Host host.Memory) opens = tt
   without read no_settings.Bad opens =
@@ -208,34 +221,36 @@ module _ (name : List ℕ) (old : WorldSeen) where
   without read no_settings.Memory opens = tt
 
   -- with settings, what failed behind their reading is what failed
-  behind : (read : HostSeen) (settings : Settings) → ReadsSettings name old.host read (Ok settings) → (new : WorldSeen)
-      (answer : Status) → HasFailure (record { host = read; network = old.network }) new answer → HasReason name old new answer
-  behind read settings reads new status.Done failed = tt
-  behind read settings reads new status.Memory failed = tt
-  behind read settings reads new status.WriteFault failed =
+  pub behind : (Before : Type 0) (read : HostSeen) (settings : Settings) → ReadsSettings name old.host read (Ok settings) → (Before → Kept) → (new : WorldSeen)
+      (answer : Status) → HasFailureBy Before Wrong (record { host = read; network = old.network }) new answer → HasReasonBy Kept Wrong name old new answer
+  behind Before read settings reads kept new status.Done failed = tt
+  behind Before read settings reads kept new status.Memory failed = tt
+  behind Before read settings reads kept new status.WriteFault failed =
       (failed.0, subst (λ sinks. CameBack sinks new.host.streams.sinks failed.0) (ap (λ (s : StreamsSeen). s.sinks) reads.file.streams) failed.1, failed.2)
-  behind read settings reads new status.KeeperFault failed =
-      (failed.0, subst (λ keepers. CameBack keepers new.host.openings.keepers failed.0) (ap (λ (o : Openings). o.keepers) reads.file.openings) failed.1, failed.2)
-  behind read settings reads new status.HostFault failed = elim failed [
+  behind Before read settings reads kept new status.KeeperFault failed = kept failed
+  behind Before read settings reads kept new status.HostFault failed = elim failed [
     | inl rose ↦ inl (subst (λ n. Rose n new.host.streams.faults) (ap (λ (s : StreamsSeen). s.faults) reads.file.streams) rose)
     | inr other ↦ inr other
   ]
-  behind read settings reads new status.Usage failed = absurd failed
-  behind read settings reads new status.Refused failed = absurd failed
-  behind read settings reads new status.ReadFault failed = absurd failed
-  behind read settings reads new status.BadSettings failed = absurd failed
-  behind read settings reads new status.Limit failed = absurd failed
-  behind read settings reads new status.WrongLedger failed = absurd failed
+  behind Before read settings reads kept new status.WrongLedger failed = failed
+  behind Before read settings reads kept new status.Usage failed = absurd failed
+  behind Before read settings reads kept new status.Refused failed = absurd failed
+  behind Before read settings reads kept new status.ReadFault failed = absurd failed
+  behind Before read settings reads kept new status.BadSettings failed = absurd failed
+  behind Before read settings reads kept new status.Limit failed = absurd failed
 
-  has_reason : (ledger : List ℕ) (new : WorldSeen) (answer : Status) (read : HostSeen) (settings : Result Settings NoSettings)
-      → OpensSettings name old.host read settings
-      → ServesAfterSettings ledger settings (record { host = read; network = old.network }) new answer
-      → HasReason name old new answer
-  has_reason ledger new answer read (Ok settings) opens after =
-      behind read settings opens new answer (with_keeper (record { host = read; network = old.network }) new settings ledger answer after)
-  has_reason ledger new answer read (Err none) opens after =
-      subst (λ (w : WorldSeen). HasReason name old w answer) (sym after.0)
-      (subst (λ (s : Status). HasReason name old (record { host = read; network = old.network }) s) (sym after.1) (without read none opens))
+has_reason : (name : List ℕ) (old : WorldSeen) (ledger : List ℕ) (new : WorldSeen) (answer : Status) (read : HostSeen) (settings : Result Settings NoSettings)
+    → OpensSettings name old.host read settings
+    → ServesAfterSettings ledger settings (record { host = read; network = old.network }) new answer
+    → HasReason name old new answer
+has_reason name old ledger new answer read (Ok settings) opens after =
+    behind (HasFailedKeeper old.host new.host) ⊥ name old (HasFailedKeeper read new.host) read settings opens
+    (λ failed. (failed.0, subst (λ keepers. CameBack keepers new.host.openings.keepers failed.0) (ap (λ (o : Openings). o.keepers) opens.file.openings) failed.1, failed.2))
+    new answer (with_keeper (record { host = read; network = old.network }) new settings ledger answer after)
+has_reason name old ledger new answer read (Err none) opens after =
+    subst (λ (w : WorldSeen). HasReason name old w answer) (sym after.0)
+    (subst (λ (s : Status). HasReason name old (record { host = read; network = old.network }) s) (sym after.1)
+    (without (HasFailedKeeper old.host read) ⊥ name old read none opens))
 
 pub row_of : {settings_name ledger_name : List ℕ} {old new : WorldSeen} {answer : Status}
     → ServesByNames settings_name ledger_name old new answer → ServeRow settings_name ledger_name old new answer

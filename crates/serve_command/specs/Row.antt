@@ -127,19 +127,25 @@ pub record HasFailedDoor (old new : NetworkSeen) : Type 0 where
   pub lists : CameBack old.doors new.doors doors_back
   pub failed : SomeDoorFailed doors doors_back
 
--- what failed where there were settings: nothing, or memory ran out; a put of the report; the
--- keeper; or the host, the network or a door
-abbrev pub HasFailure : WorldSeen → WorldSeen → Status → Type 0
-HasFailure old new status.Done = Unit {0}
-HasFailure old new status.Memory = Unit {0}
-HasFailure old new status.WriteFault =
+-- what failed where there were settings: nothing, or memory ran out; a put of the report; what keeps
+-- the records (Kept); or the host, the network or a door. Or the ledger was none of this pool's
+-- (Wrong)
+abbrev pub HasFailureBy : (Kept Wrong : Type 0) → WorldSeen → WorldSeen → Status → Type 0
+HasFailureBy Kept Wrong old new status.Done = Unit {0}
+HasFailureBy Kept Wrong old new status.Memory = Unit {0}
+HasFailureBy Kept Wrong old new status.WriteFault =
     HasFailedItem (λ (sink : SinkSeen). sink.faults) old.host.streams.sinks new.host.streams.sinks
-HasFailure old new status.KeeperFault =
-    HasFailedItem (λ (keeper : KeeperSeen). keeper.faults) old.host.openings.keepers new.host.openings.keepers
-HasFailure old new status.HostFault =
+HasFailureBy Kept Wrong old new status.KeeperFault = Kept
+HasFailureBy Kept Wrong old new status.HostFault =
     Rose old.host.streams.faults new.host.streams.faults ⊎ Rose old.network.faults new.network.faults
     ⊎ HasFailedDoor old.network new.network
-HasFailure old new _ = ⊥
+HasFailureBy Kept Wrong old new status.WrongLedger = Wrong
+HasFailureBy Kept Wrong old new _ = ⊥
+
+-- a keeper that was given has failed
+abbrev pub HasFailedKeeper : HostSeen → HostSeen → Type 0
+HasFailedKeeper old new =
+    HasFailedItem (λ (keeper : KeeperSeen). keeper.faults) old.openings.keepers new.openings.keepers
 
 -- the file is told, comes to its End within the limits, and is settings
 abbrev pub BringsSettings : Option (List Turn) → Type 0
@@ -149,17 +155,21 @@ BringsSettings (Some turns) =
     × AreSettings (bytes_in (steps_of turns)) settings
 
 -- where each status comes from: 9 and 10 from the settings file, 4 from a read of it that failed,
--- and 5, 6 and 7 from another failure. So with a file that brings settings, and with no count risen,
--- the status is 0 or 8.
-abbrev pub HasReason : List ℕ → WorldSeen → WorldSeen → Status → Type 0
-HasReason settings_name old new status.BadSettings =
+-- and 5, 6 and 7 from another failure
+abbrev pub HasReasonBy : (Kept Wrong : Type 0) → List ℕ → WorldSeen → WorldSeen → Status → Type 0
+HasReasonBy Kept Wrong settings_name old new status.BadSettings =
     BringsSettings (old.host.openings.brings settings_name) → ⊥
-HasReason settings_name old new status.Limit =
+HasReasonBy Kept Wrong settings_name old new status.Limit =
     BringsSettings (old.host.openings.brings settings_name) → ⊥
-HasReason settings_name old new status.ReadFault =
+HasReasonBy Kept Wrong settings_name old new status.ReadFault =
     HasFailedItem (λ (source : SourceSeen). source.faults) old.host.streams.sources
     new.host.streams.sources
-HasReason settings_name old new status = HasFailure old new status
+HasReasonBy Kept Wrong settings_name old new status = HasFailureBy Kept Wrong old new status
+
+-- so with a file that brings settings, and with no count risen, the status is 0 or 8
+abbrev pub HasReason : List ℕ → WorldSeen → WorldSeen → Status → Type 0
+HasReason settings_name old new status =
+    HasReasonBy (HasFailedKeeper old.host new.host) ⊥ settings_name old new status
 
 -- the row of `serve SETTINGS LEDGER`
 pub record ServeRow (settings_name ledger_name : List ℕ) (old new : WorldSeen) (status : Status) :

@@ -9,3 +9,6 @@ mod serving;
 mod status;
 
 pub use command::serve_by_settings;
+pub use report::print_report;
+pub use serving::{Reached, serve_on_network};
+pub use status::served_status;

@@ -49,10 +49,10 @@ fn report_of<K: Keeper>(
 }
 
 /// Puts the report to standard output.
-pub(crate) fn print_report<H: Host>(
+pub fn print_report<H: Host, K: Keeper>(
     alloc: Global,
     host: &mut H,
-    book: &Book<H::K>,
+    book: &Book<K>,
     feed_end: SessionEnd,
 ) -> Status
     ensures { PrintsText (report_text feed_end book.now.events) status.Done (H.seen host.old)

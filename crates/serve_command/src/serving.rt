@@ -15,7 +15,7 @@ use std::thread::Threads;
 use v1_translate::V1Terms;
 
 /// What became of a book on a network.
-pub(crate) enum Reached<K: Keeper> {
+pub enum Reached<K: Keeper> {
     /// All sessions are over.
     Ran {
         book: Book<K>,
@@ -30,7 +30,7 @@ pub(crate) enum Reached<K: Keeper> {
 
 /// Dials the feed, opens as many doors as workers, serves all of them on the book, and hands the
 /// link and the doors back.
-pub(crate) fn serve_on_network<R: Threads + Wait + Sync, K: Keeper + Send, N: Network>(
+pub fn serve_on_network<R: Threads + Wait + Sync, K: Keeper + Send, N: Network>(
     rt: &R,
     alloc: Global,
     network: &mut N,

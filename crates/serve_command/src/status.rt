@@ -18,7 +18,7 @@ pub(crate) fn start_status(cause: BookError) -> Status
 
 /// The status once all sessions are over, by what was counted and what the printing was answered
 /// with.
-pub(crate) fn served_status(
+pub fn served_status(
     ledger_faults: u64,
     door_faults: u64,
     door_memory: u64,

@@ -6,3 +6,4 @@ mod command;
 mod status;
 
 pub use command::serve_by_settings;
+pub use status::session_status;

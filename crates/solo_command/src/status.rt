@@ -20,7 +20,7 @@ pub(crate) fn solo_status(end: SoloEnd) -> Status
 }
 
 /// The status of a session's end.
-fn session_status(reason: SessionEnd) -> Status
+pub fn session_status(reason: SessionEnd) -> Status
     ensures { result ≡ status_of_session reason }
 {
     match reason {

@@ -1,5 +1,5 @@
 -- A session over a book of its own ends well where no count rose and no limit was reached.
-use Rattle.std.proofs.Common.{◌≡◌, ℕ, ◌<◌, ◌||◌, true, false, List, [], ◌∷◌, ◌++◌, Some, refl, ap, ◌∙◌, arith}
+use Rattle.std.proofs.Common.{◌≡◌, ℕ, ◌<◌, ◌||◌, true, false, List, [], ◌∷◌, ◌++◌, Some, refl, ap, subst, ◌∙◌, arith}
 use Rattle.std.specs.List.{AllByRecursion}
 use Rattle.pool_base.specs.Counts.{Rose}
 use Rattle.pool_base.specs.Calls.{IsOutcome, Outcome, Replied, Faulted}
@@ -14,17 +14,20 @@ use Rattle.pool_history.specs.declared.replies.Reply.TheVariants as reply
 use Rattle.pool_history.specs.declared.settings.Rules.{Rules}
 use Rattle.pool_history.specs.Answering.{Answer}
 use Rattle.pool_history.specs.Calls.{PoolCall, blames_keeper, wants_memory}
+use Rattle.pool_history.specs.Refusing.{most_enters}
+use Rattle.pool_history.specs.Sessions.{enters, past_of}
 use Rattle.session_steps.specs.declared.ends.SessionEnd.{SessionEnd}
+use Rattle.session_steps.specs.declared.manner.Manner.{Manner}
 use Rattle.session_steps.specs.Steps.{calls_in}
 use Rattle.session_loop.specs.Good.{IsGoodEnd, IsGoodInput}
-use Rattle.session_limits.specs.Ends.{EntersFirst, has_turned_away, is_enter, is_turned_away}
+use Rattle.session_limits.specs.Ends.{EntersFirst, IsWellEnded, has_turned_away, is_enter, is_turned_away}
 use Rattle.session_limits.proofs.Entering.{enters_first}
 use Rattle.session_limits.proofs.Filling.{few_entered, only_enters}
 use Rattle.session_limits.proofs.Rising.{CountsThrough, rose_by}
 use Rattle.session_limits.proofs.Standing.{ends_show}
 use Rattle.session_limits.proofs.Whole.{neither, unhindered_well}
 use Rattle.solo_session.specs.Calling.{StandInTurn}
-use Rattle.solo_session.specs.Solo.{CountsCalls, IsServedWell, IsSoloSession, Outsides, ServesBook, ServesGoodInput, ServesSession, failures_of, sole_worker, solo_manner}
+use Rattle.solo_session.specs.Solo.{CountsCalls, IsServedWell, IsSessionOn, IsSoloSession, OnGoodInput, Outsides, ServesBook, ServesSession, failures_of, sole_worker, solo_manner}
 use Rattle.solo_session.specs.declared.serving.SoloEnd.TheVariants as solo
 
 -- the counts round the calls go through them
@@ -46,12 +49,12 @@ later_in events [] turns asks = refl
 later_in events (call ∷ calls) turns asks =
     ap (λ b. b || has_turned_away calls) (not_away events call call.outcome turns.1 asks.0) ∙ later_in (events ++ call.added) calls turns.2 asks.1
 
--- the first call finds a history of no Enter
-all_in : (rules : Rules) (calls : List PoolCall) → StandInTurn (event.Start rules ∷ []) calls → EntersFirst calls → has_turned_away calls ≡ false
-all_in rules [] turns first = refl
-all_in rules (call ∷ calls) turns first =
-    ap (λ b. b || has_turned_away calls) (few_entered (event.Start rules ∷ []) call call.outcome turns.1 (omega arith))
-    ∙ later_in ((event.Start rules ∷ []) ++ call.added) calls turns.2 first.1
+-- where one session more can enter, the first call finds it so
+all_in : (from : List Event) (calls : List PoolCall) → StandInTurn from calls → EntersFirst calls → enters (past_of from) < most_enters → has_turned_away calls ≡ false
+all_in from [] turns first few = refl
+all_in from (call ∷ calls) turns first few =
+    ap (λ b. b || has_turned_away calls) (few_entered from call call.outcome turns.1 few)
+    ∙ later_in (from ++ call.added) calls turns.2 first.1
 
 -- no session began: the keeper failed, or memory ran out
 pub unbegun_well : (cause : BookError) (before now : ℕ) → CountsFailure (blames_keeper cause) before now → ¬ Rose before now → IsServedWell (solo.Unbegun cause)
@@ -59,26 +62,37 @@ unbegun_well fault.KeeperFault before now counts none = none (rose_by true befor
 unbegun_well fault.Memory before now counts none = tt
 
 -- a session that began
-over_well : {rules : Rules} {idle_turns : ℕ} {old new : Outsides} {reason : SessionEnd} {history : List Event} → 0 < idle_turns
-    → IsSoloSession rules idle_turns old new reason history
-    → ((turns : List Turn) → old.source.left ≡ Some turns → IsGoodInput (solo_manner rules idle_turns) turns → IsGoodEnd reason)
-    → ServesGoodInput rules idle_turns old new (solo.Over reason)
-over_well {rules = rules} {idle_turns = idle_turns} {old = old} {new = new} {reason = reason} waits session good turns is input free =
-    let manner = solo_manner rules idle_turns in
-    unhindered_well idle_turns session.steps reason turns new.source.left
+over_well : {manner : Manner} {from : List Event} {old new : Outsides} {reason : SessionEnd} {history : List Event} → 0 < manner.idle_turns
+    → IsSessionOn manner from old new reason history
+    → ((turns : List Turn) → old.source.left ≡ Some turns → IsGoodInput manner turns → IsGoodEnd reason)
+    → enters (past_of from) < most_enters → OnGoodInput manner old new (IsWellEnded reason)
+over_well {manner = manner} {from = from} {old = old} {new = new} {reason = reason} waits session good few turns is input free =
+    unhindered_well manner.idle_turns session.steps reason turns new.source.left
     (ends_show sole_worker manner session.steps session.last reason waits session.follows session.over) (rw is at session.took)
-    (all_in rules (calls_in session.steps) session.turns (enters_first sole_worker manner session.steps session.last session.follows)) (good turns is input)
+    (all_in from (calls_in session.steps) session.turns (enters_first sole_worker manner session.steps session.last session.follows) few) (good turns is input)
     (failures_of old) (failures_of new) session.reads session.writes
     (through_calls old.keeper.faults new.keeper.faults (calls_in session.steps) session.counts) free
+
+-- a history of no Enter has room for one
+fresh_has_room : (rules : Rules) → enters (past_of (event.Start rules ∷ [])) < most_enters
+fresh_has_room rules = omega arith
 
 pub serves_session : {rules : Rules} {idle_turns : ℕ} {old new : Outsides} {reason : SessionEnd} (history : List Event) → 0 < idle_turns
     → IsSoloSession rules idle_turns old new reason history
     → ((turns : List Turn) → old.source.left ≡ Some turns → IsGoodInput (solo_manner rules idle_turns) turns → IsGoodEnd reason)
     → ServesSession rules idle_turns old new (solo.Over reason)
-serves_session history waits session good = record { did = (history, session); complete = over_well waits session good }
+serves_session {rules = rules} history waits session good = record { did = (history, session); complete = over_well waits session good (fresh_has_room rules) }
 
-pub serves_book : {rules : Rules} {idle_turns : ℕ} {old new : Outsides} {reason : SessionEnd} {history : List Event} → 0 < idle_turns
-    → IsSoloSession rules idle_turns old new reason history
-    → ((turns : List Turn) → old.source.left ≡ Some turns → IsGoodInput (solo_manner rules idle_turns) turns → IsGoodEnd reason)
-    → ServesBook rules idle_turns old new reason history
+pub serves_book : {manner : Manner} {from : List Event} {old new : Outsides} {reason : SessionEnd} {history : List Event} → 0 < manner.idle_turns
+    → IsSessionOn manner from old new reason history
+    → ((turns : List Turn) → old.source.left ≡ Some turns → IsGoodInput manner turns → IsGoodEnd reason)
+    → ServesBook manner from old new reason history
 serves_book waits session good = record { did = session; complete = over_well waits session good }
+
+-- a session over a book of these rules, of which nobody has asked anything yet
+pub on_fresh : {rules : Rules} {idle_turns : ℕ} {from : List Event} {old new : Outsides} {reason : SessionEnd} {history : List Event} → from ≡ event.Start rules ∷ []
+    → ServesBook (solo_manner rules idle_turns) from old new reason history
+    → IsSoloSession rules idle_turns old new reason history × OnGoodInput (solo_manner rules idle_turns) old new (IsWellEnded reason)
+on_fresh {rules = rules} {idle_turns = idle_turns} {old = old} {new = new} {reason = reason} {history = history} is serves =
+    let fresh = subst (λ (h : List Event). ServesBook (solo_manner rules idle_turns) h old new reason history) is serves in
+    (fresh.did, fresh.complete (fresh_has_room rules))

@@ -1,5 +1,5 @@
 -- One session of both roles over a book of its own, from its keeper to its end (this project's own).
-use Rattle.std.specs.Prelude.{◌≡◌, ℕ, Bool, Some, List, [], ◌∷◌}
+use Rattle.std.specs.Prelude.{◌≡◌, ℕ, ◌<◌, Bool, Some, List, [], ◌∷◌, ◌++◌}
 use Rattle.pool_io.specs.declared.turn.Turn.{Turn}
 use Rattle.pool_io.specs.Outside.{AddsBytes, CountsFailure}
 use Rattle.pool_io.specs.Seen.{KeeperSeen, SinkSeen, SourceSeen}
@@ -11,8 +11,10 @@ use Rattle.pool_history.specs.declared.refusals.BookError.{BookError}
 use Rattle.pool_history.specs.declared.refusals.BookError.TheVariants as fault
 use Rattle.pool_history.specs.declared.settings.Rules.{Rules}
 use Rattle.pool_history.specs.Calls.{PoolCall, blames_keeper, has_keeper_failed}
+use Rattle.pool_history.specs.Refusing.{most_enters}
+use Rattle.pool_history.specs.Sessions.{enters, past_of}
 use Rattle.ledger_laws.specs.Keeping.{IsKept}
-use Rattle.share_ledger.specs.Books.{BookSeen, KeepsInstead}
+use Rattle.share_ledger.specs.Books.{KeepsInstead}
 use Rattle.session_steps.specs.declared.ends.SessionEnd.{SessionEnd}
 use Rattle.session_steps.specs.declared.manner.Manner.{Manner}
 use Rattle.session_steps.specs.States.{State, Over, new_state}
@@ -58,24 +60,29 @@ CountsCalls before (call ∷ calls) now =
 
 -- Steps that begin a session of both roles, come to this end and leave this history. They took what
 -- the source brought and put what the sink got; their calls stand each at the whole history before
--- it, are answered by that history, and are all that followed on its Start. It is legal and has
--- records, and the keeper's are its ledger.
-pub record IsSoloSession (rules : Rules) (idle_turns : ℕ) (old new : Outsides)
+-- it, are answered by that history, and are all that followed on the one that was there. What is left
+-- is legal and has records, and the keeper's are its ledger.
+pub record IsSessionOn (manner : Manner) (from : List Event) (old new : Outsides)
     (reason : SessionEnd) (history : List Event) : Type 0 where
   pub steps : List SessionStep
   pub last : State
-  pub follows : Follows sole_worker (new_state (solo_manner rules idle_turns)) steps last
+  pub follows : Follows sole_worker (new_state manner) steps last
   pub over : last.stage ≡ Over reason
   pub took : BringsSteps old.source.left new.source.left (turns_in steps)
   pub ended : TakesAll (has_ended steps) old.source.left (turns_in steps)
   pub put : AddsBytes old.sink.held new.sink.held (bytes_in_steps steps)
-  pub begins : history ≡ event.Start rules ∷ added_in (calls_in steps)
-  pub turns : StandInTurn (event.Start rules ∷ []) (calls_in steps)
+  pub begins : history ≡ from ++ added_in (calls_in steps)
+  pub turns : StandInTurn from (calls_in steps)
   pub kept : IsKept history
   pub ledger : KeepsInstead old.keeper.records new.keeper.records history
   pub reads : CountsFailure (is_read_end reason) old.source.faults new.source.faults
   pub writes : CountsFailure (is_write_end reason) old.sink.faults new.sink.faults
   pub counts : CountsCalls old.keeper.faults (calls_in steps) new.keeper.faults
+
+-- the same over a history of which nobody has asked anything yet
+abbrev pub IsSoloSession : Rules → ℕ → Outsides → Outsides → SessionEnd → List Event → Type 0
+IsSoloSession rules idle_turns old new reason history =
+    IsSessionOn (solo_manner rules idle_turns) (event.Start rules ∷ []) old new reason history
 
 -- the Start wasn't kept: nothing was taken, put or kept
 pub record IsUnbegun (old new : Outsides) (cause : BookError) : Type 0 where
@@ -104,13 +111,17 @@ failures_of outsides = record {
   keeper = outsides.keeper.faults;
 }
 
+-- where good input reaches no limit and nothing failed, this is so
+abbrev pub OnGoodInput : Manner → Outsides → Outsides → Type 0 → Type 0
+OnGoodInput manner old new P =
+    (turns : List Turn) → old.source.left ≡ Some turns → IsGoodInput manner turns
+    → HasNoHindrance manner.idle_turns turns (failures_of old) (failures_of new) → P
+
 -- good input is served to its end, or memory ran out, where nothing else failed and no limit was
 -- reached
 abbrev pub ServesGoodInput : Rules → ℕ → Outsides → Outsides → SoloEnd → Type 0
 ServesGoodInput rules idle_turns old new end =
-    (turns : List Turn) → old.source.left ≡ Some turns
-    → IsGoodInput (solo_manner rules idle_turns) turns
-    → HasNoHindrance idle_turns turns (failures_of old) (failures_of new) → IsServedWell end
+    OnGoodInput (solo_manner rules idle_turns) old new (IsServedWell end)
 
 -- a session over a book of its own, by how it ended; good input is served well
 pub record ServesSession (rules : Rules) (idle_turns : ℕ) (old new : Outsides) (end : SoloEnd) :
@@ -123,23 +134,10 @@ abbrev pub BlamesNoInput : SoloEnd → Type 0
 BlamesNoInput (solo.Unbegun cause) = Unit {0}
 BlamesNoInput (solo.Over reason) = IsGoodEnd reason
 
--- a book of these rules, of which nobody has asked anything
-pub record IsFreshBook (rules : Rules) (rolling : Bool) (book : BookSeen) : Type 0 where
-  pub events : book.events ≡ event.Start rules ∷ []
-  pub rolls : rolling ≡ rules.version_rolling
-
--- a session over a book, and the history that it leaves; good input is served well
-pub record ServesBook (rules : Rules) (idle_turns : ℕ) (old new : Outsides) (reason : SessionEnd)
-    (history : List Event) : Type 0 where
-  pub did : IsSoloSession rules idle_turns old new reason history
-  pub complete : ServesGoodInput rules idle_turns old new (solo.Over reason)
-
--- a session over such a book leaves the book's history
-abbrev pub ServesFreshBook : ℕ → Bool → SourceSeen → SinkSeen → BookSeen → SourceSeen → SinkSeen
-    → BookSeen → SessionEnd → Type 0
-ServesFreshBook idle_turns rolling source sink book source_now sink_now book_now reason =
-    (rules : Rules) → IsFreshBook rules rolling book
-    → ServesBook rules idle_turns
-    (record { source = source; sink = sink; keeper = book.keeper })
-    (record { source = source_now; sink = sink_now; keeper = book_now.keeper }) reason
-    book_now.events
+-- a session over a book of this history, and the history that it leaves; good input is served well
+-- where one session more can enter
+pub record ServesBook (manner : Manner) (from : List Event) (old new : Outsides)
+    (reason : SessionEnd) (history : List Event) : Type 0 where
+  pub did : IsSessionOn manner from old new reason history
+  pub complete : enters (past_of from) < most_enters
+      → OnGoodInput manner old new (IsWellEnded reason)

@@ -6,7 +6,7 @@ ghost use Rattle.pool_history.specs.Accounts.{are_in_range};
 ghost use Rattle.session_loop.specs.Good.{IsGoodEnd, IsGoodInput};
 ghost use Rattle.share_ledger.specs.Books.{IsUnused};
 ghost use Rattle.share_ledger.specs.Recovery.{IsRecoverable};
-ghost use Rattle.solo_session.specs.Solo.{BlamesNoInput, ServesFreshBook, ServesSession, manner_of, solo_manner};
+ghost use Rattle.solo_session.specs.Solo.{BlamesNoInput, ServesBook, ServesSession, manner_of, solo_manner};
 
 use crate::{SoleBook, sole_calls_go_on};
 use pool_core::SessionEnd;
@@ -98,8 +98,8 @@ pub struct ServedBook<S: Source, T: Sink, K: Keeper> {
     pub end: SessionEnd,
 }
 
-/// Serves one session of both roles over a book of which nobody has asked anything, and hands the book
-/// back with the session's history. A miner's bits of the version count where the rules let them roll.
+/// Serves one session of both roles over a book, and hands the book back with the session's history. A
+/// miner's bits of the version count where the rules let them roll.
 pub fn serve_book<S: Source, T: Sink, K: Keeper>(
     alloc: Global,
     book: Book<K>,
@@ -109,8 +109,15 @@ pub fn serve_book<S: Source, T: Sink, K: Keeper>(
     limits: Limits,
 ) -> ServedBook<S, T, K>
     requires waits { 0 < limits.idle_turns }
-    ensures served { ServesFreshBook limits.idle_turns rolling (S.seen source) (T.seen sink)
-        book (S.seen result.source) (T.seen result.sink) result.book result.end }
+    ensures served { ServesBook (manner_of rolling limits.idle_turns) book.events (record {
+      source = S.seen source;
+      sink = T.seen sink;
+      keeper = book.keeper;
+    }) (record {
+      source = S.seen result.source;
+      sink = T.seen result.sink;
+      keeper = result.book.keeper;
+    }) result.end result.book.events }
 
     // Input that is to blame for nothing isn't blamed.
     ensures good { (told : List Turn) → (S.seen source).left ≡ Some told

@@ -6,7 +6,7 @@ use command_line::Word;
 use std::alloc::Global;
 
 /// What a line may begin with. Those from `status` on say what is wanted.
-const KEYS: [&str; 25] = [
+const KEYS: [&str; 31] = [
     "words",
     "sizes",
     "file",
@@ -22,6 +22,10 @@ const KEYS: [&str; 25] = [
     "fail-put",
     "fail-append",
     "fail-accept",
+    "disk",
+    "fail-open-disk",
+    "fail-disk",
+    "stop-disk",
     "status",
     "output",
     "prints",
@@ -32,6 +36,8 @@ const KEYS: [&str; 25] = [
     "held",
     "asked",
     "back",
+    "disks",
+    "on-disk",
 ];
 
 /// A line of a case: its key, and what stands behind it.

@@ -1,10 +1,12 @@
 //! What came of a case, compared with what it wants.
 
 use crate::case::{Case, Line};
+use crate::disks::content_of;
 use crate::expressions::{Names, number};
 use crate::links::GatedLink;
 use crate::outside::CaseNetwork;
 use anyhow::Result;
+use disk_io::MemDisks;
 use pool_io::{MemHost, MemKeeper, Opening};
 use pool_network::Reaching;
 use std::alloc::Global;
@@ -15,6 +17,7 @@ pub struct Outcome<'a> {
     pub status: u8,
     pub host: MemHost,
     pub network: CaseNetwork<'a>,
+    pub disks: MemDisks,
 }
 
 /// What isn't as the case wants it, each behind a blank: the line's key and what was found.
@@ -59,6 +62,8 @@ fn compared(
         "reached" => reached(alloc, outcome.network.calls())?,
         "asked" => asked(alloc, &outcome.network)?,
         "back" => came_back(alloc, outcome)?,
+        "disks" => asked_disks(alloc, &outcome.disks)?,
+        "on-disk" => return against_disk(alloc, names, line.rest, &outcome.disks),
         "held" => return against_held(alloc, names, line.rest, &outcome.network),
         _ => String::from_str(alloc, line.rest)?,
     };
@@ -173,6 +178,32 @@ fn came_back(alloc: Global, outcome: &Outcome<'_>) -> Result<String> {
     let links = outcome.network.links().len();
     let doors = outcome.network.doors().len();
     Ok(format!(in alloc; "{sources} {sinks} {keepers} {links} {doors}")?)
+}
+
+/// The names of the disks that were asked for and how many came back, with a blank between two.
+fn asked_disks(alloc: Global, disks: &MemDisks) -> Result<String> {
+    let mut text = String::new(alloc);
+    for name in disks.calls() {
+        text.push_str(name.text())?;
+        text.push_str(" ")?;
+    }
+    let back = disks.disks().len();
+    text.push_str(format!(in alloc; "{back}")?.as_str())?;
+    Ok(text)
+}
+
+/// What the first disk holds that came back.
+fn against_disk(
+    alloc: Global,
+    names: &Names,
+    line: &str,
+    disks: &MemDisks,
+) -> Result<(String, String)> {
+    let wanted = hex::encode(alloc, &content_of(alloc, names, line)?)?;
+    match disks.disks().first() {
+        Some(disk) => Ok((wanted, hex::encode(alloc, disk.content())?)),
+        None => Ok((wanted, String::from_str(alloc, "of no disk")?)),
+    }
 }
 
 /// `PLACE EXPRESSION`: what the link at the place holds that came back to one who gave it.

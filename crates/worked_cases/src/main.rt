@@ -1,10 +1,11 @@
-//! Runs the top call for each case of the files that the words name, over a host and a network in
-//! memory, and prints a line a case: `ok` and its title, or what isn't as the case wants it. The
+//! Runs the top call for each case of the files that the words name, over a host, a network and
+//! disks in memory, and prints a line a case: `ok` and its title, or what isn't as the case wants it. The
 //! files say all that there is to a case; here stands only how they are read.
 #![tactic(auto)]
 
 mod case;
 mod comparing;
+mod disks;
 mod expressions;
 mod links;
 mod outside;
@@ -98,12 +99,14 @@ fn run_once<R: Threads + Wait + Sync>(
     ];
     let mut host = outside::host_of(alloc, names, case, size)?;
     let mut network = outside::network_of(alloc, names, case, &taken)?;
+    let mut disks = disks::disks_of(alloc, names, case)?;
     let words = case.words(alloc, names)?;
-    let status = run(rt, alloc, &mut host, &mut network, &words);
+    let status = run(rt, alloc, &mut host, &mut network, &mut disks, &words);
     let outcome = Outcome {
         status,
         host,
         network,
+        disks,
     };
     differences(alloc, names, case, &outcome)
 }

@@ -1,4 +1,4 @@
-use Rattle.command_line.proofs.OneForm.{alone, one_form}
+use Rattle.command_line.proofs.OneForm.{alone, off_disk, one_form}
 use Rattle.command_line.proofs.top_call.run.Goals as goal
 
 pub returns-in-Some-clause-does : goal.returns-in-Some-clause-does
@@ -11,6 +11,10 @@ returns-in-Some-clause-does g c = λ form is. record {
 pub returns-in-Some-clause-alone : goal.returns-in-Some-clause-alone
 returns-in-Some-clause-alone g c = λ none. c.perform.ensures.alone (alone c.args.words.now c.in-Some.form c.in-Some.ensures.found none)
 
+pub returns-in-Some-clause-undisked : goal.returns-in-Some-clause-undisked
+returns-in-Some-clause-undisked g c = λ none. c.perform.ensures.undisked (off_disk c.args.words.now c.in-Some.form c.in-Some.ensures.found none)
+
 pub returns-in-Some-clause-counts : goal.returns-in-Some-clause-counts
-returns-in-Some-clause-counts g c = λ none.
-    rw c.code-in-Some.ensures (c.perform.ensures.counts (alone c.args.words.now c.in-Some.form c.in-Some.ensures.found none))
+returns-in-Some-clause-counts g c = λ none undisked.
+    rw c.code-in-Some.ensures
+    (c.perform.ensures.counts (alone c.args.words.now c.in-Some.form c.in-Some.ensures.found none) (off_disk c.args.words.now c.in-Some.form c.in-Some.ensures.found undisked))

@@ -1,15 +1,11 @@
-use Rattle.std.proofs.Common.{ap, subst, sym, ◌∙◌, ◌++◌}
-use Rattle.session_loop.specs.Good.{IsGoodInput}
-use Rattle.session_steps.specs.States.{new_state}
-use Rattle.session_steps.specs.Steps.{Follows, calls_in}
-use Rattle.solo_session.specs.Calling.{CallsBook, StandInTurn, added_in}
-use Rattle.solo_session.specs.Solo.{manner_of, sole_worker}
+use Rattle.session_steps.specs.Steps.{calls_in}
+use Rattle.solo_session.specs.Calling.{CallsBook}
 use Rattle.solo_session.proofs.Chained.{acts_seen, counts_calls}
 use Rattle.solo_session.proofs.Completing.{serves_book}
 use Rattle.solo_session.proofs.serving.serve_book.Goals as goal
 
 pub returns-clause-served : goal.returns-clause-served
-returns-clause-served g c rules fresh =
+returns-clause-served g c =
     let begun = c.args.book in
     let session = c.converse-end.ensures.session in
     let sole = c.converse-end.new.acting in
@@ -19,16 +15,16 @@ returns-clause-served g c rules fresh =
     serves_book c.requires.waits (record {
       steps = session.runs.steps;
       last = session.last;
-      follows = subst (λ b. Follows sole_worker (new_state (manner_of b c.args.limits.idle_turns)) session.runs.steps session.last) fresh.rolls session.runs.follows;
+      follows = session.runs.follows;
       over = session.over;
       took = session.runs.took;
       ended = session.runs.ended;
       put = session.runs.put;
-      begins = goes.grows ∙ ap (λ h. h ++ added_in calls) fresh.events;
-      turns = subst (λ h. StandInTurn h calls) fresh.events goes.turns;
+      begins = goes.grows;
+      turns = goes.turns;
       kept = c.history_is_kept-2.ensures.history;
       ledger = goes.kept c.history_is_kept.ensures.ledger;
       reads = c.converse-end.ensures.reads;
       writes = c.converse-end.ensures.writes;
       counts = counts_calls begun sole.book calls acts;
-    }) (λ turns is input. c.converse-end.ensures.good turns is (subst (λ b. IsGoodInput (manner_of b c.args.limits.idle_turns) turns) (sym fresh.rolls) input))
+    }) c.converse-end.ensures.good

@@ -2,7 +2,7 @@ use Rattle.std.proofs.Common.{refl, subst}
 use Rattle.session_steps.specs.Steps.{calls_in}
 use Rattle.solo_session.specs.Solo.{CountsCalls}
 use Rattle.solo_session.proofs.Chained.{ledger_on}
-use Rattle.solo_session.proofs.Completing.{serves_session, unbegun_well}
+use Rattle.solo_session.proofs.Completing.{on_fresh, serves_session, unbegun_well}
 use Rattle.solo_session.proofs.serving.serve_solo.Goals as goal
 
 pub returns-in-Err-clause-served : goal.returns-in-Err-clause-served
@@ -23,8 +23,8 @@ returns-in-Err-clause-good g c = λ told is input. tt
 
 pub returns-clause-served : goal.returns-clause-served
 returns-clause-served g c =
-    let served = c.serve_book-source.ensures.served c.args.rules (record { events = c.in-Ok.ensures.ok; rolls = refl }) in
-    let session = served.did in
+    let fresh = on_fresh c.in-Ok.ensures.ok c.serve_book-source.ensures.served in
+    let session = fresh.0 in
     serves_session c.serve_book-source.result.book.events c.requires.waits (record {
       steps = session.steps;
       last = session.last;

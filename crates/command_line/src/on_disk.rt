@@ -1,0 +1,143 @@
+//! The commands over a disk, by the names among the words.
+
+ghost use Rattle.std.specs.Prelude.{◌≡◌};
+ghost use Rattle.pool_io.specs.Hosts.{IsHandedBack};
+ghost use Rattle.durable_commands.specs.Auditing.{DurableAuditRow};
+ghost use Rattle.durable_commands.specs.Serving.{DurableServeRow};
+ghost use Rattle.durable_commands.specs.Soloing.{DurableSoloRow};
+ghost use Rattle.command_line.specs.declared.words.OnDisk.TheVariants as command;
+ghost use Rattle.command_line.specs.Forms.{IsDurable, IsDurableAudit, IsDurableServe, IsDurableSolo};
+ghost use Rattle.command_line.specs.Running.{OwesDurableRow, StaysOffNetwork};
+
+use crate::words::{OnDisk, Word, durable_audit_name, durable_serve_names, durable_solo_names};
+use disk_io::Disks;
+use durable_commands::{audit_on_disk, serve_on_disk, solo_on_disk};
+use pool_io::Host;
+use pool_network::{Door, Network};
+use std::alloc::Global;
+use std::sync::Wait;
+use std::thread::Threads;
+use stream_commands::Status;
+
+/// Does what the words ask for over a disk.
+pub(crate) fn durable_named<R: Threads + Wait + Sync, H: Host, N: Network, V: Disks>(
+    rt: &R,
+    alloc: Global,
+    host: &mut H,
+    network: &mut N,
+    disks: &mut V,
+    words: &[Word],
+    command: OnDisk,
+) -> Status
+where
+    N::D: Send,
+    <N::D as Door>::L: Send,
+    V::Z: Send,
+    requires names { IsDurable words.now command }
+    ensures row { OwesDurableRow words.now command (record {
+      host = H.seen host.old;
+      network = N.seen network.old;
+      disks = V.seen disks.old;
+    }) (record {
+      host = H.seen host.new;
+      network = N.seen network.new;
+      disks = V.seen disks.new;
+    }) result }
+    ensures back { IsHandedBack (H.seen host.old) (H.seen host.new) }
+    ensures links { (N.seen network.new).links.lent ≡ (N.seen network.old).links.lent }
+    ensures doors { (N.seen network.new).doors.lent ≡ (N.seen network.old).doors.lent }
+    ensures disks { (V.seen disks.new).disks.lent ≡ (V.seen disks.old).disks.lent }
+    ensures alone { StaysOffNetwork command → N.seen network.new ≡ N.seen network.old }
+{
+    match command {
+        OnDisk::Solo => solo_named(alloc, host, disks, words),
+        OnDisk::Serve => serve_named(rt, alloc, host, network, disks, words),
+        OnDisk::Audit => audit_named(alloc, host, disks, words),
+    }
+}
+
+/// Serves a session by the file and over the disk that the words name.
+fn solo_named<H: Host, V: Disks>(
+    alloc: Global,
+    host: &mut H,
+    disks: &mut V,
+    words: &[Word],
+) -> Status
+    requires names { IsDurableSolo words.now }
+    ensures row { (names : IsDurableSolo words.now) × DurableSoloRow names.settings names.ledger
+        (record { host = H.seen host.old; disks = V.seen disks.old })
+        (record { host = H.seen host.new; disks = V.seen disks.new }) result }
+    ensures back { IsHandedBack (H.seen host.old) (H.seen host.new) }
+    ensures disks { (V.seen disks.new).disks.lent ≡ (V.seen disks.old).disks.lent }
+{
+    match durable_solo_names(words) {
+        Some((settings, ledger)) => {
+            let settings_name = settings.text();
+            let ledger_name = ledger.text();
+            solo_on_disk(alloc, host, disks, settings_name, ledger_name)
+        }
+        None => unreachable!(),
+    }
+}
+
+/// Serves a feed and miners by the file and over the disk that the words name.
+fn serve_named<R: Threads + Wait + Sync, H: Host, N: Network, V: Disks>(
+    rt: &R,
+    alloc: Global,
+    host: &mut H,
+    network: &mut N,
+    disks: &mut V,
+    words: &[Word],
+) -> Status
+where
+    N::D: Send,
+    <N::D as Door>::L: Send,
+    V::Z: Send,
+    requires names { IsDurableServe words.now }
+    ensures row { (names : IsDurableServe words.now) × DurableServeRow names.settings names.ledger
+        (record {
+          host = H.seen host.old;
+          network = N.seen network.old;
+          disks = V.seen disks.old;
+        }) (record {
+          host = H.seen host.new;
+          network = N.seen network.new;
+          disks = V.seen disks.new;
+        }) result }
+    ensures back { IsHandedBack (H.seen host.old) (H.seen host.new) }
+    ensures links { (N.seen network.new).links.lent ≡ (N.seen network.old).links.lent }
+    ensures doors { (N.seen network.new).doors.lent ≡ (N.seen network.old).doors.lent }
+    ensures disks { (V.seen disks.new).disks.lent ≡ (V.seen disks.old).disks.lent }
+{
+    match durable_serve_names(words) {
+        Some((settings, ledger)) => {
+            let settings_name = settings.text();
+            let ledger_name = ledger.text();
+            serve_on_disk(rt, alloc, host, network, disks, settings_name, ledger_name)
+        }
+        None => unreachable!(),
+    }
+}
+
+/// Audits the ledger on the disk that the words name.
+fn audit_named<H: Host, V: Disks>(
+    alloc: Global,
+    host: &mut H,
+    disks: &mut V,
+    words: &[Word],
+) -> Status
+    requires names { IsDurableAudit words.now }
+    ensures row { (name : IsDurableAudit words.now) × DurableAuditRow name.ledger
+        (record { host = H.seen host.old; disks = V.seen disks.old })
+        (record { host = H.seen host.new; disks = V.seen disks.new }) result }
+    ensures back { IsHandedBack (H.seen host.old) (H.seen host.new) }
+    ensures disks { (V.seen disks.new).disks.lent ≡ (V.seen disks.old).disks.lent }
+{
+    match durable_audit_name(words) {
+        Some(ledger) => {
+            let ledger_name = ledger.text();
+            audit_on_disk(alloc, host, disks, ledger_name)
+        }
+        None => unreachable!(),
+    }
+}

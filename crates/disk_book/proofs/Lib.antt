@@ -1,0 +1,4 @@
+pub mod GoneOn
+pub mod Leaves
+pub mod Opened
+pub mod StartOf

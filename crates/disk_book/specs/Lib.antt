@@ -1,0 +1,4 @@
+pub mod Books
+pub mod Causes
+pub mod Leaving
+pub mod Laws

@@ -1,0 +1,13 @@
+//! A book whose ledger stands on a disk: begun where no record is found there, and gone on with where
+//! some are. Nothing here touches a real file.
+#![tactic(auto)]
+
+mod cause;
+mod laws;
+mod leaving;
+mod ready;
+mod starting;
+
+pub use cause::NoBook;
+pub use laws::{crashes_are_gone_on_with, next_runs_go_on};
+pub use ready::{open_ledger, ready_book};

@@ -1,0 +1,6 @@
+pub mod Given
+pub mod Sessions
+pub mod Statuses
+pub mod Soloing
+pub mod Serving
+pub mod Auditing

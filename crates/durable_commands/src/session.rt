@@ -1,0 +1,87 @@
+//! One session of both roles over a book on a disk.
+
+ghost use Rattle.std.specs.Prelude.{◌≡◌, ◌<◌, IsTrue, List, Some};
+ghost use Rattle.pool_io.specs.declared.turn.Turn.{Turn};
+ghost use Rattle.pool_history.specs.Accounts.{are_in_range};
+ghost use Rattle.session_loop.specs.Good.{IsGoodInput};
+ghost use Rattle.solo_session.specs.Solo.{solo_manner};
+ghost use Rattle.disk_book.specs.Books.{IsJustOpened};
+ghost use Rattle.durable_commands.specs.Sessions.{BlamesNoInput, ServesOnDisk};
+
+use disk_book::{NoBook, ready_book};
+use disk_io::Disk;
+use pool_core::SessionEnd;
+use pool_history::Rules;
+use pool_io::{Limits, Sink, Source};
+use solo_session::{ServedBook, serve_book};
+use std::alloc::Global;
+
+/// How it ended.
+#[derive(Clone, Copy, Debug, PartialEq, Eq)]
+pub enum DiskEnd {
+    /// There was no book that can be served on.
+    NoBook(NoBook),
+    /// The session is over.
+    Over(SessionEnd),
+}
+
+/// All that was given, and how it ended.
+pub struct ServedDisk<S: Source, T: Sink, D: Disk> {
+    pub source: S,
+    pub sink: T,
+    pub disk: D,
+    pub end: DiskEnd,
+}
+
+/// Serves one session of both roles by the book on a disk that was just opened: a new one of these
+/// rules, or the one that is there.
+pub fn serve_disk<S: Source, T: Sink, D: Disk>(
+    alloc: Global,
+    rules: Rules,
+    disk: D,
+    source: S,
+    sink: T,
+    limits: Limits,
+) -> ServedDisk<S, T, D>
+    requires rules { IsTrue (are_in_range rules) }
+    requires opened { IsJustOpened (D.seen disk) }
+    requires waits { 0 < limits.idle_turns }
+    ensures served { ServesOnDisk rules limits.idle_turns (record {
+      source = S.seen source;
+      sink = T.seen sink;
+      disk = D.seen disk;
+    }) (record {
+      source = S.seen result.source;
+      sink = T.seen result.sink;
+      disk = D.seen result.disk;
+    }) result.end }
+
+    // Input that is to blame for nothing isn't blamed.
+    ensures good { (told : List Turn) → (S.seen source).left ≡ Some told
+        → IsGoodInput (solo_manner rules limits.idle_turns) told → BlamesNoInput result.end }
+{
+    let rolling = rules.version_rolling;
+    match ready_book(alloc, rules, disk) {
+        Ok(book) => {
+            let ServedBook {
+                source,
+                sink,
+                book,
+                end,
+            } = serve_book(alloc, book, source, sink, rolling, limits);
+            let (ledger, _history) = book.into_parts();
+            ServedDisk {
+                source,
+                sink,
+                disk: ledger.into_disk(),
+                end: DiskEnd::Over(end),
+            }
+        }
+        Err((disk, cause)) => ServedDisk {
+            source,
+            sink,
+            disk,
+            end: DiskEnd::NoBook(cause),
+        },
+    }
+}
