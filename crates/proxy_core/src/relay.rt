@@ -8,7 +8,7 @@ use crate::frames::message_in;
 use crate::jobs::{RelayedJob, RelayedTip, add_job, tip_jobs};
 use crate::miners::Miner;
 use crate::opening::{put_opening, terms_of};
-use crate::sharing::{UpShare, sent_from};
+use crate::sharing::sent_from;
 use crate::subscribing::{offer, subscribe_at};
 use crate::waiting::{SentOn, Verdict, answer_those, forget, say_code_at};
 use mining_msgs::{
@@ -329,10 +329,9 @@ impl Relay {
         ensures { IfOk result (λ done. self.new ≡ steps.shared_from self.old caller share.now
             (callers.session_of caller self.old.miners)) }
     {
-        let asked = share.as_sent();
         let seat = seat_of(self.miners.as_slice(), caller);
-        let sent = sent_from(self.alloc, self.is_ended, self.sent, &asked, seat)?;
-        match take_share(&mut self.miners, caller, asked.sequence) {
+        let sent = sent_from(self.alloc, self.is_ended, self.sent, share, seat)?;
+        match take_share(&mut self.miners, caller, share.sequence()) {
             Some(id) => self.send(caller, id, sent),
             None => Ok(()),
         }
@@ -343,7 +342,7 @@ impl Relay {
         &mut self,
         caller: u32,
         id: LineId,
-        sent: Result<UpShare, ProxyRefusal>,
+        sent: Result<CheckedShare, ProxyRefusal>,
     ) -> Result<(), AllocError>
         requires { ForOk sent (λ share. self.old.sent < steps.most_sent) }
         ensures { IfOk result (λ done. self.new ≡ steps.shared self.old caller id sent) }
@@ -357,7 +356,7 @@ impl Relay {
     }
 
     /// Sends a share upstream, where it waits.
-    fn send_up(&mut self, caller: u32, id: LineId, share: &UpShare) -> Result<(), AllocError>
+    fn send_up(&mut self, caller: u32, id: LineId, share: &CheckedShare) -> Result<(), AllocError>
         requires { self.old.sent < steps.most_sent }
         ensures { IfOk result (λ done. self.new ≡ steps.shared self.old caller id (Ok share.now)) }
     {

@@ -174,7 +174,7 @@ AreNumbered number [] = Unit {0}
 AreNumbered number (share ∷ shares) = (share.sequence ≡ number) × AreNumbered (number + 1) shares
 
 -- what goes upstream is the setup and these messages; the submissions among them are those of lines,
--- one at most of each, with the sequence numbers from 0 on
+-- with the sequence numbers from 0 on
 pub record GoesUp (user : List ℕ) (base : ℕ) (inputs : List ProxyEvent) : Type 0 where
   pub output : (after (started user base) inputs).output
       ≡ (started user base).output

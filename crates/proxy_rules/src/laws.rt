@@ -26,8 +26,8 @@ pub fn spaces_are_apart()
     ensures { SpacesAreApart }
 {}
 
-/// What goes upstream is the setup, one opening at most, and submissions: each is that of one line,
-/// and has the next sequence number.
+/// What goes upstream is the setup and messages, of which the submissions are those of lines, each with
+/// the next sequence number.
 pub fn submissions_are_of_lines()
     ensures { SubmissionsAreOfLines }
 {}

@@ -9,7 +9,7 @@ use crate::step::V1Step;
 use pool_history::Class;
 use std::alloc::AllocError;
 use sv2_types::Str255;
-use v1_rules::{open_message, share_message, update_message};
+use v1_rules::{open_message, update_message};
 
 /// What a session asks of the pool.
 #[derive(Drop)]
@@ -61,12 +61,9 @@ fn ask_update(channel: u32, class: u8, up: &mut Vec<u8>) -> Result<V1Step, Alloc
 }
 
 /// Appends a share.
-#[tactic(auto, using(crate::proofs::Fitting::share_fits), unfolding(crate::specs::Saying::frame_of_message))]
 fn ask_share(share: &CheckedShare, up: &mut Vec<u8>) -> Result<V1Step, AllocError>
     ensures { IfOk result (λ step. Asks (state.Share share.now) step up.old.items up.new.items) }
 {
-    let sent = share.as_sent();
-    let message = (share_message(&sent),);
-    message.0.frame(up)?;
+    share.put(up)?;
     Ok(V1Step::Sent)
 }

@@ -12,7 +12,7 @@ use std::alloc::{AllocError, Global};
 use std::marker::Model;
 use sv2_types::Str255;
 use v1_lines::V1Error;
-use v1_rules::SentShare;
+use v1_rules::{SentShare, share_message};
 
 /// A submission that may be sent on, with at most 32 bytes of extranonce.
 #[derive(Drop)]
@@ -47,9 +47,58 @@ impl Model for CheckedShare {
 }
 
 impl CheckedShare {
-    ghost use Rattle.std.specs.Prelude.{◌≡◌};
+    ghost use Rattle.std.specs.Prelude.{◌≡◌, ◌++◌, ◌≤◌, IfOk, length};
+    ghost use Rattle.v1_rules.specs.Asked as asked;
     ghost use Rattle.v1_rules.specs.Submitting.{share_of};
+    ghost use Rattle.v1_translate.specs.Saying.{frame_of_message};
     ghost use Rattle.v1_translate.specs.Small.{IsSmall};
+
+    /// The number that its answer names.
+    pub fn sequence(&self) -> u32
+        ensures { result ≡ self.now.sequence }
+    {
+        self.sequence
+    }
+
+    /// What was rolled: at most 32 bytes.
+    pub fn extranonce(&self) -> &[u8]
+        ensures same { result.now ≡ self.now.extranonce }
+        ensures short { length result.now ≤ 32 }
+    {
+        self.extranonce.as_slice()
+    }
+
+    /// The same work on another channel, under another number and with another extranonce.
+    pub fn passed_on(&self, channel: u32, sequence: u32, extranonce: Vec<u8>) -> CheckedShare
+        requires short { length extranonce.items ≤ 32 }
+        ensures { result ≡ record self.now {
+          channel = channel;
+          sequence = sequence;
+          extranonce = extranonce.items;
+        } }
+    {
+        CheckedShare {
+            channel,
+            sequence,
+            job: self.job,
+            nonce: self.nonce,
+            ntime: self.ntime,
+            version: self.version,
+            extranonce,
+        }
+    }
+
+    /// Appends its frame.
+    #[tactic(auto, using(crate::proofs::Fitting::share_fits), unfolding(crate::specs::Saying::frame_of_message))]
+    pub fn put(&self, out: &mut Vec<u8>) -> Result<(), AllocError>
+        ensures { IfOk result (λ done. out.new.items
+            ≡ out.old.items ++ frame_of_message (asked.share_message self.now)) }
+    {
+        let sent = self.as_sent();
+        // In a tuple, since no proof covers a local of an enum whose structs borrow.
+        let message = (share_message(&sent),);
+        message.0.frame(out)
+    }
 
     /// The share itself, which takes no memory.
     pub fn as_sent(&self) -> SentShare<'_>
