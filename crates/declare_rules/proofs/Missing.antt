@@ -1,10 +1,12 @@
--- A list is filled at once exactly where no place is missing.
+-- A list is filled at once exactly where no place is missing, and a declaration waits where one is.
 use Rattle.std.proofs.Common.{◌≡◌, ℕ, ◌+◌, None, Some, Option, List, [], ◌∷◌, refl}
-use Rattle.std.specs.Prelude.{IsSome, is_some, if◌then◌else◌}
+use Rattle.std.specs.Prelude.{IsSome, true, false, is_some, if◌then◌else◌}
 use Rattle.declare_rules.specs.declared.ids.Listed.{Listed}
 use Rattle.declare_rules.specs.declared.ids.TxIds.{TxIds}
+use Rattle.declare_rules.specs.Declaring.{accepted, by_listed, waits}
 use Rattle.declare_rules.specs.Filling.{and_others, filled, filled_entry, missing_from}
 use Rattle.declare_rules.specs.Laws.{ListsWaitForMissing}
+use Rattle.declare_rules.specs.State.{Declaration, DeclareState}
 
 some_others : (wtxid txid : List ℕ) (later : Option (List TxIds)) → IsSome later
     → IsSome (and_others wtxid (Some txid) later)
@@ -47,5 +49,23 @@ filled_whole place [] none = refl
 filled_whole place (entry ∷ later) none =
     back entry.wtxid entry.txid place later (filled_whole (place + 1) later) none
 
+-- by what fills the list
+waits_by : (state : DeclareState) (declaration : Declaration) (found : Option (List TxIds))
+    → (IsSome found → ⊥) → by_listed state declaration found ≡ waits state declaration
+waits_by state declaration None none = refl
+waits_by state declaration (Some transactions) none = absurd (none refl)
+
+accepted_by : (state : DeclareState) (declaration : Declaration) (found : Option (List TxIds))
+    → IsSome found → (transactions : List TxIds) × (by_listed state declaration found
+    ≡ accepted state declaration.request_id declaration.identity transactions)
+accepted_by state declaration None some = absurd (let never : false ≡ true = some in cc)
+accepted_by state declaration (Some transactions) some = (transactions, refl)
+
 pub lists_wait : ListsWaitForMissing
-lists_wait listed = (whole 0 listed, filled_whole 0 listed)
+lists_wait state declaration =
+    let found = filled declaration.listed [] in
+    record {
+      waiting = λ missing. waits_by state declaration found
+          (λ some. missing (whole 0 declaration.listed some));
+      whole = λ none. accepted_by state declaration found (filled_whole 0 declaration.listed none);
+    }

@@ -1,5 +1,5 @@
 -- What holds of each session that declares jobs (this project's own).
-use Rattle.std.specs.Prelude.{◌≡◌, ◌++◌, ℕ, ◌↔◌, Some, IsSome, Ok, List, [], ◌∷◌, map}
+use Rattle.std.specs.Prelude.{◌≡◌, ◌++◌, ℕ, true, Some, Ok, List, [], ◌∷◌, map}
 use Rattle.std.specs.List.{AllByRecursion}
 use Rattle.sv2_types.specs.Fields.{Number, Bytes, Parts}
 use Rattle.sv2_messages.specs.declared.kinds.TheConstants as kinds
@@ -10,14 +10,13 @@ use Rattle.merkle_trees.specs.Tree.{path}
 use Rattle.pool_history.specs.declared.replies.Reply.TheVariants as reply
 use Rattle.declare_rules.specs.declared.asked.Asked.TheVariants.{Token}
 use Rattle.declare_rules.specs.declared.asked.Given.{Given}
-use Rattle.declare_rules.specs.declared.ids.Listed.{Listed}
 use Rattle.declare_rules.specs.declared.ids.TxIds.{TxIds}
-use Rattle.declare_rules.specs.Declaring.{AsksGrant}
-use Rattle.declare_rules.specs.Filling.{filled, missing_places}
+use Rattle.declare_rules.specs.Declaring.{AsksGrant, accepted, by_coinbase, waits}
+use Rattle.declare_rules.specs.Filling.{missing_places}
 use Rattle.declare_rules.specs.Moves.{DeclareMove, Heard, declared_answer, given, state_after, waiting}
-use Rattle.declare_rules.specs.State.{Declaration}
+use Rattle.declare_rules.specs.State.{Declaration, DeclareState}
 
--- both are ids of one transaction, which was read
+-- both are ids of one transaction
 pub record AreIds (wtxid txid : List ℕ) : Type 0 where
   pub tx : Tx
   pub bytes : List ℕ
@@ -57,10 +56,18 @@ abbrev pub AllAskedPathsAreOfTransactions : Type 0
 AllAskedPathsAreOfTransactions =
     (past : List DeclareMove) → AskedPathsAreOfTransactions past
 
--- nothing more is needed exactly where no place is missing
+-- a declaration with a good token and coinbase waits where a place of its list is missing, and is
+-- accepted where none is
+pub record WaitsForMissing (state : DeclareState) (declaration : Declaration) : Type 0 where
+  pub waiting : (missing_places declaration.listed ≡ [] → ⊥)
+      → by_coinbase state true declaration ≡ waits state declaration
+  pub whole : missing_places declaration.listed ≡ [] → (transactions : List TxIds)
+      × (by_coinbase state true declaration
+      ≡ accepted state declaration.request_id declaration.identity transactions)
+
 abbrev pub ListsWaitForMissing : Type 0
 ListsWaitForMissing =
-    (listed : List Listed) → IsSome (filled listed []) ↔ (missing_places listed ≡ [])
+    (state : DeclareState) (declaration : Declaration) → WaitsForMissing state declaration
 
 -- a token was granted to this user when the session had asked for one last, and not for a declaration
 pub record WasGranted (past : List DeclareMove) (grant : Given) : Type 0 where

@@ -2,13 +2,14 @@
 
 ghost use Rattle.declare_rules.specs.Laws.{AllAskedPathsAreOfTransactions, GivenWereGranted, ListsWaitForMissing};
 
-/// Each path that a Grant is asked for is that of the ids of the transactions which its declaration
-/// lists by their witness ids, in their order, each of which was read.
+/// Each path that a Grant is asked for is that of the ids of transactions, which have the witness ids
+/// that its declaration lists, in their order.
 pub fn asked_paths_are_of_transactions()
     ensures { AllAskedPathsAreOfTransactions }
 {}
 
-/// A declaration waits exactly where a place of its list is missing.
+/// A declaration with a good token and coinbase waits where a place of its list is missing, and is
+/// accepted where none is.
 pub fn lists_wait_for_missing()
     ensures { ListsWaitForMissing }
 {}
