@@ -9,8 +9,9 @@ use Rattle.fixed_command.specs.Duty.{share_duty}
 use Rattle.frames_command.specs.Duty.{listing_duty}
 use Rattle.ledger_commands.specs.Migrating.{MigrateRow}
 use Rattle.durable_commands.specs.Auditing.{DurableAuditRow}
-use Rattle.durable_commands.specs.Serving.{DurableServeRow, Surroundings, world_in}
+use Rattle.durable_commands.specs.Serving.{DurableServeRow}
 use Rattle.durable_commands.specs.Soloing.{DurableSoloRow, HostAndDisks}
+use Rattle.durable_commands.specs.Surroundings.{Surroundings, world_in}
 use Rattle.feed_command.specs.Row.{FeedRow}
 use Rattle.load_command.specs.Row.{LoadRow}
 use Rattle.mine_command.specs.Row.{MineRow}
@@ -88,7 +89,7 @@ pub record DoesForm (words : List (List ℕ)) (form : Form) (old new : Surroundi
   pub told_as : answer ≡ status_code status
   pub owed : OwesRow words form old new status
 
--- so does none of them at an address but `durable serve`
+-- of the commands over a disk none asks for anything at an address but `durable serve`
 abbrev pub StaysOffNetwork : OnDisk → Type 0
 StaysOffNetwork disk.Solo = Unit {0}
 StaysOffNetwork disk.Serve = ⊥

@@ -5,6 +5,7 @@ ghost use Rattle.pool_io.specs.Hosts.{IsHandedBack};
 ghost use Rattle.durable_commands.specs.Auditing.{DurableAuditRow};
 ghost use Rattle.durable_commands.specs.Serving.{DurableServeRow};
 ghost use Rattle.durable_commands.specs.Soloing.{DurableSoloRow};
+ghost use Rattle.durable_commands.specs.Surroundings.{IsAllBack, around};
 ghost use Rattle.command_line.specs.declared.words.OnDisk.TheVariants as command;
 ghost use Rattle.command_line.specs.Forms.{IsDurable, IsDurableAudit, IsDurableServe, IsDurableSolo};
 ghost use Rattle.command_line.specs.Running.{OwesDurableRow, StaysOffNetwork};
@@ -34,19 +35,11 @@ where
     <N::D as Door>::L: Send,
     V::Z: Send,
     requires names { IsDurable words.now command }
-    ensures row { OwesDurableRow words.now command (record {
-      host = H.seen host.old;
-      network = N.seen network.old;
-      disks = V.seen disks.old;
-    }) (record {
-      host = H.seen host.new;
-      network = N.seen network.new;
-      disks = V.seen disks.new;
-    }) result }
-    ensures back { IsHandedBack (H.seen host.old) (H.seen host.new) }
-    ensures links { (N.seen network.new).links.lent ≡ (N.seen network.old).links.lent }
-    ensures doors { (N.seen network.new).doors.lent ≡ (N.seen network.old).doors.lent }
-    ensures disks { (V.seen disks.new).disks.lent ≡ (V.seen disks.old).disks.lent }
+    ensures row { OwesDurableRow words.now command
+        (around (H.seen host.old) (N.seen network.old) (V.seen disks.old))
+        (around (H.seen host.new) (N.seen network.new) (V.seen disks.new)) result }
+    ensures back { IsAllBack (around (H.seen host.old) (N.seen network.old) (V.seen disks.old))
+        (around (H.seen host.new) (N.seen network.new) (V.seen disks.new)) }
     ensures alone { StaysOffNetwork command → N.seen network.new ≡ N.seen network.old }
 {
     match command {
@@ -95,19 +88,10 @@ where
     V::Z: Send,
     requires names { IsDurableServe words.now }
     ensures row { (names : IsDurableServe words.now) × DurableServeRow names.settings names.ledger
-        (record {
-          host = H.seen host.old;
-          network = N.seen network.old;
-          disks = V.seen disks.old;
-        }) (record {
-          host = H.seen host.new;
-          network = N.seen network.new;
-          disks = V.seen disks.new;
-        }) result }
-    ensures back { IsHandedBack (H.seen host.old) (H.seen host.new) }
-    ensures links { (N.seen network.new).links.lent ≡ (N.seen network.old).links.lent }
-    ensures doors { (N.seen network.new).doors.lent ≡ (N.seen network.old).doors.lent }
-    ensures disks { (V.seen disks.new).disks.lent ≡ (V.seen disks.old).disks.lent }
+        (around (H.seen host.old) (N.seen network.old) (V.seen disks.old))
+        (around (H.seen host.new) (N.seen network.new) (V.seen disks.new)) result }
+    ensures back { IsAllBack (around (H.seen host.old) (N.seen network.old) (V.seen disks.old))
+        (around (H.seen host.new) (N.seen network.new) (V.seen disks.new)) }
 {
     match durable_serve_names(words) {
         Some((settings, ledger)) => {

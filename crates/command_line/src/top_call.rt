@@ -10,6 +10,7 @@ ghost use Rattle.feed_command.specs.Row.{FeedRow};
 ghost use Rattle.mine_command.specs.Row.{MineRow};
 ghost use Rattle.serve_command.specs.Row.{ServeRow};
 ghost use Rattle.pool_io.specs.Hosts.{IsHandedBack};
+ghost use Rattle.durable_commands.specs.Surroundings.{IsAllBack, IsWorldBack, around};
 ghost use Rattle.solo_command.specs.Row.{SoloRow};
 ghost use Rattle.command_line.specs.declared.words.Form.{Form as Asked};
 ghost use Rattle.command_line.specs.Forms.{AskAtAddress, AskForDisk, HasNoForm, IsAudit, IsDurable, IsDurableAudit, IsDurableServe, IsDurableSolo, IsFeed, IsForm, IsMigrate, IsMine, IsServe, IsSolo};
@@ -56,38 +57,24 @@ where
     // that the words ask for, in their order, up to the first that was refused or to the step at which
     // the command ended.
     ensures does { (form : Asked) → IsForm words.now form → DoesForm
-        words.now form (record {
-          host = H.seen host.old;
-          network = N.seen network.old;
-          disks = V.seen disks.old;
-        }) (record {
-          host = H.seen host.new;
-          network = N.seen network.new;
-          disks = V.seen disks.new;
-        }) result }
+        words.now form
+        (around (H.seen host.old) (N.seen network.old) (V.seen disks.old))
+        (around (H.seen host.new) (N.seen network.new) (V.seen disks.new)) result }
 
     // So for each words: 2, or a form that they have was done.
     ensures formed { (result ≡ 2) ⊎ ((form : Asked) × IsForm words.now form × DoesForm
-        words.now form (record {
-          host = H.seen host.old;
-          network = N.seen network.old;
-          disks = V.seen disks.old;
-        }) (record {
-          host = H.seen host.new;
-          network = N.seen network.new;
-          disks = V.seen disks.new;
-        }) result) }
+        words.now form
+        (around (H.seen host.old) (N.seen network.old) (V.seen disks.old))
+        (around (H.seen host.new) (N.seen network.new) (V.seen disks.new)) result) }
 
     // Whatever the words: there are no other statuses, and everything that was given has come back.
     // Nothing but `serve`, durable or not, `mine` and `feed` asks for anything at an address, and
     // nothing but the durable commands for a disk; where the words are none of all these, 7 is answered
     // exactly where the host's count rose, by one.
     ensures statuses { (status : Answer) × (result ≡ status_code status) }
-    ensures back { IsHandedBack (H.seen host.old) (H.seen host.new) }
-    ensures links { (N.seen network.new).links.lent ≡ (N.seen network.old).links.lent }
-    ensures doors { (N.seen network.new).doors.lent ≡ (N.seen network.old).doors.lent }
+    ensures back { IsAllBack (around (H.seen host.old) (N.seen network.old) (V.seen disks.old))
+        (around (H.seen host.new) (N.seen network.new) (V.seen disks.new)) }
     ensures alone { (AskAtAddress words.now → ⊥) → N.seen network.new ≡ N.seen network.old }
-    ensures disks { (V.seen disks.new).disks.lent ≡ (V.seen disks.old).disks.lent }
     ensures undisked { (AskForDisk words.now → ⊥) → V.seen disks.new ≡ V.seen disks.old }
     ensures counts { (AskAtAddress words.now → ⊥) → (AskForDisk words.now → ⊥)
         → CountsFailure (result == 7) (H.seen host.old).streams.faults
@@ -117,20 +104,11 @@ where
     requires limits { IsWithinLimits form }
     requires names { IsForm words.now form }
     ensures row { OwesRow words.now form
-        (record {
-          host = H.seen host.old;
-          network = N.seen network.old;
-          disks = V.seen disks.old;
-        }) (record {
-          host = H.seen host.new;
-          network = N.seen network.new;
-          disks = V.seen disks.new;
-        }) result }
-    ensures back { IsHandedBack (H.seen host.old) (H.seen host.new) }
-    ensures links { (N.seen network.new).links.lent ≡ (N.seen network.old).links.lent }
-    ensures doors { (N.seen network.new).doors.lent ≡ (N.seen network.old).doors.lent }
+        (around (H.seen host.old) (N.seen network.old) (V.seen disks.old))
+        (around (H.seen host.new) (N.seen network.new) (V.seen disks.new)) result }
+    ensures back { IsAllBack (around (H.seen host.old) (N.seen network.old) (V.seen disks.old))
+        (around (H.seen host.new) (N.seen network.new) (V.seen disks.new)) }
     ensures alone { IsAlone form → N.seen network.new ≡ N.seen network.old }
-    ensures disks { (V.seen disks.new).disks.lent ≡ (V.seen disks.old).disks.lent }
     ensures undisked { IsOffDisk form → V.seen disks.new ≡ V.seen disks.old }
     ensures counts { IsAlone form → IsOffDisk form → CountsFailure (status_code result == 7)
         (H.seen host.old).streams.faults (H.seen host.new).streams.faults }
@@ -168,9 +146,9 @@ where
         names.settings names.ledger
         (record { host = H.seen host.old; network = N.seen network.old })
         (record { host = H.seen host.new; network = N.seen network.new }) result }
-    ensures back { IsHandedBack (H.seen host.old) (H.seen host.new) }
-    ensures links { (N.seen network.new).links.lent ≡ (N.seen network.old).links.lent }
-    ensures doors { (N.seen network.new).doors.lent ≡ (N.seen network.old).doors.lent }
+    ensures back { IsWorldBack
+        (record { host = H.seen host.old; network = N.seen network.old })
+        (record { host = H.seen host.new; network = N.seen network.new }) }
 {
     match serve_names(words) {
         Some((settings, ledger)) => {
@@ -196,9 +174,9 @@ fn mine_named<H: Host, N: Network>(
         (record { user = names.user; class = class; count = count })
         (record { host = H.seen host.old; network = N.seen network.old })
         (record { host = H.seen host.new; network = N.seen network.new }) result }
-    ensures back { IsHandedBack (H.seen host.old) (H.seen host.new) }
-    ensures links { (N.seen network.new).links.lent ≡ (N.seen network.old).links.lent }
-    ensures doors { (N.seen network.new).doors.lent ≡ (N.seen network.old).doors.lent }
+    ensures back { IsWorldBack
+        (record { host = H.seen host.old; network = N.seen network.old })
+        (record { host = H.seen host.new; network = N.seen network.new }) }
 {
     match words {
         [_, address, user, _, _] => {
@@ -221,9 +199,9 @@ fn feed_named<H: Host, N: Network>(
     ensures row { (names : IsFeed words.now) × FeedRow names.script names.address
         (record { host = H.seen host.old; network = N.seen network.old })
         (record { host = H.seen host.new; network = N.seen network.new }) result }
-    ensures back { IsHandedBack (H.seen host.old) (H.seen host.new) }
-    ensures links { (N.seen network.new).links.lent ≡ (N.seen network.old).links.lent }
-    ensures doors { (N.seen network.new).doors.lent ≡ (N.seen network.old).doors.lent }
+    ensures back { IsWorldBack
+        (record { host = H.seen host.old; network = N.seen network.old })
+        (record { host = H.seen host.new; network = N.seen network.new }) }
 {
     match feed_names(words) {
         Some((script, address)) => {

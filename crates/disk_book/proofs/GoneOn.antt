@@ -17,7 +17,7 @@ use Rattle.ledger_laws.specs.WellFormed.{CanBeKept}
 use Rattle.ledger_resume.specs.Histories.{IsHistoryOf}
 use Rattle.share_ledger.specs.Recovery.{LeavesFront, Recovers, pieces_of}
 use Rattle.share_ledger.specs.Books.{BookSeen}
-use Rattle.disk_book.specs.Books.{GoesOn, IsBegun, IsReady, LeavesFronts}
+use Rattle.disk_book.specs.Books.{GoesOnFromRecords, IsBegun, IsReadyBook, LeavesFronts}
 use Rattle.disk_book.specs.Laws.{AreGoneOnWith, CrashesAreGoneOnWith, LeftBy, NextRunsGoOn}
 use Rattle.disk_book.specs.declared.leaving.TheConstants.{WORKERS}
 use Rattle.disk_book.proofs.Leaves.{leave_begins}
@@ -98,7 +98,7 @@ module _ (gone : CrashesAreGoneOnWith) (one : LedgersAreOfOneHistory) where
   same_history records past other is also = one past other is.kept.has_ledger also.kept.has_ledger (ap (λ (rs : List (List ℕ)). flat_map (λ (piece : List ℕ). piece) rs) (sym is.pieces ∙ also.pieces))
 
   made_on : (rules : Rules) (records : List (List ℕ)) (history events : List Event) (count : ℕ) (found : AreGoneOnWith history count records)
-      → IsBegun rules records events ⊎ GoesOn rules records events → ((records ≡ []) × (found.past ≡ [])) ⊎ IsHistoryOf records found.past
+      → IsBegun rules records events ⊎ GoesOnFromRecords rules records events → ((records ≡ []) × (found.past ≡ [])) ⊎ IsHistoryOf records found.past
       → Begins (take count history) events
   made_on rules records history events count found (inl begun) (inl none) = none_begins (take count history) events found.past found.answered none.1
   made_on rules records history events count found (inl begun) (inr is) =

@@ -9,7 +9,7 @@ use Rattle.pool_history.specs.declared.events.Event.{Event}
 use Rattle.pool_history.specs.declared.settings.Rules.{Rules}
 use Rattle.share_ledger.specs.Books.{BookSeen, KeepsInstead, KeepsLedger}
 use Rattle.disk_book.specs.declared.cause.NoBook.{NoBook}
-use Rattle.disk_book.specs.Books.{AreOfPool, IsNotMadeOf, IsUnended, keeper_on}
+use Rattle.disk_book.specs.Books.{AreOfPool, IsNotMadeOf, HasUnendedSession, keeper_on}
 use Rattle.disk_book.specs.Causes.{is_disk_fault}
 use Rattle.disk_book.specs.Leaving.{IsAskedToLeave, LeaveUpTo}
 
@@ -41,7 +41,7 @@ leave_begins (suc worker) old new left =
 
 -- where a Leave wasn't answered there is no book
 pub not_left : {B D : Type 0} (seen : D → DiskSeen) (rules : Rules) (ledger : DiskSeen) (records : List (List ℕ)) (book : BookSeen) (result : Result B (D × NoBook))
-    → AreOfPool rules records book.events → book.keeper ≡ keeper_on ledger → IfErr result (λ back. IsUnended book (seen back.0) back.1)
+    → AreOfPool rules records book.events → book.keeper ≡ keeper_on ledger → IfErr result (λ back. HasUnendedSession book (seen back.0) back.1)
     → IfErr result (λ back. IsNotMadeOf rules ledger records (seen back.0) back.1)
 not_left seen rules ledger records book (Ok made) of_pool same stands = tt
 not_left seen rules ledger records book (Err back) of_pool same stands = inr (inr (record {

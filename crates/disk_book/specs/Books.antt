@@ -46,7 +46,7 @@ LeavesJustFound old new =
     WhereTold old.log (λ log. FindsJust (entries_on (last_content log)) (MayFind log) (MayBeFound new))
 
 -- the ledger on a disk was opened: it holds these records, and a crash at any moment leaves just them
-pub record IsOpened (disk ledger : DiskSeen) (records : List (List ℕ)) : Type 0 where
+pub record IsOpenedLedger (disk ledger : DiskSeen) (records : List (List ℕ)) : Type 0 where
   pub holds : WhereTold disk.log (λ log. Opens (last_content log) (Some records))
   pub told : entries_told ledger ≡ option_map (λ log. records) disk.log
   pub settled : IsSettledWith (counts_told ledger) (MayBeFound ledger) records
@@ -75,7 +75,7 @@ pub record IsBegun (rules : Rules) (records : List (List ℕ)) (events : List Ev
   pub begins : events ≡ event.Start rules ∷ []
 
 -- the history of the records went on, once each worker's Leave was answered
-pub record GoesOn (rules : Rules) (records : List (List ℕ)) (events : List Event) : Type 0 where
+pub record GoesOnFromRecords (rules : Rules) (records : List (List ℕ)) (events : List Event) : Type 0 where
   pub past : List Event
   pub of_pool : AreOfPool rules records past
   pub left : LeaveUpTo WORKERS past events
@@ -83,19 +83,19 @@ pub record GoesOn (rules : Rules) (records : List (List ℕ)) (events : List Eve
 -- a book over an opened ledger with these records, all of whose appends were answered
 pub record IsMadeOf (rules : Rules) (ledger : DiskSeen) (records : List (List ℕ)) (book : BookSeen) :
     Type 0 where
-  pub made : IsBegun rules records book.events ⊎ GoesOn rules records book.events
+  pub made : IsBegun rules records book.events ⊎ GoesOnFromRecords rules records book.events
   pub is_kept : IsKept book.events
   pub kept : KeepsInstead (entries_told ledger) book.keeper.records book.events
   pub unfailed : book.keeper.faults ≡ ledger.faults
 
 -- a book of these rules is ready on a disk that was opened
-abbrev pub IsReady : Rules → DiskSeen → BookSeen → Type 0
-IsReady rules disk book =
-    (ledger : DiskSeen) × (records : List (List ℕ)) × IsOpened disk ledger records
+abbrev pub IsReadyBook : Rules → DiskSeen → BookSeen → Type 0
+IsReadyBook rules disk book =
+    (ledger : DiskSeen) × (records : List (List ℕ)) × IsOpenedLedger disk ledger records
     × IsMadeOf rules ledger records book
 
 -- the Start of a new history wasn't kept: the disk holds no record for good
-pub record IsUnbegun (records : List (List ℕ)) (ledger disk : DiskSeen) (cause : NoBook) : Type 0
+pub record HasNotBegun (records : List (List ℕ)) (ledger disk : DiskSeen) (cause : NoBook) : Type 0
   where
     pub unused : records ≡ []
     pub same : entries_told disk ≡ entries_told ledger
@@ -128,14 +128,14 @@ pub record HasNotLeft (rules : Rules) (records : List (List ℕ)) (ledger disk :
   pub counts : CountsFailure (is_disk_fault cause) ledger.faults disk.faults
 
 -- the same of a book by itself: each worker's Leave was answered
-pub record IsEnded (old new : BookSeen) : Type 0 where
+pub record HasEndedSessions (old new : BookSeen) : Type 0 where
   pub left : LeaveUpTo WORKERS old.events new.events
   pub is_kept : IsKept new.events
   pub kept : KeepsInstead old.keeper.records new.keeper.records new.events
   pub unfailed : new.keeper.faults ≡ old.keeper.faults
 
 -- or one wasn't
-pub record IsUnended (old : BookSeen) (disk : DiskSeen) (cause : NoBook) : Type 0 where
+pub record HasUnendedSession (old : BookSeen) (disk : DiskSeen) (cause : NoBook) : Type 0 where
   pub worker : ℕ
   pub few : worker < WORKERS
   pub events : List Event
@@ -149,12 +149,12 @@ pub record IsUnended (old : BookSeen) (disk : DiskSeen) (cause : NoBook) : Type 
 -- no book was made over an opened ledger
 abbrev pub IsNotMadeOf : Rules → DiskSeen → List (List ℕ) → DiskSeen → NoBook → Type 0
 IsNotMadeOf rules ledger records disk cause =
-    IsUnbegun records ledger disk cause ⊎ IsNotResumed rules records ledger disk cause
+    HasNotBegun records ledger disk cause ⊎ IsNotResumed rules records ledger disk cause
     ⊎ HasNotLeft rules records ledger disk cause
 
 -- no book is ready on a disk that was opened
 abbrev pub HasNoBook : Rules → DiskSeen → DiskSeen → NoBook → Type 0
 HasNoBook rules disk back cause =
     IsUnopened disk back cause
-    ⊎ ((ledger : DiskSeen) × (records : List (List ℕ)) × IsOpened disk ledger records
+    ⊎ ((ledger : DiskSeen) × (records : List (List ℕ)) × IsOpenedLedger disk ledger records
     × IsNotMadeOf rules ledger records back cause)

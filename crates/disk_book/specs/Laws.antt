@@ -10,7 +10,7 @@ use Rattle.ledger_laws.specs.Keeping.{IsKept}
 use Rattle.ledger_resume.specs.Histories.{IsHistoryOf}
 use Rattle.pool_history.specs.declared.settings.Rules.{Rules}
 use Rattle.share_ledger.specs.Books.{BookSeen}
-use Rattle.disk_book.specs.Books.{IsReady, LeavesFronts}
+use Rattle.disk_book.specs.Books.{IsReadyBook, LeavesFronts}
 
 -- These records are found behind a moment when so many events of a history were there for good: they
 -- are those of a legal history, or none; that one has all these events, and one more at most.
@@ -38,11 +38,10 @@ pub record LeftBy (log : List Moment) (count : ℕ) (left : List ℕ) : Type 0 w
   pub stored : length (stored_entries until) ≡ count
 
 -- The history of a book that is ready on what a crash left of a disk, whose book had a history, begins
--- with all that was there for good when the machine crashed. So it does from run to run, through any
--- number of crashes.
+-- with all that was there for good when the machine crashed.
 abbrev pub NextRunsGoOn : Type 0
 NextRunsGoOn =
     (disk : DiskSeen) (log : List Moment) (history : List Event) (count : ℕ) (left : List ℕ)
     → disk.log ≡ Some log → LeavesFronts disk history → IsKept history → LeftBy log count left
-    → (rules : Rules) (book : BookSeen) → IsReady rules (opened_disk (Some left)) book
+    → (rules : Rules) (book : BookSeen) → IsReadyBook rules (opened_disk (Some left)) book
     → Begins (take count history) book.events

@@ -15,7 +15,7 @@ pub fn crashes_are_gone_on_with()
 }
 
 /// The book that is ready on what a crash left begins with all that was there for good when the machine
-/// crashed: so does each later one, through any number of crashes.
+/// crashed.
 pub fn next_runs_go_on()
     ensures { NextRunsGoOn }
 {

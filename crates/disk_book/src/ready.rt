@@ -5,7 +5,7 @@ ghost use Rattle.pool_io.specs.Crashes.{IsSettledWith};
 ghost use Rattle.pool_history.specs.Accounts.{are_in_range};
 ghost use Rattle.ledger_disk.specs.Crashes.{MayBeFound, counts_told, entries_told};
 ghost use Rattle.ledger_resume.specs.Refusals.{TellsJust};
-ghost use Rattle.disk_book.specs.Books.{HasNoBook, IsEnded, IsJustOpened, IsMadeOf, IsNotMadeOf, IsOpened, IsReady, IsUnbegun, IsUnended, IsUnopened};
+ghost use Rattle.disk_book.specs.Books.{HasNoBook, HasEndedSessions, IsJustOpened, IsMadeOf, IsNotMadeOf, IsOpenedLedger, IsReadyBook, HasNotBegun, HasUnendedSession, IsUnopened};
 
 use crate::cause::{NoBook, keeping_cause, opening_cause, refusal_cause};
 use crate::leaving::end_sessions;
@@ -28,7 +28,7 @@ pub fn ready_book<D: Disk>(
 ) -> Result<Book<DiskLedger<D>>, (D, NoBook)>
     requires rules { IsTrue (are_in_range rules) }
     requires opened { IsJustOpened (D.seen disk) }
-    ensures ready { IfOk result (λ book. IsReady rules (D.seen disk) book) }
+    ensures ready { IfOk result (λ book. IsReadyBook rules (D.seen disk) book) }
     ensures none { IfErr result (λ back. HasNoBook rules (D.seen disk) (D.seen back.0) back.1) }
 {
     match open_ledger(alloc, disk) {
@@ -43,7 +43,7 @@ pub fn open_ledger<D: Disk>(
     disk: D,
 ) -> Result<(DiskLedger<D>, Vec<Blob>), (D, NoBook)>
     requires { IsJustOpened (D.seen disk) }
-    ensures opened { IfOk result (λ opened. IsOpened (D.seen disk) opened.0 opened.1.items) }
+    ensures opened { IfOk result (λ opened. IsOpenedLedger (D.seen disk) opened.0 opened.1.items) }
     ensures unopened { IfErr result (λ back. IsUnopened (D.seen disk) (D.seen back.0) back.1) }
 {
     match DiskLedger::open(alloc, disk) {
@@ -83,7 +83,7 @@ fn begin<D: Disk>(
     requires told { TellsJust (entries_told ledger) [] }
     requires settled { IsSettledWith (counts_told ledger) (MayBeFound ledger) [] }
     ensures made { IfOk result (λ book. IsMadeOf rules ledger [] book) }
-    ensures none { IfErr result (λ back. IsUnbegun [] ledger (D.seen back.0) back.1) }
+    ensures none { IfErr result (λ back. HasNotBegun [] ledger (D.seen back.0) back.1) }
 {
     match Book::new(alloc, rules, ledger) {
         Ok(book) => {
@@ -122,8 +122,8 @@ fn go_on<D: Disk>(
 
 /// The same book once each worker's Leave was answered.
 fn end_earlier<D: Disk>(book: Book<DiskLedger<D>>) -> Result<Book<DiskLedger<D>>, (D, NoBook)>
-    ensures left { IfOk result (λ ended. IsEnded book ended) }
-    ensures stands { IfErr result (λ back. IsUnended book (D.seen back.0) back.1) }
+    ensures left { IfOk result (λ ended. HasEndedSessions book ended) }
+    ensures stands { IfErr result (λ back. HasUnendedSession book (D.seen back.0) back.1) }
 {
     let mut book = book;
     let answered = end_sessions(&mut book);

@@ -27,8 +27,9 @@ use Rattle.disk_book.specs.declared.cause.NoBook.{NoBook}
 use Rattle.disk_book.specs.declared.cause.NoBook.TheVariants as cause
 use Rattle.disk_book.specs.Books.{HasNoBook, IsNotMadeOf, keeper_on}
 use Rattle.durable_commands.specs.Given.{IsDiskGiven, with_disk_back}
-use Rattle.durable_commands.specs.Serving.{DurableServeRow, FinishesOnDisk, GivesBookBack, HasFailedDisk, HasReason, HasWrongDisk, IsUnservable, ServesAfterSettings, ServesByNames, ServesOnDisk, ServesWithDisk, Surroundings, world_in}
+use Rattle.durable_commands.specs.Serving.{DurableServeRow, FinishesOnDisk, GivesBookBack, HasFailedDisk, HasDiskReason, HasWrongDisk, IsUnservable, ServesDiskAfterSettings, ServesDiskByNames, ServesNetworkOnDisk, ServesWithDisk}
 use Rattle.durable_commands.specs.Statuses.{status_of_no_book}
+use Rattle.durable_commands.specs.Surroundings.{Surroundings, world_in}
 
 -- a disk that failed has a count
 not_made_fault : {ledger disk : DiskSeen} {records : List (List ℕ)} {rules : Rules} → IsNotMadeOf rules ledger records disk cause.Fault → 0 < disk.faults
@@ -91,26 +92,26 @@ module _ (settings_name ledger_name : List ℕ) (old new : Surroundings) (read :
     without_book cause.WrongLedger back (inr other) is = absurd (let never : cause.WrongLedger ≡ cause.Memory = other.1 in cc)
     without_book cause.Memory back none is = tt
 
-    on_disk : (answer : Status) → ServesOnDisk settings disk (record { host = read; network = old.network; disks = given }) new answer → Fails answer
+    on_disk : (answer : Status) → ServesNetworkOnDisk settings disk (record { host = read; network = old.network; disks = given }) new answer → Fails answer
     on_disk answer (inl by) = served answer by.ready by.reached by.serves by.finishes
     on_disk answer (inr none) = subst Fails (sym none.answered) (without_book none.cause none.back none.none none.disks)
 
   refused : (error : HostError) → CountsFailure (is_failed_gift {A = Unit {0}} (Err error)) old.disks.faults new.disks.faults
-      → HasReason settings_name ledger_name old new (status_of_refusal error)
+      → HasDiskReason settings_name ledger_name old new (status_of_refusal error)
   refused host.Failed counts = inl (refl, omega (arith, counts))
   refused host.Memory counts = inr tt
 
   with_settings : (answer : Status) → ServesWithDisk settings ledger_name (record { host = read; network = old.network; disks = old.disks }) new answer
-      → HasReason settings_name ledger_name old new answer
+      → HasDiskReason settings_name ledger_name old new answer
   with_settings answer (inl serves) =
       inr (behind Kept Wrong settings_name (world_in old) Kept read settings opens (λ failed. failed) (world_in new) answer (on_disk serves.1 serves.0 serves.2 answer serves.3))
   with_settings answer (inr none) =
-      subst (HasReason settings_name ledger_name old new) (sym none.1) (refused none.0 none.2.counts)
+      subst (HasDiskReason settings_name ledger_name old new) (sym none.1) (refused none.0 none.2.counts)
 
 has_reason : (settings_name ledger_name : List ℕ) (old new : Surroundings) (answer : Status) (read : HostSeen) (settings : Result Settings NoSettings)
     → OpensSettings settings_name old.host read settings
-    → ServesAfterSettings ledger_name settings (record { host = read; network = old.network; disks = old.disks }) new answer
-    → HasReason settings_name ledger_name old new answer
+    → ServesDiskAfterSettings ledger_name settings (record { host = read; network = old.network; disks = old.disks }) new answer
+    → HasDiskReason settings_name ledger_name old new answer
 has_reason settings_name ledger_name old new answer read (Ok settings) opens after = with_settings settings_name ledger_name old new read settings opens answer after
 has_reason settings_name ledger_name old new answer read (Err none) opens after =
     let Kept : Type 0 = HasFailedDisk old.disks new.disks in
@@ -120,7 +121,7 @@ has_reason settings_name ledger_name old new answer read (Err none) opens after 
     (without Kept Wrong settings_name (world_in old) read none opens)))
 
 pub row_of : {settings_name ledger_name : List ℕ} {old new : Surroundings} {answer : Status}
-    → ServesByNames settings_name ledger_name old new answer → DurableServeRow settings_name ledger_name old new answer
+    → ServesDiskByNames settings_name ledger_name old new answer → DurableServeRow settings_name ledger_name old new answer
 row_of {settings_name = settings_name} {ledger_name = ledger_name} {old = old} {new = new} {answer = answer} serves = record {
   serves = serves;
   complete = has_reason settings_name ledger_name old new answer serves.1 serves.0 serves.2 serves.3;

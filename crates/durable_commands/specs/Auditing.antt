@@ -22,7 +22,7 @@ use Rattle.stream_commands.specs.declared.end.End.{End}
 use Rattle.stream_commands.specs.declared.status.Status.{Status}
 use Rattle.stream_commands.specs.declared.status.Status.TheVariants as status
 use Rattle.disk_book.specs.declared.cause.NoBook.{NoBook}
-use Rattle.disk_book.specs.Books.{IsOpened, IsUnopened}
+use Rattle.disk_book.specs.Books.{IsOpenedLedger, IsUnopened}
 use Rattle.durable_commands.specs.Given.{IsDiskGiven, IsRefusedDisk, with_disk_back}
 use Rattle.durable_commands.specs.Soloing.{HostAndDisks}
 use Rattle.durable_commands.specs.Statuses.{status_of_no_book}
@@ -39,7 +39,7 @@ turns_of [] = []
 turns_of (byte ∷ bytes) = turn.Piece (byte ∷ bytes) ∷ []
 
 -- an audit of bytes that came at once ran, and put what it found to a sink
-pub record HasAudited (bytes : List ℕ) (old new : SinkSeen) (end : End) : Type 0 where
+pub record HasAuditedDisk (bytes : List ℕ) (old new : SinkSeen) (end : End) : Type 0 where
   pub left : Option (List Turn)
   -- what the end says of the bytes and of what was put
   pub ran : EndsCommand audit_duty (Some (turns_of bytes)) left old.held new.held end
@@ -51,7 +51,7 @@ pub record HasAudited (bytes : List ℕ) (old new : SinkSeen) (end : End) : Type
 -- it ran, or there was no memory to begin with
 abbrev pub AuditsBytes : List ℕ → SinkSeen → SinkSeen → Status → Type 0
 AuditsBytes bytes old new answer =
-    ((end : End) × (answer ≡ status_of_end end) × HasAudited bytes old new end)
+    ((end : End) × (answer ≡ status_of_end end) × HasAuditedDisk bytes old new end)
     ⊎ ((answer ≡ status.Memory) × (new ≡ old))
 
 abbrev pub AuditsInMemory : List (List ℕ) → SinkSeen → SinkSeen → Status → Type 0
@@ -60,12 +60,12 @@ AuditsInMemory records old new status = AuditsBytes (audited_bytes records) old 
 -- the ledger on a disk was opened, and its records audited; or it wasn't
 abbrev pub AuditsDisk : DiskSeen → DiskSeen → SinkSeen → SinkSeen → Status → Type 0
 AuditsDisk disk back old new status =
-    ((records : List (List ℕ)) × IsOpened disk back records × AuditsInMemory records old new status)
+    ((records : List (List ℕ)) × IsOpenedLedger disk back records × AuditsInMemory records old new status)
     ⊎ ((cause : NoBook) × (status ≡ status_of_no_book cause) × IsUnopened disk back cause
     × (new ≡ old))
 
 -- a sink was given beside the disk, and both came back
-pub record AuditedOnHost (disk : DiskSeen) (old new : HostAndDisks) (status : Status) : Type 0 where
+pub record AuditedToOutput (disk : DiskSeen) (old new : HostAndDisks) (status : Status) : Type 0 where
   pub back : DiskSeen
   pub sink : SinkSeen
   pub audits : AuditsDisk disk back (record { faults = 0; held = old.host.streams.output }) sink status
@@ -85,7 +85,7 @@ pub record HasNoSink (disk : DiskSeen) (old new : HostAndDisks) (error : HostErr
 -- with a disk that was given
 abbrev pub AuditsWithDisk : DiskSeen → HostAndDisks → HostAndDisks → Status → Type 0
 AuditsWithDisk disk old new status =
-    AuditedOnHost disk old new status
+    AuditedToOutput disk old new status
     ⊎ ((error : HostError) × (status ≡ status_of_refusal error) × HasNoSink disk old new error)
 
 -- the row of `durable audit LEDGER`

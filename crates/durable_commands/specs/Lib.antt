@@ -1,4 +1,5 @@
 pub mod Given
+pub mod Surroundings
 pub mod Sessions
 pub mod Statuses
 pub mod Soloing

@@ -5,8 +5,6 @@ use Rattle.pool_io.specs.declared.host.HostError.{HostError}
 use Rattle.pool_io.specs.Hosts.{CameBack, HostSeen}
 use Rattle.disk_io.specs.Calls.{DiskSeen}
 use Rattle.disk_io.specs.Disks.{DisksSeen, opened_disk}
-use Rattle.pool_network.specs.Networks.{NetworkSeen}
-use Rattle.pool_network.specs.Worlds.{WorldSeen}
 use Rattle.pool_settings.specs.declared.opening.NoSettings.{NoSettings}
 use Rattle.pool_settings.specs.declared.settings.Settings.{Settings}
 use Rattle.pool_settings.specs.Opened.{OpensSettings, status_of_no_settings}
@@ -21,18 +19,10 @@ use Rattle.serve_command.specs.Statuses.{status_of_served}
 use Rattle.serve_command.specs.Words.{report_text}
 use Rattle.disk_book.specs.declared.cause.NoBook.{NoBook}
 use Rattle.disk_book.specs.declared.cause.NoBook.TheVariants as none
-use Rattle.disk_book.specs.Books.{HasNoBook, IsReady, LeavesFronts, keeper_on}
+use Rattle.disk_book.specs.Books.{HasNoBook, IsReadyBook, LeavesFronts, keeper_on}
 use Rattle.durable_commands.specs.Given.{IsDiskGiven, IsRefusedDisk, with_disk_back}
 use Rattle.durable_commands.specs.Statuses.{status_of_no_book}
-
--- a host, a network, and what gives disks
-pub record Surroundings : Type 0 where
-  pub host : HostSeen
-  pub network : NetworkSeen
-  pub disks : DisksSeen
-
-abbrev pub world_in : Surroundings → WorldSeen
-world_in all = record { host = all.host; network = all.network }
+use Rattle.durable_commands.specs.Surroundings.{Surroundings, around, world_in}
 
 -- The disk of a book came back, and nothing else changed: whatever a crash left of it at any moment is
 -- a front of the book's history, with all that was answered until then, or this and one event more.
@@ -56,7 +46,7 @@ FinishesOnDisk old new had has (Unserved ended error) answer =
 pub record ServedByDisk (settings : Settings) (disk : DiskSeen) (old new : Surroundings)
     (status : Status) : Type 0 where
   pub ready : BookSeen
-  pub is_ready : IsReady settings.rules disk ready
+  pub is_ready : IsReadyBook settings.rules disk ready
   pub reached : ReachedSeen
   pub serves : ServesOnNetwork (service_by settings) (places_by settings) old.network new.network
       ready reached
@@ -75,36 +65,36 @@ pub record IsUnservable (settings : Settings) (disk : DiskSeen) (old new : Surro
   pub answered : status ≡ status_of_no_book cause
 
 -- with a disk that was given
-abbrev pub ServesOnDisk : Settings → DiskSeen → Surroundings → Surroundings → Status → Type 0
-ServesOnDisk settings disk old new status =
+abbrev pub ServesNetworkOnDisk : Settings → DiskSeen → Surroundings → Surroundings → Status → Type 0
+ServesNetworkOnDisk settings disk old new status =
     ServedByDisk settings disk old new status ⊎ IsUnservable settings disk old new status
 
 -- with settings: a disk is asked for, and then the network
 abbrev pub ServesWithDisk : Settings → List ℕ → Surroundings → Surroundings → Status → Type 0
 ServesWithDisk settings ledger old new status =
     ((disk : DiskSeen) × (given : DisksSeen) × IsDiskGiven ledger old.disks given disk
-    × ServesOnDisk settings disk
-    (record { host = old.host; network = old.network; disks = given }) new status)
+    × ServesNetworkOnDisk settings disk
+    (around old.host old.network given) new status)
     ⊎ ((error : HostError) × (status ≡ status_of_refusal error)
     × IsRefusedDisk ledger old.disks new.disks error
     × (new.host ≡ old.host) × (new.network ≡ old.network))
 
 -- what follows on the settings file's reading
-abbrev pub ServesAfterSettings :
+abbrev pub ServesDiskAfterSettings :
     List ℕ → Result Settings NoSettings → Surroundings → Surroundings → Status → Type 0
-ServesAfterSettings ledger (Ok settings) old new status =
+ServesDiskAfterSettings ledger (Ok settings) old new status =
     ServesWithDisk settings ledger old new status
-ServesAfterSettings ledger (Err no_settings) old new status =
+ServesDiskAfterSettings ledger (Err no_settings) old new status =
     (new ≡ old) × (status ≡ status_of_no_settings no_settings)
 
 -- the settings file is read and handed back, then a disk, a link to the feed and doors are asked for,
 -- up to what is refused; when all sessions are over, the output is asked for
-abbrev pub ServesByNames : List ℕ → List ℕ → Surroundings → Surroundings → Status → Type 0
-ServesByNames settings_name ledger_name old new status =
+abbrev pub ServesDiskByNames : List ℕ → List ℕ → Surroundings → Surroundings → Status → Type 0
+ServesDiskByNames settings_name ledger_name old new status =
     (answer : Result Settings NoSettings) × (read : HostSeen)
     × OpensSettings settings_name old.host read answer
-    × ServesAfterSettings ledger_name answer
-    (record { host = read; network = old.network; disks = old.disks }) new status
+    × ServesDiskAfterSettings ledger_name answer
+    (around read old.network old.disks) new status
 
 -- a disk that came back has failed
 abbrev pub HasFailedDisk : DisksSeen → DisksSeen → Type 0
@@ -121,8 +111,8 @@ pub record HasWrongDisk (settings_name ledger_name : List ℕ) (old new : Surrou
 
 -- where each status comes from, whatever the sessions send: 11 from a disk that is none of this pool's;
 -- 7 from what gives disks too; the others as of `serve`, with the disk for the keeper
-abbrev pub HasReason : List ℕ → List ℕ → Surroundings → Surroundings → Status → Type 0
-HasReason settings_name ledger_name old new answer =
+abbrev pub HasDiskReason : List ℕ → List ℕ → Surroundings → Surroundings → Status → Type 0
+HasDiskReason settings_name ledger_name old new answer =
     ((answer ≡ status.HostFault) × Rose old.disks.faults new.disks.faults)
     ⊎ HasReasonBy (HasFailedDisk old.disks new.disks)
     (HasWrongDisk settings_name ledger_name old new) settings_name (world_in old) (world_in new)
@@ -131,5 +121,5 @@ HasReason settings_name ledger_name old new answer =
 -- the row of `durable serve SETTINGS LEDGER`
 pub record DurableServeRow (settings_name ledger_name : List ℕ) (old new : Surroundings)
     (status : Status) : Type 0 where
-  pub serves : ServesByNames settings_name ledger_name old new status
-  pub complete : HasReason settings_name ledger_name old new status
+  pub serves : ServesDiskByNames settings_name ledger_name old new status
+  pub complete : HasDiskReason settings_name ledger_name old new status

@@ -8,7 +8,7 @@ use Rattle.session_steps.specs.declared.ends.SessionEnd.{SessionEnd}
 use Rattle.session_loop.specs.Good.{IsGoodEnd}
 use Rattle.share_ledger.specs.Books.{BookSeen}
 use Rattle.solo_session.specs.Solo.{ServesBook, solo_manner}
-use Rattle.disk_book.specs.Books.{HasNoBook, IsReady, LeavesFronts, keeper_on}
+use Rattle.disk_book.specs.Books.{HasNoBook, IsReadyBook, LeavesFronts, keeper_on}
 use Rattle.durable_commands.specs.declared.session.DiskEnd.{DiskEnd}
 use Rattle.durable_commands.specs.declared.session.DiskEnd.TheVariants as end
 
@@ -24,7 +24,7 @@ pub record DiskOutsides : Type 0 where
 pub record ServedOnDisk (rules : Rules) (idle_turns : ℕ) (old new : DiskOutsides)
     (reason : SessionEnd) : Type 0 where
   pub ready : BookSeen
-  pub is_ready : IsReady rules old.disk ready
+  pub is_ready : IsReadyBook rules old.disk ready
   pub history : List Event
   pub serves : ServesBook (solo_manner rules idle_turns) ready.events
       (record { source = old.source; sink = old.sink; keeper = ready.keeper })

@@ -29,7 +29,7 @@ pub record HostAndDisks : Type 0 where
 
 -- A source and a sink were given beside the disk, the session was served from the one to the other,
 -- and all three came back.
-pub record ServedOnHost (settings : Settings) (disk : DiskSeen) (old new : HostAndDisks)
+pub record ServedWithStreams (settings : Settings) (disk : DiskSeen) (old new : HostAndDisks)
     (end : DiskEnd) : Type 0 where
   pub given : DiskOutsides
   pub back : DiskOutsides
@@ -52,32 +52,32 @@ pub record ServedOnHost (settings : Settings) (disk : DiskSeen) (old new : HostA
   pub disks : new.disks ≡ with_disk_back old.disks back.disk
 
 -- the host gave no source, or a source and no sink; the disk came back as it was
-pub record IsRefusedSession (disk : DiskSeen) (old new : HostAndDisks) (error : HostError) : Type 0
+pub record LacksStreams (disk : DiskSeen) (old new : HostAndDisks) (error : HostError) : Type 0
   where
     pub asked : AsksUpTo old.host.openings new.host.openings error
     pub streams : IsRefusedByHost old.host.streams new.host.streams error
     pub disks : new.disks ≡ with_disk_back old.disks disk
 
 -- with a disk that was given
-abbrev pub SessionRow : Settings → DiskSeen → HostAndDisks → HostAndDisks → Status → Type 0
-SessionRow settings disk old new status =
-    ((end : DiskEnd) × (status ≡ status_of_disk_end end) × ServedOnHost settings disk old new end)
+abbrev pub DiskSessionRow : Settings → DiskSeen → HostAndDisks → HostAndDisks → Status → Type 0
+DiskSessionRow settings disk old new status =
+    ((end : DiskEnd) × (status ≡ status_of_disk_end end) × ServedWithStreams settings disk old new end)
     ⊎ ((error : HostError) × (status ≡ status_of_refusal error)
-    × IsRefusedSession disk old new error)
+    × LacksStreams disk old new error)
 
 -- with settings: a disk is asked for, and then the streams
 abbrev pub DiskRow : Settings → List ℕ → HostAndDisks → HostAndDisks → Status → Type 0
 DiskRow settings ledger old new status =
     ((disk : DiskSeen) × (given : DisksSeen) × IsDiskGiven ledger old.disks given disk
-    × SessionRow settings disk (record { host = old.host; disks = given }) new status)
+    × DiskSessionRow settings disk (record { host = old.host; disks = given }) new status)
     ⊎ ((error : HostError) × (status ≡ status_of_refusal error)
     × IsRefusedDisk ledger old.disks new.disks error × (new.host ≡ old.host))
 
 -- what follows on the settings file's reading
-abbrev pub GoesOnFrom :
+abbrev pub GoesOnWithDisk :
     List ℕ → Result Settings NoSettings → HostAndDisks → HostAndDisks → Status → Type 0
-GoesOnFrom ledger (Ok settings) old new status = DiskRow settings ledger old new status
-GoesOnFrom ledger (Err no_settings) old new status =
+GoesOnWithDisk ledger (Ok settings) old new status = DiskRow settings ledger old new status
+GoesOnWithDisk ledger (Err no_settings) old new status =
     (new ≡ old) × (status ≡ status_of_no_settings no_settings)
 
 -- the row of `durable solo SETTINGS LEDGER`: the settings file is read and handed back, and then the
@@ -86,4 +86,4 @@ abbrev pub DurableSoloRow : List ℕ → List ℕ → HostAndDisks → HostAndDi
 DurableSoloRow settings_name ledger_name old new status =
     (answer : Result Settings NoSettings) × (read : HostSeen)
     × OpensSettings settings_name old.host read answer
-    × GoesOnFrom ledger_name answer (record { host = read; disks = old.disks }) new status
+    × GoesOnWithDisk ledger_name answer (record { host = read; disks = old.disks }) new status

@@ -7,7 +7,8 @@ ghost use Rattle.pool_settings.specs.Reading.{AreInRange};
 ghost use Rattle.pool_io.specs.Hosts.{IsHandedBack};
 ghost use Rattle.serve_command.specs.Serving.{reached_seen};
 ghost use Rattle.disk_book.specs.Books.{IsJustOpened};
-ghost use Rattle.durable_commands.specs.Serving.{DurableServeRow, FinishesOnDisk, GivesBookBack, ServesOnDisk, ServesWithDisk};
+ghost use Rattle.durable_commands.specs.Serving.{DurableServeRow, FinishesOnDisk, GivesBookBack, ServesNetworkOnDisk, ServesWithDisk};
+ghost use Rattle.durable_commands.specs.Surroundings.{IsAllBack, IsWorldBack, around};
 
 use crate::status::no_book_status;
 use disk_book::ready_book;
@@ -39,21 +40,13 @@ where
     N::D: Send,
     <N::D as Door>::L: Send,
     V::Z: Send,
-    ensures row { DurableServeRow settings_name.now ledger_name.now (record {
-      host = H.seen host.old;
-      network = N.seen network.old;
-      disks = V.seen disks.old;
-    }) (record {
-      host = H.seen host.new;
-      network = N.seen network.new;
-      disks = V.seen disks.new;
-    }) result }
+    ensures row { DurableServeRow settings_name.now ledger_name.now
+        (around (H.seen host.old) (N.seen network.old) (V.seen disks.old))
+        (around (H.seen host.new) (N.seen network.new) (V.seen disks.new)) result }
 
     // Everything that was given has come back.
-    ensures back { IsHandedBack (H.seen host.old) (H.seen host.new) }
-    ensures links { (N.seen network.new).links.lent ≡ (N.seen network.old).links.lent }
-    ensures doors { (N.seen network.new).doors.lent ≡ (N.seen network.old).doors.lent }
-    ensures disks { (V.seen disks.new).disks.lent ≡ (V.seen disks.old).disks.lent }
+    ensures back { IsAllBack (around (H.seen host.old) (N.seen network.old) (V.seen disks.old))
+        (around (H.seen host.new) (N.seen network.new) (V.seen disks.new)) }
 {
     match open_settings(alloc, host, settings_name) {
         Ok(settings) => serve_with_disk(rt, alloc, host, network, disks, settings, ledger_name),
@@ -76,19 +69,11 @@ where
     <N::D as Door>::L: Send,
     V::Z: Send,
     requires ranges { AreInRange settings }
-    ensures row { ServesWithDisk settings ledger_name.now (record {
-      host = H.seen host.old;
-      network = N.seen network.old;
-      disks = V.seen disks.old;
-    }) (record {
-      host = H.seen host.new;
-      network = N.seen network.new;
-      disks = V.seen disks.new;
-    }) result }
-    ensures back { IsHandedBack (H.seen host.old) (H.seen host.new) }
-    ensures links { (N.seen network.new).links.lent ≡ (N.seen network.old).links.lent }
-    ensures doors { (N.seen network.new).doors.lent ≡ (N.seen network.old).doors.lent }
-    ensures disks { (V.seen disks.new).disks.lent ≡ (V.seen disks.old).disks.lent }
+    ensures row { ServesWithDisk settings ledger_name.now
+        (around (H.seen host.old) (N.seen network.old) (V.seen disks.old))
+        (around (H.seen host.new) (N.seen network.new) (V.seen disks.new)) result }
+    ensures back { IsAllBack (around (H.seen host.old) (N.seen network.old) (V.seen disks.old))
+        (around (H.seen host.new) (N.seen network.new) (V.seen disks.new)) }
 {
     match disks.open_disk(ledger_name) {
         Ok(disk) => serve_with_book(rt, alloc, host, network, disks, settings, disk),
@@ -113,18 +98,12 @@ where
     requires ranges { AreInRange settings }
     requires out { 0 < (V.seen disks.old).disks.lent }
     requires opened { IsJustOpened (V.Z.seen disk) }
-    ensures row { ServesOnDisk settings (V.Z.seen disk) (record {
-      host = H.seen host.old;
-      network = N.seen network.old;
-      disks = V.seen disks.old;
-    }) (record {
-      host = H.seen host.new;
-      network = N.seen network.new;
-      disks = V.seen disks.new;
-    }) result }
-    ensures back { IsHandedBack (H.seen host.old) (H.seen host.new) }
-    ensures links { (N.seen network.new).links.lent ≡ (N.seen network.old).links.lent }
-    ensures doors { (N.seen network.new).doors.lent ≡ (N.seen network.old).doors.lent }
+    ensures row { ServesNetworkOnDisk settings (V.Z.seen disk)
+        (around (H.seen host.old) (N.seen network.old) (V.seen disks.old))
+        (around (H.seen host.new) (N.seen network.new) (V.seen disks.new)) result }
+    ensures back { IsWorldBack
+        (record { host = H.seen host.old; network = N.seen network.old })
+        (record { host = H.seen host.new; network = N.seen network.new }) }
     ensures disks { (V.seen disks.new).disks.lent ≡ (V.seen disks.old).disks.lent - 1 }
 {
     let Settings {

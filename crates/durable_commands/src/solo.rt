@@ -5,7 +5,7 @@ ghost use Rattle.std.specs.Prelude.{◌≡◌, ◌<◌, ◌-◌};
 ghost use Rattle.pool_settings.specs.Reading.{AreInRange};
 ghost use Rattle.pool_io.specs.Hosts.{IsHandedBack};
 ghost use Rattle.disk_book.specs.Books.{IsJustOpened};
-ghost use Rattle.durable_commands.specs.Soloing.{DiskRow, DurableSoloRow, SessionRow};
+ghost use Rattle.durable_commands.specs.Soloing.{DiskRow, DurableSoloRow, DiskSessionRow};
 
 use crate::session::{ServedDisk, serve_disk};
 use crate::status::disk_status;
@@ -70,7 +70,7 @@ fn serve_session<H: Host, V: Disks>(
     requires ranges { AreInRange settings }
     requires out { 0 < (V.seen disks.old).disks.lent }
     requires opened { IsJustOpened (V.Z.seen disk) }
-    ensures row { SessionRow settings (V.Z.seen disk)
+    ensures row { DiskSessionRow settings (V.Z.seen disk)
         (record { host = H.seen host.old; disks = V.seen disks.old })
         (record { host = H.seen host.new; disks = V.seen disks.new }) result }
     ensures back { IsHandedBack (H.seen host.old) (H.seen host.new) }

@@ -113,11 +113,6 @@ module _ (old : Restored) (was : IsRestored old) (bytes : List ℕ) where
       piece = next_piece_is;
     }
 
--- One unit is read as one event.
-pub same_unit : (before other bytes : List ℕ) (e f : Event) (h k : List ℕ) → before ≡ other → IsUnitOf before bytes e h → IsUnitOf other bytes f k → e ≡ f
-same_unit before other bytes e f h k same a b =
-    one_event_of before bytes e f a.can_be_kept b.can_be_kept a.bytes_are (b.bytes_are ∙ ap (λ x. piece_behind x f) (sym same))
-
 -- what is pushed is legal, and is a block where it was replayed as one
 pub pushed_legal : (old mid : List Event) (e f : Event) → mid ≡ old → e ≡ f → LegalPast (e ∷ past_of old) → LegalPast (past_of (mid ++ f ∷ []))
 pushed_legal old mid e f same is legal =

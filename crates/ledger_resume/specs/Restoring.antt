@@ -22,6 +22,11 @@ pub record IsUnitOf (before bytes : List ℕ) (event : Event) (hash : List ℕ) 
   pub bytes_are : bytes ≡ piece_behind before event
   pub hash_is : hash ≡ chain before (record_of event)
 
+-- they are so of some event
+abbrev pub IsSomeUnit : List ℕ → Type 0
+IsSomeUnit bytes =
+    (before : List ℕ) × (event : Event) × (hash : List ℕ) × IsUnitOf before bytes event hash
+
 -- they are so of no event
 abbrev pub AreNoUnit : List ℕ → List ℕ → Type 0
 AreNoUnit before bytes = (event : Event) → CanBeKept event → bytes ≡ piece_behind before event → ⊥

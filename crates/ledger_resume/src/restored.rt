@@ -6,7 +6,7 @@ ghost use Rattle.pool_history.specs.Ledger.{EventFits};
 ghost use Rattle.ledger_replay.specs.Replays.{WasReplayed, event_count};
 ghost use Rattle.ledger_resume.specs.Restoring.{BeginsNothing, HaveNoHistory, IsBegunBy, IsRestored, IsRestoredFrom, ReplaysOne, TakesPiece};
 
-use crate::units::{behind_magic, read_unit};
+use crate::units::{behind_magic, read_again, read_unit};
 use event_store::History;
 use ledger_records::magic_hash;
 use ledger_replay::{Replay, ReplayError, ReplayedTables};
@@ -38,10 +38,7 @@ impl Restored {
             return Ok(None);
         };
         // The replay takes the event, and the history wants it too.
-        let mut same = magic_hash();
-        let Some(again) = read_unit(alloc, &mut same, unit)? else {
-            return Ok(None);
-        };
+        let again = read_again(alloc, unit)?;
         let Event::Start(rules) = again else {
             return Ok(None);
         };
@@ -69,10 +66,7 @@ impl Restored {
             return Ok(false);
         };
         // The replay takes the event, and the history wants it too.
-        let mut same = self.hash;
-        let Some(again) = read_unit(self.alloc, &mut same, bytes)? else {
-            return Ok(false);
-        };
+        let again = read_again(self.alloc, bytes)?;
         self.history.reserve()?;
         // There are fewer than 2^62.
         let _count = self.history.len();

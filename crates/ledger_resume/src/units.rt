@@ -1,9 +1,10 @@
 //! One record with its hash.
 
-ghost use Rattle.std.specs.Prelude.{◌≡◌, ◌++◌, ◌↔◌, IfNone, IfOk, IfSome, IsTrue};
+ghost use Rattle.std.specs.Prelude.{◌≡◌, ◌++◌, ◌↔◌, ℕ, IfNone, IfOk, IfSome, IsTrue, List};
+ghost use Rattle.pool_history.specs.declared.events.Event.{Event as Happened};
 ghost use Rattle.pool_history.specs.Ledger.{magic_2};
 ghost use Rattle.ledger_resume.specs.Refusals.{HaveMagic};
-ghost use Rattle.ledger_resume.specs.Restoring.{AreNoUnit, IsUnitOf};
+ghost use Rattle.ledger_resume.specs.Restoring.{AreNoUnit, IsSomeUnit, IsUnitOf};
 
 use ledger_records::{MAGIC, RecordError, chain, read_record};
 use pool_history::Event;
@@ -32,6 +33,19 @@ pub(crate) fn read_unit(
         Ok(Some(event))
     } else {
         Ok(None)
+    }
+}
+
+/// The same event once more. Its hash isn't computed again.
+pub(crate) fn read_again(alloc: Global, bytes: &[u8]) -> Result<Event, AllocError>
+    requires { IsSomeUnit bytes.now }
+    ensures { (before : List ℕ) (event : Happened) (hash : List ℕ)
+        → IsUnitOf before bytes.now event hash → IfOk result (λ again. again ≡ event) }
+{
+    match read_record(alloc, bytes) {
+        Ok((event, _)) => Ok(event),
+        Err(RecordError::Memory) => Err(AllocError),
+        Err(RecordError::NotWhole | RecordError::NoRecord) => unreachable!(),
     }
 }
 

@@ -99,7 +99,7 @@ pub struct ServedBook<S: Source, T: Sink, K: Keeper> {
 }
 
 /// Serves one session of both roles over a book, and hands the book back with the session's history. A
-/// miner's bits of the version count where the rules let them roll.
+/// miner's bits of the version count where `rolling` says so.
 pub fn serve_book<S: Source, T: Sink, K: Keeper>(
     alloc: Global,
     book: Book<K>,

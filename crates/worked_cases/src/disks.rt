@@ -32,24 +32,31 @@ pub fn disks_of(alloc: Global, names: &Names, case: &Case<'_>) -> Result<MemDisk
     Ok(MemDisks::new(alloc, named, failing).with_failures(failures))
 }
 
-/// What a disk holds: an expression's bytes, or `laid RECORD ..`, a ledger of just these records.
+/// What a disk holds: an expression's bytes, or `laid WORD ..`, a ledger of just these records,
+/// and what is changed in it.
 pub fn content_of(alloc: Global, names: &Names, line: &str) -> Result<Vec<u8>> {
     match line.strip_prefix("laid") {
-        Some(records) => laid(alloc, names, records),
+        Some(words) => laid(alloc, names, words),
         None => names.bytes_of(line),
     }
 }
 
+/// A ledger on a disk, with bits of it changed.
+fn laid(alloc: Global, names: &Names, words: &str) -> Result<Vec<u8>> {
+    let mut bytes = ledger_of(alloc, names, words)?;
+    for change in words.split_whitespace().filter(|word| word.contains('^')) {
+        names.add_word(&mut bytes, change)?;
+    }
+    Ok(bytes)
+}
+
 /// A ledger on a disk: each record with the hash over it and all before it is an entry, the first with
-/// the magic of format 2 before it; then bits of it are changed.
-fn laid(alloc: Global, names: &Names, records: &str) -> Result<Vec<u8>> {
+/// the magic of format 2 before it.
+fn ledger_of(alloc: Global, names: &Names, words: &str) -> Result<Vec<u8>> {
     let mut bytes = b"SV2DISK1".to_vec(alloc)?;
     let mut hash = magic_hash();
     let mut piece = MAGIC.to_vec(alloc)?;
-    for word in records
-        .split_whitespace()
-        .filter(|word| !word.contains('^'))
-    {
+    for word in words.split_whitespace().filter(|word| !word.contains('^')) {
         let record = names.bytes_of(word)?;
         hash = chain(&hash, &record);
         piece.extend_from_slice(&record)?;
@@ -61,8 +68,5 @@ fn laid(alloc: Global, names: &Names, records: &str) -> Result<Vec<u8>> {
         piece.clear();
     }
     bytes.push(0)?;
-    for change in records.split_whitespace().filter(|word| word.contains('^')) {
-        names.add_word(&mut bytes, change)?;
-    }
     Ok(bytes)
 }
