@@ -12,6 +12,7 @@ mod messages;
 mod settings;
 mod splitting;
 mod transactions;
+mod trees;
 mod turns;
 
 use anyhow::{Result, bail};
@@ -19,13 +20,14 @@ use case_lines::{Trial, try_files};
 use std::alloc::Global;
 
 /// What is tried.
-const SUBJECTS: [&str; 12] = [
+const SUBJECTS: [&str; 13] = [
     "comparing",
     "sv2_types",
     "sv2_frames",
     "messages",
     "lanes",
     "block_header",
+    "merkle_trees",
     "transactions",
     "assemblies",
     "whole_input",
@@ -45,6 +47,7 @@ impl Trial for Formats {
             "messages" => messages::found(alloc, given),
             "lanes" => lanes::found(alloc, given),
             "block_header" => headers::found(alloc, given),
+            "merkle_trees" => trees::found(alloc, given),
             "transactions" => transactions::found(alloc, given),
             "assemblies" => assemblies::found(alloc, given),
             "whole_input" => files::found_whole(alloc, given),
