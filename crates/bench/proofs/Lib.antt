@@ -1,4 +1,5 @@
 pub mod Crossing
 pub mod Found
+pub mod Numbering
 pub mod Pushed
 pub mod Replies

@@ -10,14 +10,18 @@ mod entering;
 mod frames;
 mod hash;
 mod jobs;
+mod lanes;
 mod messages;
+mod numbered;
 mod openings;
+mod paths;
 mod polls;
 mod pushes;
 mod shares;
 mod stream;
 mod turns;
 
+use crate::lanes::Way;
 use crate::openings::Closed;
 use crate::turns::Sharing;
 use anyhow::{Context, Result, bail};
@@ -30,17 +34,19 @@ use std::sync::Wait;
 use std::thread::Threads;
 
 /// What each first word wants behind it.
-const USAGE: &str =
-    "want: hash COUNT, bytes LENGTH COUNT, shares SIBLINGS COUNT, channels OPEN COUNT, \
+const USAGE: &str = "want: hash COUNT, bytes LENGTH COUNT, shares SIBLINGS COUNT, path IDS COUNT, \
+        lanes FORM COUNT, singly FORM COUNT, channels OPEN COUNT, \
         close-first OPEN COUNT, close-last OPEN COUNT, payouts WINDOW COUNT, jobs COUNT, \
         book HELD COUNT, polls HELD COUNT, desk THREADS COUNT, lock THREADS COUNT, \
         book-desk THREADS COUNT, book-lock THREADS COUNT, frames, messages or each";
 
 /// What `each` does of the words with two numbers.
-const SMALL: [(&str, u32, u32); 13] = [
+const SMALL: [(&str, u32, u32); 15] = [
     ("bytes", 98, 3),
     ("shares", 0, 1),
     ("shares", 12, 1000),
+    ("path", 1, 2),
+    ("path", 12, 100),
     ("payouts", 7, 2500),
     ("channels", 3, 2),
     ("close-first", 3, 2),
@@ -67,6 +73,8 @@ fn main(rt: HostRuntime) -> Result<()> {
             let status = fs::read_to_string(&rt, "/proc/self/status")?;
             format!(in alloc; "{newest} {}", jobs::greatest_memory(status.as_str()))?
         }
+        "lanes" => by_form(alloc, Way::AtOnce, &mut words)?,
+        "singly" => by_form(alloc, Way::OneByOne, &mut words)?,
         "each" => return print_each(&rt, alloc, &mut rt.stdout()),
         "frames" => frames::report(alloc, &mut rt.stdin())?,
         "messages" => messages::report(alloc, &mut rt.stdin())?,
@@ -91,6 +99,10 @@ fn print_each<R: Files + AllocGlobal + Threads + Wait + Sync, W: Write>(
 ) -> Result<()> {
     writeln!(output, "{}", hash::report(alloc, 1000)?)?;
     writeln!(output, "{}", jobs::report(alloc, 25)?)?;
+    for form in &lanes::FORMS {
+        writeln!(output, "{}", lanes::report(alloc, Way::AtOnce, form, 25)?)?;
+        writeln!(output, "{}", lanes::report(alloc, Way::OneByOne, form, 25)?)?;
+    }
     for (word, first, count) in &SMALL {
         let line = by_two_numbers(rt, alloc, word, *first, *count, output)?;
         writeln!(output, "{line}")?;
@@ -130,6 +142,7 @@ fn by_two_numbers<R: Threads + Wait + Sync, W: Write>(
     match word {
         "bytes" => bytes::report(alloc, first, count),
         "shares" => shares::report(alloc, first, count),
+        "path" => paths::report(alloc, first, count),
         "payouts" => pushes::report(alloc, first, count),
         "channels" => openings::report(alloc, first, count, output),
         "close-first" => openings::report_closings(alloc, Closed::First, first, count, output),
@@ -142,6 +155,12 @@ fn by_two_numbers<R: Threads + Wait + Sync, W: Write>(
         "book-lock" => book_turns::report(rt, alloc, Sharing::Lock, first, count, output),
         _ => bail!("{USAGE}"),
     }
+}
+
+/// What comes of so many fours that are hashed this way.
+fn by_form(alloc: Global, way: Way, words: &mut Args) -> Result<String> {
+    let form = words.next().context(USAGE)?;
+    lanes::report(alloc, way, form.as_str(), number(words)?)
 }
 
 /// The next word as a number.
