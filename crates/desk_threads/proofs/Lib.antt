@@ -1,0 +1,4 @@
+pub mod Crossing
+pub mod Done
+pub mod Pairs
+pub mod Workers
