@@ -4,9 +4,7 @@ use Rattle.std.specs.Prelude.{if◌then◌else◌}
 use Rattle.pool_io.specs.Outside.{next_count}
 use Rattle.pool_history.specs.Calls.{PoolCall, has_keeper_failed}
 use Rattle.session_workers.specs.Calling.{faults_after, faults_through}
-use Rattle.session_workers.specs.declared.working.DoorEnd.{DoorEnd}
-use Rattle.session_workers.specs.Shifts.{is_failed_end}
-use Rattle.pool_server.specs.Counting.{capped, count_if, failed_in, faulted_in, is_starved_end, starved_in}
+use Rattle.pool_server.specs.Counting.{capped, count_if, faulted_in}
 
 count_one_more : (b : Bool) (n rest : ℕ) → n ≤ 2 ^ 64 - 1
     → ((if b then next_count n else n) ≤ 2 ^ 64 - 1) × (capped ((if b then next_count n else n) + rest) ≡ capped (n + (count_if b + rest)))
@@ -28,18 +26,3 @@ through_zero calls =
 pub faulted_both : (xs ys : List PoolCall) → faulted_in (xs ++ ys) ≡ faulted_in xs + faulted_in ys
 faulted_both [] ys = omega arith
 faulted_both (x ∷ xs) ys = let e = faulted_both xs ys in omega (arith, e)
-
-pub failed_more : (xs : List DoorEnd) (x : DoorEnd) → failed_in (xs ++ x ∷ []) ≡ failed_in xs + count_if (is_failed_end x)
-failed_more [] x = omega arith
-failed_more (y ∷ ys) x = let e = failed_more ys x in omega (arith, e)
-
-pub starved_more : (xs : List DoorEnd) (x : DoorEnd) → starved_in (xs ++ x ∷ []) ≡ starved_in xs + count_if (is_starved_end x)
-starved_more [] x = omega arith
-starved_more (y ∷ ys) x = let e = starved_more ys x in omega (arith, e)
-
--- a capped sum of capped counts
-pub capped_sum : (a b c : ℕ) → capped b ≡ capped c → capped (capped a + b) ≡ capped (a + c)
-capped_sum a b c same = omega (arith, same)
-
-pub capped_more : (count sum more : ℕ) → count ≡ capped sum → capped (count + more) ≡ capped (sum + more)
-capped_more count sum more is = omega (arith, is)

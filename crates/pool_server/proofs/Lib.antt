@@ -1,6 +1,4 @@
 pub mod Counts
 pub mod Crossing
 pub mod Rows
-pub mod Pairs
-pub mod Tended
 pub mod Whole

@@ -1,32 +1,9 @@
--- How calls and doors are counted that failed (this project's own).
-use Rattle.std.specs.Prelude.{ℕ, ◌+◌, ◌-◌, ◌^◌, min, Bool, true, false, if◌then◌else◌, List, [], ◌∷◌}
+-- How calls are counted that the keeper's fault answered (this project's own).
+use Rattle.std.specs.Prelude.{ℕ, ◌+◌, List, [], ◌∷◌}
 use Rattle.pool_history.specs.Calls.{PoolCall, has_keeper_failed}
-use Rattle.session_workers.specs.declared.working.DoorEnd.{DoorEnd}
-use Rattle.session_workers.specs.declared.working.DoorEnd.TheVariants as end
-use Rattle.session_workers.specs.Shifts.{is_failed_end}
-
--- a counter stands still at its type's end
-abbrev pub capped : ℕ → ℕ
-capped count = min count (2 ^ 64 - 1)
-
-abbrev pub count_if : Bool → ℕ
-count_if is = if is then 1 else 0
+pub use Rattle.thread_parts.specs.Counting.{capped, count_if, failed_in, is_starved_end, starved_in}
 
 -- the calls that the keeper's fault answered
 abbrev pub faulted_in : List PoolCall → ℕ
 faulted_in [] = 0
 faulted_in (call ∷ calls) = count_if (has_keeper_failed call.outcome) + faulted_in calls
-
--- memory was wanting for a caller
-abbrev pub is_starved_end : DoorEnd → Bool
-is_starved_end end.Memory = true
-is_starved_end _ = false
-
--- the ends that say that the door failed, and those that say that memory was wanting
-abbrev pub failed_in : List DoorEnd → ℕ
-failed_in [] = 0
-failed_in (reason ∷ reasons) = count_if (is_failed_end reason) + failed_in reasons
-
-abbrev pub starved_in : List DoorEnd → ℕ
-starved_in [] = 0
-starved_in (reason ∷ reasons) = count_if (is_starved_end reason) + starved_in reasons

@@ -3,9 +3,7 @@
 //! connection, a door or a file.
 #![tactic(auto)]
 
-mod pairing;
 mod parts;
-mod running;
 mod serving;
 
 pub use serving::{Served, serve};

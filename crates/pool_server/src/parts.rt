@@ -5,45 +5,62 @@ ghost use Rattle.pool_server.specs.Parts as manners;
 ghost use Rattle.pool_server.specs.Parts.{IsAttended, seeing_of, service_of};
 
 use desk::{Desk, Pass};
-use pool_core::SessionEnd;
+use desk_threads::Tending;
 use pool_history::Role;
 use pool_io::{Keeper, Limits};
 use pool_network::Door;
 use session_steps::Manner;
-use session_workers::{DeskWorker, DoorEnd, serve_link, work};
+use session_workers::{DeskWorker, serve_link, work};
 use share_ledger::Book;
 use std::alloc::Global;
 use std::sync::Wait;
+use thread_parts::{ThreadPart, ThreadTask};
 use v1_translate::V1Terms;
 
-/// The feed's link, or a door, and how that ended, once it did.
-pub(crate) enum ThreadTask<D, L> {
-    Feed(L, Option<SessionEnd>),
-    Door(D, Option<DoorEnd>),
+/// What all threads share: how sessions are held.
+#[derive(Drop)]
+pub(crate) struct Attending<'t> {
+    pub(crate) alloc: Global,
+    pub(crate) terms: &'t V1Terms,
+    pub(crate) limits: Limits,
 }
 
-/// A task, the pass that asks for it, and how many of its calls the keeper's fault answered.
-pub(crate) struct ThreadPart<D, L, K: Keeper> {
-    pub(crate) task: ThreadTask<D, L>,
-    pub(crate) pass: Pass<Book<K>>,
-    pub(crate) faults: u64,
+impl<K: Keeper, D: Door> Tending<Book<K>, ThreadPart<D, D::L>> for Attending<'_> {
+    ghost use Rattle.std.specs.Prelude.{◌<◌};
+    ghost use Rattle.pool_server.specs.Parts.{IsAttended, seeing_of, service_of};
+
+    ghost ready = { λ work. (0 < work.limits.idle_turns) × (0 < work.limits.door_turns) };
+
+    ghost tends = { λ work. IsAttended (seeing_of D.seen D.L.seen
+        (service_of work.terms.now work.limits)) };
+
+    fn tend<R: Wait>(
+        &self,
+        rt: &R,
+        desk: &Desk<Book<K>>,
+        part: &mut ThreadPart<D, D::L>,
+        pass: &mut Pass<Book<K>>,
+    ) {
+        attend(rt, self.alloc, desk, self.terms, self.limits, part, pass)
+    }
 }
 
-/// Does a part's task to its end.
-pub(crate) fn attend<R: Wait, K: Keeper, D: Door>(
+/// Does a part's task to its end, by calls of a pass.
+fn attend<R: Wait, K: Keeper, D: Door>(
     rt: &R,
     alloc: Global,
     desk: &Desk<Book<K>>,
     terms: &V1Terms,
     limits: Limits,
-    part: &mut ThreadPart<D, D::L, K>,
+    part: &mut ThreadPart<D, D::L>,
+    pass: &mut Pass<Book<K>>,
 )
-    requires desk { part.old.pass.table ≡ desk.now.table }
+    requires desk { pass.old.table ≡ desk.now.table }
     requires waits { (0 < limits.idle_turns) × (0 < limits.door_turns) }
     ensures { IsAttended (seeing_of D.seen D.L.seen (service_of terms.now limits))
-        part.old part.new }
+        (part.old, pass.old) (part.new, pass.new) }
 {
-    let ThreadPart { task, pass, faults } = part;
+    let ThreadPart { task, faults } = part;
     let mut asker = DeskWorker {
         rt,
         desk,
@@ -51,7 +68,7 @@ pub(crate) fn attend<R: Wait, K: Keeper, D: Door>(
         faults: *faults,
     };
     match task {
-        ThreadTask::Feed(link, end) => {
+        ThreadTask::Link(link, end) => {
             let manner = manner_of(Role::Feed, terms, limits);
             *end = Some(serve_link(alloc, &mut asker, link, manner, terms));
         }

@@ -1,13 +1,15 @@
 //! All sessions on one book, from its desk's opening to its closing.
 
-ghost use Rattle.std.specs.Prelude.{◌≡◌, ◌<◌, ◌-◌, ◌^◌, All, vec_len};
-ghost use Rattle.desk.specs.Closing.{HasEveryWorker};
+ghost use Rattle.std.specs.Prelude.{◌≡◌, ◌<◌, ◌-◌, ◌+◌, ◌≤◌, ◌^◌, [], vec_len};
+ghost use Rattle.std.specs.Vec.{vec_capacity};
+ghost use Rattle.desk.specs.Passes.{HasJustOpened};
+ghost use Rattle.share_ledger.specs.Books.{BookSeen};
 ghost use Rattle.pool_server.specs.Ending.{HasServed, IsFinished};
 ghost use Rattle.pool_server.specs.Parts.{seeing_of, service_of};
 
-use crate::pairing::Tended;
-use crate::running::run;
-use desk::Desk;
+use crate::parts::Attending;
+use desk::{Desk, Pass};
+use desk_threads::tend_all;
 use pool_core::SessionEnd;
 use pool_io::{Keeper, Limits};
 use pool_network::Door;
@@ -15,6 +17,7 @@ use share_ledger::Book;
 use std::alloc::Global;
 use std::sync::Wait;
 use std::thread::Threads;
+use thread_parts::{Tended, ThreadPart, list, unlist};
 use v1_translate::V1Terms;
 
 /// What is left of a book, its doors and a feed's link.
@@ -58,45 +61,84 @@ where
     let Ok(parts) = Vec::with_capacity(alloc, doors.len() + 1) else {
         return Served::Memory(book, doors, feed);
     };
+    let Ok(pairs) = Vec::with_capacity(alloc, doors.len() + 1) else {
+        parts.destroy_empty();
+        return Served::Memory(book, doors, feed);
+    };
     let count = doors.len() as u32 + 1;
     match Desk::new(alloc, book, count) {
         Ok((desk, passes)) => {
-            let tended = run(rt, alloc, &desk, passes, doors, feed, parts, terms, limits);
-            finish(desk, tended)
+            let room = Room { parts, pairs };
+            let work = Attending {
+                alloc,
+                terms,
+                limits,
+            };
+            run(rt, &work, desk, passes, doors, feed, room)
         }
         Err((book, _)) => {
             parts.destroy_empty();
+            pairs.destroy_empty();
             Served::Memory(book, doors, feed)
         }
     }
 }
 
-/// Closes the desk, to which all passes came back.
-fn finish<K: Keeper, D: Door>(desk: Desk<Book<K>>, tended: Tended<D, D::L, K>) -> Served<K, D>
-    requires desk { All (λ pass. pass.table ≡ desk.table) tended.passes.items }
-    requires complete { HasEveryWorker desk.count tended.passes.items }
-    ensures { IsFinished desk tended result }
+/// Room for all parts, and for each with its pass.
+struct Room<D, L, K: Keeper> {
+    parts: Vec<ThreadPart<D, L>>,
+    pairs: Vec<(ThreadPart<D, L>, Pass<Book<K>>)>,
+}
+
+/// Serves the feed's link with the first pass and each door with a later one, all at once, and closes
+/// the desk.
+fn run<R: Threads + Wait + Sync, K: Keeper + Send, D: Door + Send>(
+    rt: &R,
+    work: &Attending<'_>,
+    desk: Desk<Book<K>>,
+    passes: Vec<Pass<Book<K>>>,
+    mut doors: Vec<D>,
+    feed: D::L,
+    room: Room<D, D::L, K>,
+) -> Served<K, D>
+where
+    D::L: Send,
+    requires opened { HasJustOpened (λ (seen : BookSeen). seen.events) desk.start desk.count desk
+        passes.items }
+    requires as_many { vec_len doors + 1 ≡ desk.count }
+    requires waits { (0 < work.now.limits.idle_turns) × (0 < work.now.limits.door_turns) }
+    requires empty { (room.parts.items ≡ []) × (room.pairs.items ≡ []) }
+    requires room { (vec_len doors + 1 ≤ vec_capacity room.parts)
+        × (vec_len doors + 1 ≤ vec_capacity room.pairs) }
+    ensures { HasServed (seeing_of D.seen D.L.seen (service_of work.now.terms.now work.now.limits))
+        desk.start doors feed result }
+{
+    let Room { mut parts, pairs } = room;
+    list(&mut doors, feed, &mut parts);
+    let (book, parts) = tend_all(rt, desk, passes, parts, pairs, work);
+    let tended = unlist(parts, doors);
+    finish(book, tended)
+}
+
+/// Says what is left of a book that a desk gave, and of what came back.
+fn finish<K: Keeper, D: Door>(book: Book<K>, tended: Tended<D, D::L>) -> Served<K, D>
+    ensures { IsFinished book tended result }
 {
     let Tended {
         doors,
-        passes,
-        feed,
-        feed_end,
-        ledger_faults,
+        link,
+        link_end,
+        faults,
         door_faults,
         door_memory,
     } = tended;
-    let book = match desk.close(passes) {
-        Ok(book) => book,
-        Err(_refused) => unreachable!(),
-    };
     book.history_is_kept();
     Served::Ran {
         book,
         doors,
-        feed,
-        feed_end,
-        ledger_faults,
+        feed: link,
+        feed_end: link_end,
+        ledger_faults: faults,
         door_faults,
         door_memory,
     }

@@ -13,7 +13,8 @@ use Rattle.pool_history.specs.declared.refusals.BookError.TheVariants as fault
 use Rattle.pool_history.specs.declared.replies.Reply.{Reply}
 use Rattle.pool_history.specs.Answering.{Answer}
 use Rattle.pool_history.specs.Calls.{GoodPoolCalls, PoolCall, has_keeper_failed, wants_memory}
-use Rattle.session_workers.specs.Shifts.{Shift, is_failed_end}
+use Rattle.door_workers.specs.Asking.{is_failed_end}
+use Rattle.session_workers.specs.Shifts.{Shift}
 use Rattle.session_steps.specs.declared.ends.SessionEnd.{SessionEnd}
 use Rattle.pool_server.specs.Counting.{count_if, failed_in, faulted_in}
 use Rattle.pool_server.specs.Parts.{Service}
@@ -67,7 +68,7 @@ some_failed : (service : Service) (worker : ℕ) (shifts : List Shift) → AreSh
 some_failed service worker [] are some = absurd (omega (arith, some))
 some_failed service worker (shift ∷ shifts) are some =
     failed_or (is_failed_end shift.reason) shift.before.faults shift.after.faults
-    (failed_in (map (λ (s : Shift). s.reason) shifts)) are.0.counts (λ rose. inl rose) (λ more. inr (some_failed service (worker + 1) shifts are.1 more)) some
+    (failed_in (map (λ (s : Shift). s.reason) shifts)) are.0.asked.counts (λ rose. inl rose) (λ more. inr (some_failed service (worker + 1) shifts are.1 more)) some
 
 -- what `serve` counted
 module _ (service : Service) (old new : Hall) (reason : SessionEnd)

@@ -63,7 +63,7 @@ shifts_from service worker [] are = tt
 shifts_from service worker (shift ∷ shifts) are =
     all_join (λ (c : PoolCall). worker ≤ c.worker) (calls_at shift.answers) (calls_of_shifts shifts)
     (all-map (λ (c : PoolCall). c.worker ≡ worker) (λ c. worker ≤ c.worker) (λ c is. omega (arith, is)) (calls_at shift.answers)
-    (visits_of_worker service.terms (manner_of service role.Miner) worker shift.answers are.0.attends.visits))
+    (visits_of_worker service.terms (manner_of service role.Miner) worker shift.answers are.0.visits))
     (all-map (λ (c : PoolCall). worker + 1 ≤ c.worker) (λ c. worker ≤ c.worker) (λ c is. omega (arith, is)) (calls_of_shifts shifts) (shifts_from service (worker + 1) shifts are.1))
 
 -- ---- at a door
@@ -117,7 +117,7 @@ module _ (start history : List Event) (least most : ℕ) (rules : Rules) (are : 
   doors_answered service worker done (shift ∷ shifts) shifts_are parted good rise lower =
       let own = calls_at shift.answers in
       let rest = calls_of_shifts shifts in
-      let visits = shifts_are.0.attends.visits in
+      let visits = shifts_are.0.visits in
       let regroup : done ++ (own ++ rest) ≡ (done ++ own) ++ rest = sym (append_assoc done own rest) in (
         callers_answered worker service.terms (manner_of service role.Miner) (done ++ rest) [] shift.answers refl visits
             (made_first worker done own rest parted good rise.0 lower (shifts_from service (worker + 1) shifts shifts_are.1)),

@@ -1,187 +1,76 @@
--- What a worker did goes on by one answer of its door or by more.
-use Rattle.std.proofs.Common.{◌≡◌, ℕ, ◌+◌, ◌-◌, ◌<◌, List, [], ◌∷◌, ◌++◌, Option, Some, None, Ok, Err, map, refl, sym, ap, subst, ◌∙◌, append_assoc, append-nil, arith}
-use Rattle.std.proofs.lemmas.List.{map-append}
-use Rattle.pool_network.specs.declared.door.Arrival.{Arrival}
-use Rattle.pool_network.specs.declared.door.Came.TheVariants as came
-use Rattle.pool_network.specs.Doors.{AnswersSo, ComesNext, back_with}
+-- Callers that were served one after the other were all served by calls of one pass.
+use Rattle.std.proofs.Common.{◌≡◌, ℕ, List, [], ◌∷◌, ◌++◌, map, refl, sym, ap, subst, ◌∙◌}
 use Rattle.pool_network.specs.Seen.{DoorSeen, LinkSeen}
 use Rattle.session_steps.specs.declared.manner.Manner.{Manner}
 use Rattle.v1_rules.specs.State.{Terms}
 use Rattle.link_session.specs.Courses.{calls_on}
-use Rattle.session_workers.specs.Visits.{Asking, Visit}
+use Rattle.door_workers.specs.declared.working.DoorEnd.{DoorEnd}
+use Rattle.door_workers.specs.Asking.{DoorAnswer, IsAsked, Nobody, ServesEach, Somebody}
+use Rattle.door_workers.specs.Asking as door
+use Rattle.session_workers.specs.Visits.{Asking, AsksByPass, Visit}
+use Rattle.session_workers.specs.Shifts.{Asked, AreVisits, IsWorked, ServesCaller, Serving, Visited, Waited, answer_of, calls_at}
 use Rattle.session_workers.proofs.Asked.{asks_both, asks_none}
-use Rattle.pool_io.specs.Outside.{CountsFailure}
-use Rattle.session_workers.specs.declared.working.DoorEnd.{DoorEnd}
-use Rattle.session_workers.specs.declared.working.DoorEnd.TheVariants as end
-use Rattle.session_workers.specs.Shifts.{Asked, AreVisits, AsksDoorOnce, Attends, AttendsOn, BackWith, ComesOn, Deals, DealsOnce, IsWelcomed, IsWorked, StopsBy, Visited, Waited, WaitsOn, arrival_of, calls_at, is_failed_end, links_in}
 
-links_both : (xs ys : List Asked) → links_in (xs ++ ys) ≡ links_in xs ++ links_in ys
-links_both [] ys = refl
-links_both (Waited ∷ xs) ys = links_both xs ys
-links_both (Visited visit ∷ xs) ys = ap (λ (l : List LinkSeen). visit.after ∷ l) (links_both xs ys)
+-- so many answers, with the sessions of those who came
+pub record Visits (terms : Terms) (manner : Manner) (old : Asking) (answers : List DoorAnswer) (new : Asking) : Type 0 where
+  pub asked : List Asked
+  pub same : map answer_of asked ≡ answers
+  pub visits : AreVisits terms manner old.pass.worker asked
+  pub asks : AsksByPass old (calls_at asked) new
 
-calls_both : (xs ys : List Asked) → calls_at (xs ++ ys) ≡ calls_at xs ++ calls_at ys
-calls_both [] ys = refl
-calls_both (Waited ∷ xs) ys = calls_both xs ys
-calls_both (Visited visit ∷ xs) ys = ap (λ l. calls_on visit.course ++ l) (calls_both xs ys) ∙ sym (append_assoc (calls_on visit.course) (calls_at xs) (calls_at ys))
+one_more : {terms : Terms} {manner : Manner} {answers : List DoorAnswer} (old middle new : Asking) (visit : Visit)
+    → Visits terms manner middle answers new → AreVisits terms manner old.pass.worker (Visited visit ∷ []) → AsksByPass old (calls_on visit.course) middle
+    → Visits terms manner old (Somebody visit.before visit.after ∷ answers) new
+one_more {terms = terms} {manner = manner} old middle new visit rest is asks = record {
+  asked = Visited visit ∷ rest.asked;
+  same = ap (λ (l : List DoorAnswer). Somebody visit.before visit.after ∷ l) rest.same;
+  visits = (is.0, subst (λ worker. AreVisits terms manner worker rest.asked) asks.goes_on.same.1 rest.visits);
+  asks = asks_both old middle new (calls_on visit.course) (calls_at rest.asked) asks rest.asks;
+}
 
-visits_both : (terms : Terms) (manner : Manner) (worker : ℕ) (xs ys : List Asked) → AreVisits terms manner worker xs → AreVisits terms manner worker ys
-    → AreVisits terms manner worker (xs ++ ys)
-visits_both terms manner worker [] ys first then = then
-visits_both terms manner worker (Waited ∷ xs) ys first then = visits_both terms manner worker xs ys first then
-visits_both terms manner worker (Visited visit ∷ xs) ys first then = (first.0, visits_both terms manner worker xs ys first.1 then)
+module _ {S N P : Type 0} (at : S → Serving) (name : S → N) (pass_name : S → P) where
+  -- one caller was served by whoever is served from here
+  abbrev pub Serves : S → LinkSeen → LinkSeen → S → Type 0
+  Serves old before after new = (name new ≡ name old) × (pass_name new ≡ pass_name old) × ServesCaller (at old) before after (at new)
 
-waits_both : (door_turns a b c : ℕ) (xs ys : List Asked) → WaitsOn door_turns a xs b → WaitsOn door_turns b ys c → WaitsOn door_turns a (xs ++ ys) c
-waits_both door_turns a b c [] ys first then = rw first at then
-waits_both door_turns a b c (Waited ∷ xs) ys first then = (first.0, waits_both door_turns (a - 1) b c xs ys first.1 then)
-waits_both door_turns a b c (Visited visit ∷ xs) ys first then = (first.0, waits_both door_turns door_turns b c xs ys first.1 then)
+  pub visits_each : (old new : S) (answers : List DoorAnswer) → ServesEach Serves old answers new
+      → Visits (at old).terms (at old).manner (at old).asking answers (at new).asking × (name new ≡ name old) × (pass_name new ≡ pass_name old)
+  visits_each old new [] each = (
+    subst (λ (s : S). Visits (at old).terms (at old).manner (at old).asking [] (at s).asking) (sym each)
+        (record { asked = []; same = refl; visits = tt; asks = asks_none (at old).asking }),
+    ap name each,
+    ap pass_name each,
+  )
+  visits_each old new (Nobody ∷ answers) each =
+      let rest = visits_each old new answers each in (
+        record { asked = Waited ∷ rest.0.asked; same = ap (λ (l : List DoorAnswer). Nobody ∷ l) rest.0.same; visits = rest.0.visits; asks = rest.0.asks },
+        rest.1,
+        rest.2,
+      )
+  visits_each old new (Somebody before after ∷ answers) each =
+      let middle = each.0 in
+      let first = each.1 in
+      let rest = visits_each middle new answers each.2 in
+      let caller = first.2 in
+      let later : Visits (at old).terms (at old).manner (at middle).asking answers (at new).asking =
+      subst (λ t. Visits t (at old).manner (at middle).asking answers (at new).asking) caller.same_terms
+      (subst (λ m. Visits (at middle).terms m (at middle).asking answers (at new).asking) caller.same_manner rest.0) in (
+        one_more (at old).asking (at middle).asking (at new).asking (record { before = before; after = after; course = caller.served.course; reason = caller.reason }) later
+            (caller.served.visit, tt) caller.served.asks,
+        rest.1 ∙ first.0,
+        rest.2 ∙ first.1,
+      )
 
-comes_both : (a b c : Option (List (Arrival LinkSeen))) (xs ys : List Asked) → ComesOn a b xs → ComesOn b c ys → ComesOn a c (xs ++ ys)
-comes_both None b c xs ys first then = rw first at then
-comes_both (Some told) b c xs ys first then =
-    let more = rw first.1 at then in (
-      more.0,
-      more.1,
-      first.2 ∙ ap (λ (l : List (Arrival LinkSeen)). map arrival_of xs ++ l) more.2 ∙ sym (append_assoc (map arrival_of xs) (map arrival_of ys) more.0)
-          ∙ ap (λ (l : List (Arrival LinkSeen)). l ++ more.0) (sym (map-append arrival_of xs ys)),
-    )
-
-back_both : (a b c : Option (List LinkSeen)) (xs ys : List Asked) → BackWith a b xs → BackWith b c ys → BackWith a c (xs ++ ys)
-back_both None b c xs ys first then = rw first at then
-back_both (Some links) b c xs ys first then =
-    let more = rw first at then in
-    more ∙ ap (λ (l : List LinkSeen). Some l) (append_assoc links (links_in xs) (links_in ys) ∙ ap (λ (l : List LinkSeen). links ++ l) (sym (links_both xs ys)))
-
-comes_none : (told : Option (List (Arrival LinkSeen))) → ComesOn told told []
-comes_none None = refl
-comes_none (Some arrivals) = (arrivals, refl, refl)
-
-back_none : (back : Option (List LinkSeen)) → BackWith back back []
-back_none None = refl
-back_none (Some links) = ap (λ (l : List LinkSeen). Some l) (sym (append-nil links))
-
-deals_both : (before between after : DoorSeen) (xs ys : List Asked) → Deals before xs between → Deals between ys after → Deals before (xs ++ ys) after
-deals_both before between after [] ys first then = subst (λ (d : DoorSeen). Deals d ys after) first then
-deals_both before between after (x ∷ xs) ys first then = (first.0, first.1, deals_both first.0 between after xs ys first.2 then)
-
-once_unfailed : (before after : DoorSeen) (answer : Asked) → DealsOnce before answer after → after.faults ≡ before.faults
-once_unfailed before after Waited deals = deals.counts
-once_unfailed before after (Visited visit) deals = deals.2.faults ∙ deals.1.counts
-
--- no failure was among the answers
-unfailed : (before after : DoorSeen) (answers : List Asked) → Deals before answers after → after.faults ≡ before.faults
-unfailed before after [] deals = ap (λ (d : DoorSeen). d.faults) deals
-unfailed before after (answer ∷ answers) deals = unfailed deals.0 after answers deals.2 ∙ once_unfailed before deals.0 answer deals.1
-
-stops_counted : (now : ℕ) (last after : DoorSeen) (reason : DoorEnd) → StopsBy now last after reason → CountsFailure (is_failed_end reason) last.faults after.faults
-stops_counted now last after end.IdleOut stops = ap (λ (d : DoorSeen). d.faults) stops.1
-stops_counted now last after end.Closed stops = stops.1.counts
-stops_counted now last after end.Failed stops = stops.1.counts
-stops_counted now last after end.Memory stops = stops.1.counts
-
--- the count before all of it rose just where it stopped by a failure
-counts_through : (now : ℕ) (before last after : DoorSeen) (answers : List Asked) (reason : DoorEnd) → Deals before answers last → StopsBy now last after reason
-    → CountsFailure (is_failed_end reason) before.faults after.faults
-counts_through now before last after answers reason deals stops =
-    subst (λ n. CountsFailure (is_failed_end reason) n after.faults) (unfailed before last answers deals) (stops_counted now last after reason stops)
-
-module _ (terms : Terms) (manner : Manner) (door_turns : ℕ) where
-  attends_both : (worker a b c : ℕ) (before between after : DoorSeen) (xs ys : List Asked) → Attends terms manner worker door_turns a b before between xs
-      → Attends terms manner worker door_turns b c between after ys → Attends terms manner worker door_turns a c before after (xs ++ ys)
-  attends_both worker a b c before between after xs ys first then = record {
-    visits = visits_both terms manner worker xs ys first.visits then.visits;
-    waits = waits_both door_turns a b c xs ys first.waits then.waits;
-    deals = deals_both before between after xs ys first.deals then.deals;
-    comes = comes_both before.coming between.coming after.coming xs ys first.comes then.comes;
-    back = back_both before.back between.back after.back xs ys first.back then.back;
-    out = then.out ∙ first.out;
-  }
-
-  -- nothing was asked
-  pub on_none : (turns : ℕ) (door : DoorSeen) (asking : Asking) → AttendsOn terms manner door_turns turns turns door door asking asking
-  on_none turns door asking = record {
-    answers = [];
-    attends = record { visits = tt; waits = refl; deals = refl; comes = comes_none door.coming; back = back_none door.back; out = refl };
-    asks = asks_none asking;
-  }
-
-  -- what was done, and then more
-  pub on_both : {a b c : ℕ} {before between after : DoorSeen} {old middle new : Asking} → AttendsOn terms manner door_turns a b before between old middle
-      → AttendsOn terms manner door_turns b c between after middle new → AttendsOn terms manner door_turns a c before after old new
-  on_both {a = a} {b = b} {c = c} {before = before} {between = between} {after = after} {old = old} {middle = middle} {new = new} first then =
-      let xs = first.answers in
-      let ys = then.answers in
+  -- so a door that was asked up to its end had a worker's shift
+  pub shift_of : {door_turns : ℕ} {before after : DoorSeen} {reason : DoorEnd} (old new : S) → door.IsWorked Serves door_turns before after old new reason
+      → IsWorked (at old).terms (at old).manner door_turns before after (at old).asking (at new).asking reason
+  shift_of {door_turns = door_turns} {before = before} {after = after} {reason = reason} old new worked =
+      let visits = (visits_each old new worked.answers worked.served).0 in
       record {
-        answers = xs ++ ys;
-        attends = attends_both old.pass.worker a b c before between after xs ys first.attends (rw first.asks.goes_on.same.1 at then.attends);
-        asks = rw (calls_both xs ys) (asks_both old middle new (calls_at xs) (calls_at ys) first.asks then.asks);
-      }
-
--- nobody came
-comes_waited : (a b : Option (List (Arrival LinkSeen))) → ComesNext a b came.Idle → ComesOn a b (Waited ∷ [])
-comes_waited None b next = next
-comes_waited (Some told) b next = next
-
--- somebody came
-comes_visited : (visit : Visit) (a b : Option (List (Arrival LinkSeen))) → ComesNext a b (came.Caller visit.before) → ComesOn a b (Visited visit ∷ [])
-comes_visited visit None b next = next
-comes_visited visit (Some told) b next = next
-
-module _ (terms : Terms) (manner : Manner) (door_turns turns : ℕ) where
-  pub on_waited : (before after : DoorSeen) (asking : Asking) → 0 < turns → AnswersSo before after came.Idle → AttendsOn terms manner door_turns turns (turns - 1) before after asking asking
-  on_waited before after asking some so = record {
-    answers = Waited ∷ [];
-    attends = record {
-      visits = tt;
-      waits = (some, refl);
-      deals = (after, so, refl);
-      comes = comes_waited before.coming after.coming so.comes;
-      back = so.back ∙ back_none before.back;
-      out = so.out;
-    };
-    asks = asks_none asking;
-  }
-
-  pub on_visited : (before between after : DoorSeen) (link : LinkSeen) (old new : Asking) → 0 < turns → AnswersSo before between (came.Caller link)
-      → IsWelcomed terms manner link between after old new → AttendsOn terms manner door_turns turns door_turns before after old new
-  on_visited before between after link old new some so welcomed =
-      let visit : Visit = record { before = link; after = welcomed.link_back; course = welcomed.served.course; reason = welcomed.reason } in
-      record {
-        answers = Visited visit ∷ [];
-        attends = record {
-          visits = (welcomed.served.visit, tt);
-          waits = (some, refl);
-          deals = (after, (between, so, welcomed.back), refl);
-          comes = comes_visited visit before.coming after.coming (rw welcomed.back.coming so.comes);
-          back = welcomed.back.back ∙ ap (λ b. back_with b welcomed.link_back) so.back;
-          out = (let was = welcomed.back.out in let lent = so.out in omega (arith, was, lent));
+        answers = visits.asked;
+        shift = record {
+          visits = visits.visits;
+          asked = subst (λ (l : List DoorAnswer). IsAsked door_turns before after l reason) (sym visits.same) worked.asked;
         };
-        asks = rw (append-nil (calls_on welcomed.served.course)) welcomed.served.asks;
+        asks = visits.asks;
       }
-
-module _ {terms : Terms} {manner : Manner} {door_turns a b : ℕ} {before between after : DoorSeen} {old middle new : Asking} where
-  -- the door was asked once more
-  pub on_next : {left : ℕ} → AttendsOn terms manner door_turns a b before between old middle → AsksDoorOnce terms manner door_turns b between after middle new (Ok left)
-      → AttendsOn terms manner door_turns a left before after old new
-  on_next {left = left} so_far next =
-      on_both terms manner door_turns so_far
-      (subst (λ n. AttendsOn terms manner door_turns b n between after middle new) next.next.0
-      (subst (λ (d : DoorSeen). AttendsOn terms manner door_turns b next.now between d middle new) (sym next.next.2) next.attends))
-
--- and for the last time
-pub worked : {terms : Terms} {manner : Manner} {door_turns b : ℕ} {before between after : DoorSeen} {old middle new : Asking} {reason : DoorEnd}
-    → AttendsOn terms manner door_turns door_turns b before between old middle → AsksDoorOnce terms manner door_turns b between after middle new (Err reason)
-    → IsWorked terms manner door_turns before after old new reason
-worked {terms = terms} {manner = manner} {door_turns = door_turns} {before = before} {after = after} {reason = reason} so_far next =
-    let all = on_both terms manner door_turns so_far next.attends in
-    record {
-      answers = all.answers;
-      shift = record {
-        now = next.now;
-        last = next.last;
-        attends = all.attends;
-        stops = next.next;
-        counts = counts_through next.now before next.last after all.answers reason all.attends.deals next.next;
-      };
-      asks = all.asks;
-    }

@@ -8,6 +8,7 @@ mod serving;
 mod worker;
 mod working;
 
+pub use door_workers::DoorEnd;
 pub use serving::serve_link;
 pub use worker::{DeskWorker, desk_calls_go_on};
-pub use working::{DoorEnd, work};
+pub use working::work;

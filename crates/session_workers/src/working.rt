@@ -1,27 +1,60 @@
-//! The worker, from its first asking to its last.
+//! The worker at a door, who serves each caller by calls of one pass.
 
 ghost use Rattle.std.specs.Prelude.{◌≡◌, ◌<◌};
-ghost use Rattle.session_workers.specs.Shifts.{AsksDoorOnce, IsWelcomed, IsWorked};
+ghost use Rattle.session_workers.specs.Shifts.{IsWorked};
 
 use crate::{DeskWorker, serve_link};
+use door_workers::{DoorEnd, LinkServer};
 use pool_io::Keeper;
-use pool_network::{Came, Door};
+use pool_network::{Door, Link};
 use session_steps::Manner;
 use std::alloc::Global;
 use std::sync::Wait;
 use v1_translate::V1Terms;
 
-/// Why a worker asked no more.
-#[derive(Clone, Copy, Debug, PartialEq, Eq)]
-pub enum DoorEnd {
-    /// Nobody called for too many answers in a row.
-    IdleOut,
-    /// Nobody will call any more.
-    Closed,
-    /// The door failed.
-    Failed,
-    /// There was no memory for a caller.
-    Memory,
+/// Who serves callers, each by one session: a pass at its desk, and how the sessions are held.
+struct SessionServer<'w, 'a, 't, R: Wait, K: Keeper> {
+    alloc: Global,
+    asker: &'w mut DeskWorker<'a, R, K>,
+    manner: Manner,
+    terms: &'t V1Terms,
+}
+
+impl<R: Wait, K: Keeper> LinkServer for SessionServer<'_, '_, '_, R, K> {
+    ghost use Rattle.session_workers.specs.Shifts.{ServesCaller, serving_of};
+
+    ghost ready = { λ server. (server.asker.now.pass.now.table ≡ server.asker.now.desk.now.table)
+        × (0 < server.manner.idle_turns) };
+
+    ghost serves = { λ old before after new. (new.asker.ghost_name ≡ old.asker.ghost_name)
+        × (new.asker.now.pass.ghost_name ≡ old.asker.now.pass.ghost_name)
+        × ServesCaller
+        (serving_of old.terms.now old.manner old.asker.now.pass.now old.asker.now.faults) before after
+        (serving_of new.terms.now new.manner new.asker.now.pass.now new.asker.now.faults) };
+
+    fn serve<L: Link>(&mut self, link: &mut L) {
+        serve_link(self.alloc, self.asker, link, self.manner, self.terms);
+    }
+}
+
+impl<R: Wait, K: Keeper> SessionServer<'_, '_, '_, R, K> {
+    ghost use Rattle.session_workers.specs.Shifts.{IsWorked};
+
+    /// Serves those who call at a door, up to an end.
+    fn serve_door<D: Door>(&mut self, rt: &R, door: &mut D, door_turns: u64) -> DoorEnd
+        requires desk { self.old.asker.now.pass.now.table ≡ self.old.asker.now.desk.now.table }
+        requires waits { (0 < self.old.manner.idle_turns) × (0 < door_turns) }
+        ensures same { self.new.asker.ghost_name ≡ self.old.asker.ghost_name }
+        ensures pass { self.new.asker.now.pass.ghost_name ≡ self.old.asker.now.pass.ghost_name }
+        ensures desk { self.new.asker.now.pass.now.table ≡ self.new.asker.now.desk.now.table }
+        ensures worked { IsWorked self.old.terms.now self.old.manner door_turns (D.seen door.old)
+            (D.seen door.new)
+            (record { pass = self.old.asker.now.pass.now; faults = self.old.asker.now.faults })
+            (record { pass = self.new.asker.now.pass.now; faults = self.new.asker.now.faults })
+            result }
+    {
+        door_workers::work(rt, self, door, door_turns)
+    }
 }
 
 /// Serves those who call at a door, one after the other, until the door says that it is closed or
@@ -43,67 +76,18 @@ pub fn work<R: Wait, K: Keeper, D: Door>(
         (record { pass = asker.new.pass.now; faults = asker.new.faults }) result }
 {
     let rt = asker.rt;
-    let mut turns = door_turns;
-    for _ in rt.forever() {
-        match ask_door(alloc, asker, door, manner, terms, door_turns, turns) {
-            Ok(left) => turns = left,
-            Err(end) => return end,
-        }
-    }
-    unreachable!()
-}
-
-/// Asks the door once, and serves who called. Answers how many Idle answers in a row are still
-/// waited for.
-fn ask_door<R: Wait, K: Keeper, D: Door>(
-    alloc: Global,
-    asker: &mut DeskWorker<'_, R, K>,
-    door: &mut D,
-    manner: Manner,
-    terms: &V1Terms,
-    door_turns: u64,
-    turns: u64,
-) -> Result<u64, DoorEnd>
-    requires desk { asker.old.pass.now.table ≡ asker.old.desk.now.table }
-    requires waits { (0 < manner.idle_turns) × (0 < door_turns) }
-    requires turns { 0 < turns }
-    ensures desk { asker.new.pass.now.table ≡ asker.new.desk.now.table }
-    ensures pass { asker.new.pass.ghost_name ≡ asker.old.pass.ghost_name }
-    ensures next { AsksDoorOnce terms.now manner door_turns turns (D.seen door.old) (D.seen door.new)
-        (record { pass = asker.old.pass.now; faults = asker.old.faults })
-        (record { pass = asker.new.pass.now; faults = asker.new.faults }) result }
-{
-    match door.accept() {
-        Came::Caller(link) => {
-            welcome(alloc, asker, door, link, manner, terms);
-            Ok(door_turns)
-        }
-        Came::Idle if turns == 1 => Err(DoorEnd::IdleOut),
-        Came::Idle => Ok(turns - 1),
-        Came::Closed => Err(DoorEnd::Closed),
-        Came::Failed => Err(DoorEnd::Failed),
-        Came::Memory => Err(DoorEnd::Memory),
-    }
-}
-
-/// Serves one who called, and hands the connection back.
-fn welcome<R: Wait, K: Keeper, D: Door>(
-    alloc: Global,
-    asker: &mut DeskWorker<'_, R, K>,
-    door: &mut D,
-    mut link: D::L,
-    manner: Manner,
-    terms: &V1Terms,
-)
-    requires desk { asker.old.pass.now.table ≡ asker.old.desk.now.table }
-    requires waits { 0 < manner.idle_turns }
-    requires out { 0 < (D.seen door.old).out }
-    ensures desk { asker.new.pass.now.table ≡ asker.new.desk.now.table }
-    ensures pass { asker.new.pass.ghost_name ≡ asker.old.pass.ghost_name }
-    ensures served { IsWelcomed terms.now manner (D.L.seen link)
-        (D.seen door.old) (D.seen door.new) (record { pass = asker.old.pass.now; faults = asker.old.faults })
-        (record { pass = asker.new.pass.now; faults = asker.new.faults }) }
-{
-    serve_link(alloc, asker, &mut link, manner, terms);
-    door.done(link);
+    let mut server = SessionServer {
+        alloc,
+        asker,
+        manner,
+        terms,
+    };
+    let end = server.serve_door(rt, door, door_turns);
+    let SessionServer {
+        alloc: _,
+        asker: _,
+        manner: _,
+        terms: _,
+    } = server;
+    end
 }

@@ -1,18 +1,16 @@
-use Rattle.std.proofs.Common.{arith}
-use Rattle.pool_server.proofs.Whole.{every_worker, has_served, passes_long, tables_are}
+use Rattle.std.proofs.Common.{arith, subst}
+use Rattle.pool_server.specs.Ending.{HasServed}
+use Rattle.pool_server.specs.Parts.{seeing_of, service_of}
+use Rattle.pool_server.proofs.Whole.{opened_so}
 use Rattle.pool_server.proofs.serving.serve.Goals as goal
 
-pub run-tended-requires-clause-as_many : goal.run-tended-requires-clause-as_many
-run-tended-requires-clause-as_many g c κs within =
-    let long = passes_long c.in-Ok-new.ensures in
-    omega (arith, long, c.in-Ok-new.passes.ok.0, c.len-2.ensures, c.requires.few)
+pub run-requires-clause-opened : goal.run-requires-clause-opened
+run-requires-clause-opened g c κs within = opened_so c.in-Ok-new.ensures
 
-pub finish-requires-clause-desk : goal.finish-requires-clause-desk
-finish-requires-clause-desk g c = tables_are c.args.doors c.in-Ok-new.ensures (omega (arith, c.args.doors.ok.0, c.len-2.ensures, c.requires.few)) c.run-tended.ensures
-
-pub finish-requires-clause-complete : goal.finish-requires-clause-complete
-finish-requires-clause-complete g c = every_worker c.args.doors c.in-Ok-new.ensures (omega (arith, c.args.doors.ok.0, c.len-2.ensures, c.requires.few)) c.run-tended.ensures
+pub run-requires-clause-as_many : goal.run-requires-clause-as_many
+run-requires-clause-as_many g c κs within = omega (arith, c.in-Ok-new.ensures.dealt, c.len-3.ensures, c.args.doors.ok.0, c.requires.few)
 
 pub returns-in-Ok-new : goal.returns-in-Ok-new
 returns-in-Ok-new g c =
-    has_served c.args.doors c.in-Ok-new.ensures (omega (arith, c.args.doors.ok.0, c.len-2.ensures, c.requires.few)) c.run-tended.ensures c.finish.result c.finish.ensures
+    subst (λ b. HasServed (seeing_of g.D.Door.seen g.D.L.Link.seen (service_of c.args.terms.now c.args.limits)) b c.args.doors c.args.feed c.run.result) c.in-Ok-new.ensures.start
+    c.run.ensures
