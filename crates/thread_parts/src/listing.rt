@@ -79,6 +79,7 @@ pub fn unlist<D, L>(mut parts: Vec<ThreadPart<D, L>>, mut doors: Vec<D>) -> Tend
         door_memory,
     }
 }
+
 /// The link and how its session ended.
 fn link_of<D, L>(task: ThreadTask<D, L>) -> (L, SessionEnd)
     requires { IsLinkTask task }
