@@ -1,0 +1,10 @@
+//! The links of a proxy: what a miner's lines and an upstream's frames ask of it, and what is put of
+//! its answers, over whoever answers what a proxy is asked. Nothing here opens a connection, starts a
+//! thread or knows a desk.
+#![tactic(auto)]
+
+mod asking;
+mod miner;
+mod news;
+
+pub use asking::ProxyAsking;
