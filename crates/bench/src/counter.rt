@@ -1,7 +1,8 @@
 //! A machine that many threads call: it keeps numbers, and answers how many it had. So what is timed
 //! is the taking of turns.
 
-ghost use Rattle.std.specs.Prelude.{◌≡◌, ◌+◌, ◌<◌, ◌^◌, [], ◌∷◌, length, false, true};
+ghost use Rattle.std.specs.Prelude.{◌≡◌, ◌+◌, ◌<◌, ◌^◌, [], ◌∷◌, length, true};
+ghost use Rattle.desk.specs.Machines.{tells_nothing};
 
 use crate::turns::{Asked, Sharing, call_in_threads};
 use anyhow::{Result, bail};
@@ -40,7 +41,7 @@ impl Machine for Counter {
 
     ghost events = { λ counter. counter.numbers.items };
 
-    ghost health = { λ _. record { faults = 0; tells = false } };
+    ghost health = { λ _. record { faults = 0; tells = tells_nothing } };
 
     ghost wants_memory = { λ _. true };
 

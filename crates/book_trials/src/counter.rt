@@ -1,6 +1,7 @@
 //! A machine that adds numbers up, and fails at the calls that were listed.
 
-ghost use Rattle.std.specs.Prelude.{◌≡◌, ◌+◌, ◌<◌, ◌^◌, [], ◌∷◌, false, length, sum};
+ghost use Rattle.std.specs.Prelude.{◌≡◌, ◌+◌, ◌<◌, ◌^◌, [], ◌∷◌, length, sum};
+ghost use Rattle.desk.specs.Machines.{tells_nothing};
 
 use desk::Machine;
 
@@ -35,7 +36,7 @@ impl Machine for Counter {
 
     ghost events = { λ counter. counter.added.items };
 
-    ghost health = { λ counter. record { faults = counter.faults; tells = false } };
+    ghost health = { λ counter. record { faults = counter.faults; tells = tells_nothing } };
 
     ghost wants_memory = { λ broken. broken.wants_room };
 

@@ -35,8 +35,8 @@ pub record IsRefused {E Q R F M : Type 0} (desk : Opening M) (passes : List (Pro
   pub place_is : IsLeastMissing desk.count passes place
 
 -- the machine's events begin with those of the machine that the desk was opened with, and with what
--- each pass has seen, and it tells what it keeps if that one did; the calls of all passes are good, and part
--- the events
+-- each pass has seen, and it tells what that one told; the calls of all passes are good, and part the
+-- events
 pub record HasClosed {E Q R F M : Type 0} (answers : List E → ℕ → Q → List E → R → Type 0)
     (wants_memory : F → Bool) (events_of : M → List E) (health_of : M → Health)
     (desk : Opening M) (passes : List (Progress E Q R F)) (machine : M) : Type 0 where

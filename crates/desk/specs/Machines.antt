@@ -1,14 +1,23 @@
 -- What one call of a machine does to its events and its health (this project's own).
-use Rattle.std.specs.Prelude.{◌≡◌, ℕ, ◌≤◌, Bool, false, List, ◌++◌, Result, Ok, Err}
+use Rattle.std.specs.Prelude.{◌≡◌, ℕ, ◌≤◌, Bool, false, List, ◌++◌, Option, None, Result, Ok, Err}
 use Rattle.pool_base.specs.Counts.{Rose}
 
--- its count of faults, and whether it tells what it keeps
+-- what a machine tells of what it keeps: whether it tells its records, and how many of them were there
+-- for good at its first moment, where it tells that
+pub record Telling : Type 0 where
+  pub records : Bool
+  pub begun : Option ℕ
+
+-- one that tells nothing
+abbrev pub tells_nothing : Telling
+tells_nothing = record { records = false; begun = None }
+
+-- its count of faults, and what it tells of what it keeps
 pub record Health : Type 0 where
   pub faults : ℕ
-  pub tells : Bool
+  pub tells : Telling
 
--- the count is no less than before, and a machine that told still tells, as one that didn't tells
--- nothing
+-- the count is no less than before, and the machine tells what it told, which is of its first moment
 pub record IsLaterHealth (before after : Health) : Type 0 where
   pub faults : before.faults ≤ after.faults
   pub tells : after.tells ≡ before.tells

@@ -42,9 +42,8 @@ pub record HasTurn {E Q R F : Type 0} (views : List (View E Q R F)) (seat : ℕ)
   pub has_turn : view.has_turn ≡ true
 
 -- the word is twice the count of calls, and 1 more while a seat has the turn; all calls, one after
--- the other, are what became of the machine that was there at the start, which tells what it keeps if that
--- one did; the calls and the workers
--- of all seats are all calls and all workers
+-- the other, are what became of the machine that was there at the start, which tells what that one told;
+-- the calls and the workers of all seats are all calls and all workers
 pub record IsOneHistory {E Q R F M : Type 0}
     (answers : List E → ℕ → Q → List E → R → Type 0) (wants_memory : F → Bool)
     (events_of : M → List E) (health_of : M → Health) (start : M) (count : ℕ)

@@ -2,7 +2,7 @@
 -- is made.
 use Rattle.std.specs.Prelude.{ℕ, zero, suc, ◌+◌, Bool, true, false, List, [], ◌∷◌, ◌++◌, length, take, drop, max, nat_lt, cond}
 use Rattle.pool_base.specs.Calls.{Call}
-use Rattle.desk.specs.Machines.{Health}
+use Rattle.desk.specs.Machines.{Health, tells_nothing}
 
 -- what was seen, what was told by a seat that was joined, the known number, the own calls, the
 -- workers that it calls for, whether it has the turn, and the machine's health when the turn came
@@ -29,7 +29,7 @@ fresh_view start workers = record {
   calls = [];
   workers = workers;
   has_turn = false;
-  base = record { faults = 0; tells = false };
+  base = record { faults = 0; tells = tells_nothing };
 }
 
 -- a seat that was joined

@@ -16,7 +16,7 @@ pub trait Machine {
     // The events so far.
     ghost events: { Self → List Self.Event };
 
-    // The count of faults, and whether it tells what it keeps.
+    // The count of faults, and what it tells of what it keeps.
     ghost health: { Self → Health };
 
     // The faults that are for lack of memory, and say nothing of the count.

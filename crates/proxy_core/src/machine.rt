@@ -7,6 +7,7 @@ use std::alloc::AllocError;
 
 impl Machine for Proxy {
     ghost use Rattle.std.specs.Prelude.{true};
+    ghost use Rattle.desk.specs.Machines.{tells_nothing};
     ghost use Rattle.proxy_rules.specs.Answering.{ProxyAnswers};
 
     type Event = ProxyEvent;
@@ -20,7 +21,7 @@ impl Machine for Proxy {
     ghost events = { λ proxy. proxy };
 
     // Nothing is kept outside of it.
-    ghost health = { λ proxy. record { faults = 0; tells = true } };
+    ghost health = { λ proxy. record { faults = 0; tells = tells_nothing } };
 
     // It fails for want of memory alone.
     ghost wants_memory = { λ fault. true };

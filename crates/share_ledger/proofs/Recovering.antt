@@ -1,11 +1,11 @@
 -- What a crash leaves of a book's records, from one append to the next.
-use Rattle.std.proofs.Common.{◌≡◌, ◌⊎◌, inl, inr, ⊎_elim, ℕ, ◌+◌, ◌≤◌, None, Some, Option, List, [], ◌∷◌, ◌++◌, Result, Ok, Err, OnErr, OnOk, length, take, replicate, suc, zero, refl, sym, ◌∙◌, ap, subst, arith, length-append}
+use Rattle.std.proofs.Common.{append_assoc, is_some, true≢false, ◌≡◌, ◌⊎◌, inl, inr, ⊎_elim, ℕ, ◌+◌, ◌≤◌, None, Some, Option, List, [], ◌∷◌, ◌++◌, Result, Ok, Err, OnErr, OnOk, length, take, replicate, suc, zero, refl, sym, ◌∙◌, ap, subst, arith, length-append}
 use Rattle.std.specs.Prelude.{IfSome}
 use Rattle.std.specs.Option.{option_map}
 use Rattle.std.proofs.Math.Seq.{take-length}
 use Rattle.std.proofs.lemmas.List.{append-nil, take-append-le}
 use Rattle.pool_io.specs.declared.keeper.KeeperFailed.{KeeperFailed}
-use Rattle.pool_io.specs.Crashes.{FindsMore, IsSettledWith, NeverFell, RoseTo, StoresNext}
+use Rattle.pool_io.specs.Crashes.{FindsMore, IsSettledWith, NeverFell, RoseTo, StoresNext, counts_at_end}
 use Rattle.pool_io.specs.Seen.{KeeperSeen}
 use Rattle.pool_io.specs.Outside.{AddsRecord}
 use Rattle.pool_history.specs.declared.events.Event.{Event}
@@ -15,7 +15,7 @@ use Rattle.history_laws.specs.Legality.{Starts}
 use Rattle.ledger_laws.specs.Growing.{LedgersGrow, PiecesGrow, hash_after}
 use Rattle.ledger_laws.specs.Keeping.{IsKept, KeepsOn}
 use Rattle.ledger_records.specs.Pieces.{piece_behind}
-use Rattle.share_ledger.specs.Recovery.{CanRecover, FindsHistory, FindsNext, IsRecoverable, LeavesFront, Recovers, RecoversNext, pieces_of}
+use Rattle.share_ledger.specs.Recovery.{CanRecover, FindsHistory, FindsNext, IsRecoverable, LeavesFront, Recovers, RecoversNext, count_begun, first_count, pieces_of}
 use Rattle.share_ledger.specs.Tables.{LedgerTables}
 use Rattle.share_ledger.proofs.Answering.{piece-more}
 
@@ -207,3 +207,35 @@ settled-recovers history keeper may told settled =
 -- a keeper that doesn't tell what is there for good
 pub untold-recovers : (history : List Event) (keeper : KeeperSeen) (may : ℕ → Option (List (List ℕ)) → Type 0) → keeper.stored ≡ None → IsRecoverable keeper may history
 untold-recovers history keeper may none = subst (λ s. CanRecover keeper.records s may history) (sym none) tt
+
+-- moments before a first one leave it the first
+first_same : (moments : List ℕ) (last count : ℕ) (earlier : List ℕ) → first_count last (moments ++ count ∷ earlier) ≡ first_count count earlier
+first_same [] last count earlier = refl
+first_same (moment ∷ moments) last count earlier = first_same moments moment count earlier
+
+begun_same : (records : List (List ℕ)) (moments : List ℕ) (count : ℕ) (earlier : List ℕ) → count_begun (Some records) (Some (moments ++ count ∷ earlier)) ≡ Some (first_count count earlier)
+begun_same records [] count earlier = refl
+begun_same records (moment ∷ moments) count earlier = ap (λ (n : ℕ). Some n) (first_same moments moment count earlier)
+
+-- an append leaves a keeper's first moment the first
+pub begun-on : (result : Result (Unit {0}) KeeperFailed) (history : List Event) (told told' : Option (List (List ℕ))) (stored stored' : Option (List ℕ)) (may : ℕ → Option (List (List ℕ)) → Type 0)
+    → is_some told' ≡ is_some told → ((before : List (List ℕ)) → told ≡ Some before → StoresNext result (length before) stored stored')
+    → CanRecover told stored may history → count_begun told' stored' ≡ count_begun told stored
+begun-on result history None None stored stored' may same stores can = refl
+begun-on result history None (Some now) stored stored' may same stores can = absurd (true≢false same)
+begun-on result history (Some records) None stored stored' may same stores can = absurd (true≢false (sym same))
+begun-on result history (Some records) (Some now) None stored' may same stores can =
+    let next = stores records refl in
+    subst (λ (s : Option (List ℕ)). count_begun (Some now) s ≡ None) (sym next.1) refl
+begun-on result history (Some records) (Some now) (Some []) stored' may same stores can = absurd can.rose
+begun-on result history (Some records) (Some now) (Some (count ∷ earlier)) stored' may same stores can =
+    let next = stores records refl in
+    let end = counts_at_end result (length records) in
+    let moments = replicate next.0 (length records) in
+    subst (λ (s : Option (List ℕ)). count_begun (Some now) s ≡ Some (first_count count earlier)) (sym next.1)
+    (ap (λ (l : List ℕ). count_begun (Some now) (Some l)) (sym (append_assoc end moments (count ∷ earlier))) ∙ begun_same now (end ++ moments) count earlier)
+
+-- one that told its records tells them with one more
+pub tells-more : (told told' : Option (List (List ℕ))) (piece : List ℕ) → AddsRecord told told' piece → is_some told' ≡ is_some told
+tells-more None told' piece adds = ap (λ (t : Option (List (List ℕ))). is_some t) adds
+tells-more (Some records) told' piece adds = ap (λ (t : Option (List (List ℕ))). is_some t) adds

@@ -11,17 +11,18 @@ use Rattle.pool_history.specs.declared.replies.Reply.{Reply}
 use Rattle.pool_history.specs.Answering.{Answer}
 use Rattle.pool_history.specs.Ledger.{kept_records}
 use Rattle.pool_history.specs.Calls.{blames_keeper}
+use Rattle.share_ledger.specs.Recovery.{begun_with}
 
 -- the events, and the keeper of their records
 pub record BookSeen : Type 0 where
   pub events : List Event
   pub keeper : KeeperSeen
 
--- its keeper's count of faults, and whether that one tells its records
+-- its keeper's count of faults, and what that one tells of its records
 abbrev pub health_of : BookSeen → Health
 health_of book = record {
   faults = book.keeper.faults;
-  tells = is_some book.keeper.records;
+  tells = record { records = is_some book.keeper.records; begun = begun_with book.keeper };
 }
 
 -- the reply is that of the answer to the request, and the history grows by its events alone

@@ -4,6 +4,6 @@ pub mod Asking
 pub mod ChannelSteps
 pub mod Tokens
 pub mod Shares
+pub mod Recovery
 pub mod Books
 pub mod Booking
-pub mod Recovery

@@ -1,5 +1,5 @@
 -- What a book says of crashes, where its keeper tells what is there for good (this project's own).
-use Rattle.std.specs.Prelude.{◌≡◌, ◌⊎◌, ℕ, ◌≤◌, List, [], ◌∷◌, ◌++◌, length, take, Option, Some, IfSome, Result, Ok, Err}
+use Rattle.std.specs.Prelude.{◌≡◌, ◌⊎◌, ℕ, ◌≤◌, List, [], ◌∷◌, ◌++◌, length, take, Option, None, Some, IfSome, Result, Ok, Err}
 use Rattle.pool_io.specs.Crashes.{RoseTo}
 use Rattle.pool_io.specs.Seen.{KeeperSeen}
 use Rattle.pool_history.specs.declared.events.Event.{Event}
@@ -10,6 +10,25 @@ use Rattle.ledger_laws.specs.Keeping.{KeepsOn}
 abbrev pub pieces_of : List Event → List (List ℕ)
 pieces_of [] = []
 pieces_of (event ∷ history) = kept_records (event ∷ history)
+
+-- of these counts, the last one first, the first
+abbrev pub first_count : ℕ → List ℕ → ℕ
+first_count last [] = last
+first_count last (count ∷ earlier) = first_count count earlier
+
+-- how many records were there for good at a keeper's first moment, where it tells its records and that
+abbrev pub count_begun : Option (List (List ℕ)) → Option (List ℕ) → Option ℕ
+count_begun None stored = None
+count_begun (Some records) None = None
+count_begun (Some records) (Some []) = None
+count_begun (Some records) (Some (last ∷ earlier)) = Some (first_count last earlier)
+
+abbrev pub begun_with : KeeperSeen → Option ℕ
+begun_with keeper = count_begun keeper.records keeper.stored
+
+-- its first moment stays the first
+abbrev pub KeepsBeginning : (old new : KeeperSeen) → Type 0
+KeepsBeginning old new = begun_with new ≡ begun_with old
 
 -- the records of this history are found, and nothing else
 abbrev pub FindsHistory : List Event → Option (List (List ℕ)) → Type 0

@@ -53,7 +53,7 @@ impl<K: Keeper> Book<K> {
     ghost use Rattle.ledger_laws.specs.Keeping.{IsKept};
     ghost use Rattle.pool_io.specs.Outside.{CountsFailure};
     ghost use Rattle.share_ledger.specs.Books.{IsReplied, IsUnused, KeepsInstead, KeepsLedger, is_keeper_fault};
-    ghost use Rattle.share_ledger.specs.Recovery.{IsRecoverable, IsStored};
+    ghost use Rattle.share_ledger.specs.Recovery.{IsRecoverable, IsStored, KeepsBeginning};
 
     /// The book of a pool that starts, with a keeper that keeps nothing yet: the magic and the Start
     /// record are kept as one piece.
@@ -65,11 +65,13 @@ impl<K: Keeper> Book<K> {
         ensures kept { IfOk result (λ book.
             KeepsInstead (K.seen keeper).records book.keeper.records book.events) }
         ensures counts { IfOk result (λ book. book.keeper.faults ≡ (K.seen keeper).faults) }
+        ensures begun { IfOk result (λ book. KeepsBeginning (K.seen keeper) book.keeper) }
         ensures refused { IfErr result (λ failed. (K.seen failed.0).records ≡ (K.seen keeper).records) }
         ensures fault { IfErr result (λ failed. CountsFailure (blames_keeper failed.1)
             (K.seen keeper).faults (K.seen failed.0).faults) }
         ensures unbegun { IfErr result (λ failed.
             IsRecoverable (K.seen failed.0) (K.may_find failed.0) []) }
+        ensures stands { IfErr result (λ failed. KeepsBeginning (K.seen keeper) (K.seen failed.0)) }
     {
         let tables = match start_tables(alloc, rules) {
             Ok(tables) => tables,
@@ -125,6 +127,7 @@ impl<K: Keeper> Book<K> {
         ensures refused { OnErr result (self.new.events ≡ self.old.events) }
         ensures kept { KeepsInstead self.old.keeper.records self.new.keeper.records
             self.new.events }
+        ensures begun { KeepsBeginning self.old.keeper self.new.keeper }
         ensures counts { CountsFailure (is_keeper_fault result) self.old.keeper.faults
             self.new.keeper.faults }
     {

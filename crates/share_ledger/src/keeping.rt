@@ -8,7 +8,7 @@ ghost use Rattle.ledger_records.specs.Pieces.{piece_behind};
 ghost use Rattle.pool_io.specs.Outside.{AddsRecord, CountsFailure};
 ghost use Rattle.ledger_laws.specs.Keeping.{KeepsOn};
 ghost use Rattle.share_ledger.specs.Books.{KeepsInstead, KeepsLedger, is_keeper_fault};
-ghost use Rattle.share_ledger.specs.Recovery.{IsRecoverable, RecoversNext, pieces_of};
+ghost use Rattle.share_ledger.specs.Recovery.{IsRecoverable, KeepsBeginning, RecoversNext, pieces_of};
 ghost use Rattle.share_ledger.specs.Planning.{Changes, IsNext, IsReady, MakesStep};
 
 use crate::planning::{Planned, Step};
@@ -41,6 +41,7 @@ pub(crate) fn carry_out<K: Keeper>(
         tables.new.history.events }
     ensures recovers { IsRecoverable (K.seen keeper.new) (K.may_find keeper.new)
         tables.new.history.events }
+    ensures begun { KeepsBeginning (K.seen keeper.old) (K.seen keeper.new) }
     ensures counts { CountsFailure (is_keeper_fault result) (K.seen keeper.old).faults
         (K.seen keeper.new).faults }
 {
@@ -81,6 +82,8 @@ fn commit<K: Keeper>(
         → IsRecoverable (K.seen keeper.old) (K.may_find keeper.old) tables.old.history.events
         → RecoversNext result (K.seen keeper.new) (K.may_find keeper.new) tables.old.history.events
         planned.event }
+    ensures begun { IsRecoverable (K.seen keeper.old) (K.may_find keeper.old)
+        tables.old.history.events → KeepsBeginning (K.seen keeper.old) (K.seen keeper.new) }
 {
     let Planned {
         event,
@@ -114,6 +117,9 @@ fn keep<K: Keeper>(
         ≡ pieces_of history ++ piece_behind hash.now event.now ∷ []
         → IsRecoverable (K.seen keeper.old) (K.may_find keeper.old) history
         → RecoversNext result (K.seen keeper.new) (K.may_find keeper.new) history event.now }
+    ensures begun { (history : List Event)
+        → IsRecoverable (K.seen keeper.old) (K.may_find keeper.old) history
+        → KeepsBeginning (K.seen keeper.old) (K.seen keeper.new) }
     ensures counts { CountsFailure (is_keeper_fault result) (K.seen keeper.old).faults
         (K.seen keeper.new).faults }
 {
@@ -141,6 +147,8 @@ pub(crate) fn keep_start<K: Keeper>(
     ensures recovers { KeepsOn [] (event.now ∷ [])
         → IsRecoverable (K.seen keeper.old) (K.may_find keeper.old) []
         → RecoversNext result (K.seen keeper.new) (K.may_find keeper.new) [] event.now }
+    ensures begun { IsRecoverable (K.seen keeper.old) (K.may_find keeper.old) []
+        → KeepsBeginning (K.seen keeper.old) (K.seen keeper.new) }
     ensures counts { CountsFailure (is_keeper_fault result) (K.seen keeper.old).faults
         (K.seen keeper.new).faults }
 {
@@ -164,6 +172,9 @@ fn append<K: Keeper>(keeper: &mut K, piece: &[u8]) -> Result<(), BookError>
         → pieces_of (history ++ next ∷ []) ≡ pieces_of history ++ piece.now ∷ []
         → IsRecoverable (K.seen keeper.old) (K.may_find keeper.old) history
         → RecoversNext result (K.seen keeper.new) (K.may_find keeper.new) history next }
+    ensures begun { (history : List Event)
+        → IsRecoverable (K.seen keeper.old) (K.may_find keeper.old) history
+        → KeepsBeginning (K.seen keeper.old) (K.seen keeper.new) }
     ensures counts { CountsFailure (is_keeper_fault result) (K.seen keeper.old).faults
         (K.seen keeper.new).faults }
 {
