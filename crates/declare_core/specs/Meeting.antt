@@ -1,13 +1,21 @@
 -- What is made of a frame of a declaration (this project's own).
-use Rattle.std.specs.Prelude.{◌≡◌, ℕ, Some, List}
+use Rattle.std.specs.Prelude.{◌≡◌, ℕ, Option, None, Some, List}
 use Rattle.std.specs.List.{flat_map}
 use Rattle.sv2_messages.specs.Messages.{Message, MsgOf}
 use Rattle.sv2_messages.specs.Tables.{declare_table}
 use Rattle.pool_history.specs.declared.asking.Request.TheVariants as request
+use Rattle.declare_rules.specs.declared.asked.Asked.{Asked}
+use Rattle.declare_rules.specs.declared.asked.Asked.TheVariants as asks
 use Rattle.declare_rules.specs.Declaring.{Answer, Says, AsksGrant, Reaction, reaction}
 use Rattle.declare_rules.specs.State.{DeclareState}
 use Rattle.declare_core.specs.declared.declarer.Declared.{Declared}
 use Rattle.declare_core.specs.declared.declarer.Declared.TheVariants.{Say, Ask, BadMessage}
+
+-- the declaration for which the pool was asked
+abbrev pub declared_id : Asked → Option ℕ
+declared_id (asks.Declared request_id) = Some request_id
+declared_id (asks.Token identity) = None
+declared_id asks.Nothing = None
 
 -- what is answered is this
 abbrev pub IsAnswer : Answer → Declared → Type 0

@@ -66,7 +66,7 @@ impl Declarer {
     ghost use Rattle.declare_msgs.specs.Seen.{declare_mining_job, provide_missing_transactions_success};
     ghost use Rattle.declare_rules.specs.Declaring as rules;
     ghost use Rattle.declare_rules.specs.State as state;
-    ghost use Rattle.declare_core.specs.Meeting.{MeetsFrame, Reacts};
+    ghost use Rattle.declare_core.specs.Meeting.{MeetsFrame, Reacts, declared_id};
 
     /// A session that heard nothing.
     pub fn new(alloc: Global) -> Declarer
@@ -140,6 +140,16 @@ impl Declarer {
             }
             Asked::Declared(request_id) => self.asked = Asked::Declared(request_id),
             Asked::Nothing => {}
+        }
+    }
+
+    /// The request of the declaration for which the pool was asked last, if it was for one.
+    pub fn declared(&self) -> Option<u32>
+        ensures { result ≡ declared_id self.now.asked }
+    {
+        match &self.asked {
+            Asked::Declared(request_id) => Some(*request_id),
+            Asked::Nothing | Asked::Token(_) => None,
         }
     }
 

@@ -37,7 +37,7 @@ pub(crate) fn put_missing(
 }
 
 /// Appends the frame that gives an accepted declaration's token, or nothing where memory runs out.
-pub(crate) fn put_success(request_id: u32, number: u64, out: &mut Vec<u8>) -> Result<(), AllocError>
+pub fn put_success(request_id: u32, number: u64, out: &mut Vec<u8>) -> Result<(), AllocError>
     ensures ok { OnOk result (out.new.items ≡ out.old.items
         ++ rules.success_frame request_id number) }
     ensures err { OnErr result (out.new.items ≡ out.old.items) }
@@ -53,11 +53,7 @@ pub(crate) fn put_success(request_id: u32, number: u64, out: &mut Vec<u8>) -> Re
 }
 
 /// Appends the frame that refuses a declaration, or nothing where memory runs out.
-pub(crate) fn put_error(
-    request_id: u32,
-    error: DeclareError,
-    out: &mut Vec<u8>,
-) -> Result<(), AllocError>
+pub fn put_error(request_id: u32, error: DeclareError, out: &mut Vec<u8>) -> Result<(), AllocError>
     ensures ok { OnOk result (out.new.items ≡ out.old.items
         ++ rules.error_frame request_id error) }
     ensures err { OnErr result (out.new.items ≡ out.old.items) }

@@ -13,3 +13,4 @@ mod missing;
 mod waiting;
 
 pub use declarer::{Declared, Declarer};
+pub use frames::{put_error, put_success};

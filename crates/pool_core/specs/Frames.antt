@@ -4,7 +4,7 @@ use Rattle.sv2_frames.specs.declared.framing.Frame.{Frame}
 use Rattle.sv2_frames.specs.Framing.{FrameValue}
 use Rattle.sv2_messages.specs.Messages.{Message, MsgOf, Row}
 use Rattle.session_steps.specs.declared.meeting.Step.{Step}
-use Rattle.session_steps.specs.declared.meeting.Step.TheVariants.{Ignore, Ask, RefuseSetup, BadSetup, BadMessage}
+use Rattle.session_steps.specs.declared.meeting.Step.TheVariants.{Ignore, Ask, Say, RefuseSetup, BadSetup, BadMessage}
 use Rattle.session_steps.specs.Meeting.{LeadsBy}
 use Rattle.session_steps.specs.Talks.{Talk}
 
@@ -31,6 +31,7 @@ abbrev pub MeetsBy : List Row → Talk → ℕ → List ℕ → Step → Talk �
 MeetsBy table talk kind payload (BadMessage told) next =
     BringsNone table talk kind payload told next
 MeetsBy table talk kind payload (Ask asked) next = LeadsOn table talk kind payload (Ask asked) next
+MeetsBy table talk kind payload (Say bytes) next = LeadsOn table talk kind payload (Say bytes) next
 MeetsBy table talk kind payload (RefuseSetup code flags) next =
     LeadsOn table talk kind payload (RefuseSetup code flags) next
 MeetsBy table talk kind payload BadSetup next = LeadsOn table talk kind payload BadSetup next

@@ -7,7 +7,7 @@ ghost use Rattle.coinbase.specs.Form.{output_bytes};
 ghost use Rattle.pool_history.specs.declared.events.Kind.TheVariants as kind;
 ghost use Rattle.pool_history.specs.declared.events.Role.TheVariants as role;
 ghost use Rattle.pool_history.specs.Headers.{extranonce_prefix};
-ghost use Rattle.session_steps.specs.Answers.{constraints_frame, credit_frames, greeting, only_frames, open_error_frames, opened_frames, opening_frames, own_job_error_frames, own_job_frames, own_setup_frame, refusal_frame, setup_code, setup_frames, share_error_frames, token_frame, token_frames, update_error_frames};
+ghost use Rattle.session_steps.specs.Answers.{constraints_frame, credit_frames, grant_error_frames, greeting, only_frames, open_error_frames, opened_frames, opening_frames, own_job_error_frames, own_job_frames, own_setup_frame, refusal_frame, setup_code, setup_frames, share_error_frames, token_frame, token_frames, update_error_frames};
 ghost use Rattle.session_steps.specs.Steps.{bytes_of_frames};
 ghost use Rattle.session_steps.specs.Told.{mining_frame};
 ghost use Rattle.sv2_types.specs.Fields.{Bytes, Number};
@@ -15,7 +15,9 @@ ghost use Rattle.sv2_messages.specs.declared.kinds.TheConstants as message_kinds
 ghost use Rattle.pool_core.specs.Parts.{PutsOnly};
 
 use block_header::target_of;
+use declare_core::{put_error, put_success};
 use declare_msgs::{AllocateMiningJobTokenSuccess, Declare};
+use declare_rules::DeclareError;
 use mining_msgs::{
     Mining, OpenExtendedMiningChannelSuccess, OpenMiningChannelError,
     OpenStandardMiningChannelSuccess, SetCustomMiningJobError, SetCustomMiningJobSuccess,
@@ -140,6 +142,7 @@ pub(crate) fn put_answer(
         Reply::Credited(work) => put_credit(about, *work, out),
         Reply::Refused(failed) => put_share_error(about, failed.code(), out),
         Reply::Granted(grant, script) => put_token(about, *grant, script, out),
+        Reply::GrantRefused(_) => put_grant_error(about, out),
         Reply::CustomJob(job) => put_own_job(about, *job, out),
         Reply::CustomRefused(error) => put_own_job_error(about, error.code(), out),
         Reply::PoolFull(_)
@@ -152,8 +155,7 @@ pub(crate) fn put_answer(
         | Reply::Closed
         | Reply::NotOpen
         | Reply::Brief(_)
-        | Reply::News(_, _)
-        | Reply::GrantRefused(_) => Ok(false),
+        | Reply::News(_, _) => Ok(false),
     }
 }
 
@@ -358,10 +360,26 @@ fn put_token(
     ensures { PutsOnly result (token_frames about.now grant script.now)
         out.old.items out.new.items }
 {
-    let About::Token(request_id) = about else {
+    match about {
+        About::Token(request_id) => {
+            put_grant(*request_id, grant, script, out)?;
+            Ok(true)
+        }
+        About::Declared(request_id) => {
+            put_success(*request_id, grant, out)?;
+            Ok(true)
+        }
+        _ => Ok(false),
+    }
+}
+
+fn put_grant_error(about: &About, out: &mut Vec<u8>) -> Result<bool, AllocError>
+    ensures { PutsOnly result (grant_error_frames about.now) out.old.items out.new.items }
+{
+    let About::Declared(request_id) = about else {
         return Ok(false);
     };
-    put_grant(*request_id, grant, script, out)?;
+    put_error(*request_id, DeclareError::TooManyGrants, out)?;
     Ok(true)
 }
 

@@ -7,9 +7,10 @@ use crate::answering::{put_answer, put_greeting};
 use crate::asking::{declare_meaning, mining_meaning, template_meaning};
 use crate::meaning::Meaning;
 use crate::news::put_note;
-use crate::taking::{is_feeds_kind, takes_kind};
+use crate::taking::{brings_own_jobs, is_declared_kind, is_feeds_kind, takes_kind};
+use declare_core::{Declared, Declarer};
 use pool_history::{Reply, Request, Role, SessionNumber, Submission};
-use session_steps::{About, SetupCode, Step};
+use session_steps::{About, Manner, SetupCode, Step};
 use share_check::check;
 use std::alloc::{AllocError, Global};
 use std::marker::Model;
@@ -21,15 +22,17 @@ const ROLLING_REFUSED: u32 = 0xffff_fff8;
 
 const FIXED_REFUSED: u32 = 0xffff_fffc;
 
-/// One session, from its first frame on: who the other side is, what its setup said, and what it
-/// asked about last.
-#[derive(Debug, Drop)]
+/// One session, from its first frame on: who the other side is, what its setup said, what it asked
+/// about last, and what it knows of declarations.
+#[derive(Drop)]
 pub struct Session {
     role: Role,
     rolling: bool,
+    declares: bool,
     flags: Option<u32>,
     number: SessionNumber,
     about: About,
+    declarer: Declarer,
 }
 
 impl Model for Session {
@@ -40,22 +43,25 @@ impl Model for Session {
     ghost view = { λ session. record {
       role = session.role;
       rolling = session.rolling;
+      declares = session.declares;
       flags = session.flags;
       number = session.number;
       about = session.about;
+      declarations = session.declarer;
     } };
 }
 
 impl Session {
-    ghost use Rattle.std.specs.Prelude.{◌≡◌, ◌++◌, ◌<◌, ◌^◌, ℕ, true, IfOk, OnOk, OnErr, length, is_some, Some};
+    ghost use Rattle.std.specs.Prelude.{◌≡◌, ◌++◌, ◌<◌, ◌≤◌, ◌^◌, ℕ, true, if◌then◌else◌, IfOk, OnOk, OnErr, length, is_some, Some};
     ghost use Rattle.pool_history.specs.declared.asking.Request.TheVariants as request;
+    ghost use Rattle.declare_rules.specs.Declaring.{asking_token};
     ghost use Rattle.sv2_messages.specs.Messages.{Message};
     ghost use Rattle.sv2_messages.specs.Tables.{declare_table, mining_table, template_table};
     ghost use Rattle.session_steps.specs.Answers as answers;
-    ghost use Rattle.session_steps.specs.Meeting.{LeadsBy, Meets, SetsUp};
+    ghost use Rattle.session_steps.specs.Meeting.{LeadsBy, Meets, SetsUp, about_asked, noting};
     ghost use Rattle.session_steps.specs.Setups.{refused_flags, setup_by};
     ghost use Rattle.session_steps.specs.Steps.{bytes_of_frames};
-    ghost use Rattle.session_steps.specs.Taken.{is_taken, takes_kind};
+    ghost use Rattle.session_steps.specs.Taken.{is_declared_kind, is_taken, takes_declared, takes_kind};
     ghost use Rattle.session_steps.specs.Talks.{heard, new_talk};
     ghost use Rattle.pool_core.specs.Frames.{MeetsBy, frame_value};
     ghost use Rattle.pool_core.specs.Following.{FollowsReply, RollsAsAsked};
@@ -64,16 +70,18 @@ impl Session {
     ghost use Rattle.pool_core.specs.declared.meaning.Meaning.TheVariants as meanings;
     ghost use Rattle.session_steps.specs.Setups as setups;
 
-    /// A session before its first frame; `rolling` is whether the pool lets miners roll versions.
-    pub fn new(role: Role, rolling: bool) -> Session
-        ensures { result ≡ new_talk role rolling }
+    /// A session before its first frame, which is held so.
+    pub fn new(alloc: Global, manner: Manner) -> Session
+        ensures { result ≡ new_talk manner.role manner.rolling manner.declares }
     {
         Session {
-            role,
-            rolling,
+            role: manner.role,
+            rolling: manner.rolling,
+            declares: manner.declares,
             flags: None,
             number: SessionNumber::of(0),
             about: About::Nothing,
+            declarer: Declarer::new(alloc),
         }
     }
 
@@ -85,6 +93,8 @@ impl Session {
         let (kind, payload) = (frame.kind, frame.payload);
         if !self.takes(frame) {
             Ok(Step::Ignore)
+        } else if is_declared_kind(kind) {
+            self.on_declaration(alloc, frame)
         } else if is_feeds_kind(kind) {
             self.on_template(alloc, kind, payload)
         } else if kind == kinds::ALLOCATE_MINING_JOB_TOKEN {
@@ -108,13 +118,14 @@ impl Session {
         }
     }
 
-    /// Learns its number, as it enters.
+    /// Learns its number, as it enters, and the tokens that it is granted.
     fn hear(&mut self, reply: &Reply)
         ensures { self.new ≡ heard self.old reply.now }
     {
         if let Reply::Entered(number) = reply {
             self.number = SessionNumber::of(number.value());
         }
+        self.declarer.hear(reply);
     }
 
     /// Appends the frame with the number `part` of a reply's answer, or of its news, and counts it,
@@ -184,7 +195,41 @@ impl Session {
     fn takes(&self, frame: &Frame<'_>) -> bool
         ensures { result ≡ is_taken self.now (frame_value frame.now) }
     {
-        frame.ext % 0x8000 == 0 && takes_kind(self.role, self.flags, frame.kind)
+        frame.ext % 0x8000 == 0
+            && (takes_kind(self.role, self.flags, frame.kind) || self.takes_declared(frame.kind))
+    }
+
+    fn takes_declared(&self, kind: u8) -> bool
+        ensures { result ≡ takes_declared self.now kind }
+    {
+        is_declared_kind(kind) && self.declares && brings_own_jobs(self.role, self.flags)
+    }
+
+    /// What it makes of a taken frame of a declaration.
+    fn on_declaration(&mut self, alloc: Global, frame: &Frame<'_>) -> Result<Step, AllocError>
+        requires taken { is_taken self.old (frame_value frame.now) ≡ true }
+        requires kind { is_declared_kind frame.now.kind ≡ true }
+        ensures ok { IfOk result (λ step. Meets self.old (frame_value frame.now) step self.new) }
+        ensures err { OnErr result (self.new ≡ self.old) }
+    {
+        match self.declarer.on_frame(alloc, frame)? {
+            Declared::Say(bytes) => Ok(Step::Say(bytes)),
+            Declared::Ask(request) => {
+                self.about = self.about_asked();
+                Ok(Step::Ask(request))
+            }
+            Declared::BadMessage(kind) => Ok(Step::BadMessage(kind)),
+        }
+    }
+
+    /// What a Grant that was asked for a declaration answers.
+    fn about_asked(&self) -> About
+        ensures { result ≡ about_asked self.now.declarations.asked }
+    {
+        match self.declarer.declared() {
+            Some(request_id) => About::Declared(request_id),
+            None => About::Nothing,
+        }
     }
 
     fn on_mining(&mut self, alloc: Global, kind: u8, payload: &[u8]) -> Result<Step, AllocError>
@@ -196,7 +241,7 @@ impl Session {
         let read = mining_msgs::read(kind, payload);
         match &read {
             Err(_) => Ok(Step::BadMessage(kind)),
-            Ok(message) => Ok(self.lead(mining_meaning(alloc, message)?)),
+            Ok(message) => self.lead(alloc, mining_meaning(alloc, message)?),
         }
     }
 
@@ -209,7 +254,7 @@ impl Session {
         let read = template_msgs::read(kind, payload);
         match &read {
             Err(_) => Ok(Step::BadMessage(kind)),
-            Ok(message) => Ok(self.lead(template_meaning(alloc, message)?)),
+            Ok(message) => self.lead(alloc, template_meaning(alloc, message)?),
         }
     }
 
@@ -222,15 +267,16 @@ impl Session {
         let read = declare_msgs::read(kind, payload);
         match &read {
             Err(_) => Ok(Step::BadMessage(kind)),
-            Ok(message) => Ok(self.lead(declare_meaning(alloc, message)?)),
+            Ok(message) => self.lead(alloc, declare_meaning(alloc, message)?),
         }
     }
 
     /// What a taken message leads to.
-    fn lead(&mut self, meaning: Meaning) -> Step
-        ensures { (message : Message) → IsMeaningOf message meaning
+    fn lead(&mut self, alloc: Global, meaning: Meaning) -> Result<Step, AllocError>
+        ensures ok { IfOk result (λ step. (message : Message) → IsMeaningOf message meaning
             → takes_kind self.old.role self.old.flags message.kind ≡ true
-            → LeadsBy self.old.flags self.old message result self.new }
+            → LeadsBy self.old.flags self.old message step self.new) }
+        ensures err { OnErr result (self.new ≡ self.old) }
     {
         match meaning {
             Meaning::Setup {
@@ -239,18 +285,20 @@ impl Session {
                 max_version,
                 flags,
             } => match self.role {
-                Role::Feed => Step::BadSetup,
-                Role::Miner | Role::Solo => self.set_up(protocol, min_version, max_version, flags),
+                Role::Feed => Ok(Step::BadSetup),
+                Role::Miner | Role::Solo => {
+                    Ok(self.set_up(protocol, min_version, max_version, flags))
+                }
             },
             Meaning::SetUp {
                 used_version: 2,
                 flags,
             } => match self.role {
-                Role::Feed => self.accept(flags),
-                Role::Miner | Role::Solo => Step::BadSetup,
+                Role::Feed => Ok(self.accept(flags)),
+                Role::Miner | Role::Solo => Ok(Step::BadSetup),
             },
-            Meaning::SetUp { .. } | Meaning::Other => Step::BadSetup,
-            Meaning::Work(request, about) => self.ask(request, about),
+            Meaning::SetUp { .. } | Meaning::Other => Ok(Step::BadSetup),
+            Meaning::Work(request, about) => self.ask(alloc, request, about),
         }
     }
 
@@ -299,15 +347,47 @@ impl Session {
     }
 
     /// Asks, once it is set up.
-    fn ask(&mut self, request: Request, about: About) -> Step
-        ensures { (message : Message) → IsMeaningOf message (meanings.Work request about)
-            → LeadsBy self.old.flags self.old message result self.new }
+    fn ask(&mut self, alloc: Global, request: Request, about: About) -> Result<Step, AllocError>
+        ensures ok { IfOk result (λ step. (message : Message)
+            → IsMeaningOf message (meanings.Work request about)
+            → LeadsBy self.old.flags self.old message step self.new) }
+        ensures err { OnErr result (self.new ≡ self.old) }
     {
         if self.flags.is_none() {
-            return Step::BadSetup;
+            return Ok(Step::BadSetup);
         }
+        self.note(alloc, &request)?;
         self.about = about;
-        Step::Ask(request)
+        Ok(Step::Ask(request))
+    }
+
+    fn note_token(&mut self, alloc: Global, identity: &str) -> Result<(), AllocError>
+        requires { length identity.now ≤ 255 }
+        ensures ok { OnOk result (self.new ≡ record self.old {
+          declarations = if self.old.declares
+              then asking_token self.old.declarations identity.now
+              else self.old.declarations;
+        }) }
+        ensures err { OnErr result (self.new ≡ self.old) }
+    {
+        if self.declares {
+            self.declarer.ask_token(alloc, identity)
+        } else {
+            Ok(())
+        }
+    }
+
+    /// Notes a token that it asks for, where it takes declarations.
+    fn note(&mut self, alloc: Global, request: &Request) -> Result<(), AllocError>
+        ensures ok { OnOk result (self.new ≡ record self.old {
+          declarations = noting self.old.declares self.old.declarations request.now;
+        }) }
+        ensures err { OnErr result (self.new ≡ self.old) }
+    {
+        match request {
+            Request::Grant(identity, _) => self.note_token(alloc, identity.text()),
+            _ => Ok(()),
+        }
     }
 }
 

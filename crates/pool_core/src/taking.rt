@@ -3,7 +3,7 @@
 ghost use Rattle.std.specs.Prelude.{◌≡◌};
 ghost use Rattle.pool_history.specs.Sessions.{feeds, mines};
 ghost use Rattle.pool_history.specs.Legal.{selects_work};
-ghost use Rattle.session_steps.specs.Taken.{brings_own_jobs, is_feeds_kind, is_miners_kind, is_own_jobs_kind, is_setup_kind, is_work_kind, takes_kind};
+ghost use Rattle.session_steps.specs.Taken.{brings_own_jobs, is_declared_kind, is_feeds_kind, is_miners_kind, is_own_jobs_kind, is_setup_kind, is_work_kind, takes_kind};
 
 use pool_history::Role;
 use sv2_messages::kinds;
@@ -55,6 +55,13 @@ pub(crate) fn is_feeds_kind(kind: u8) -> bool
     kind == kinds::NEW_TEMPLATE || kind == kinds::TEMPLATE_SET_NEW_PREV_HASH
 }
 
+/// Declarations, and the transactions that they lack.
+pub(crate) fn is_declared_kind(kind: u8) -> bool
+    ensures { result ≡ is_declared_kind kind }
+{
+    kind == kinds::DECLARE_MINING_JOB || kind == kinds::PROVIDE_MISSING_TRANSACTIONS_SUCCESS
+}
+
 fn is_own_jobs_kind(kind: u8) -> bool
     ensures { result ≡ is_own_jobs_kind kind }
 {
@@ -76,7 +83,7 @@ fn is_setup_kind(role: Role, kind: u8) -> bool
 }
 
 #[tactic(auto, using(std::proofs::lemmas::Nat::Bits::shr_and_one))]
-fn brings_own_jobs(role: Role, flags: Option<u32>) -> bool
+pub(crate) fn brings_own_jobs(role: Role, flags: Option<u32>) -> bool
     ensures { result ≡ brings_own_jobs role flags }
 {
     match flags {

@@ -21,10 +21,10 @@ use Rattle.session_steps.specs.declared.ends.SessionEnd.TheVariants as end
 use Rattle.session_steps.specs.declared.meeting.Step.{Step}
 use Rattle.session_steps.specs.declared.meeting.Step.TheVariants as step
 use Rattle.session_steps.specs.States as states
-use Rattle.session_steps.specs.States.{State, Stage, Asking, Committing, Greeting, Leaving, Over, Polling, Reading, Refusing, Put, answered_stage, briefed_stage, end_stage, end_after_fault, fault_end, input_end, new_state, news_stage, next_stage, nothing_put, put_stage}
+use Rattle.session_steps.specs.States.{State, Stage, Asking, Committing, Greeting, Leaving, Over, Polling, Reading, Refusing, Saying, Put, answered_stage, briefed_stage, end_stage, end_after_fault, fault_end, input_end, new_state, news_stage, next_stage, nothing_put, put_stage}
 use Rattle.session_steps.specs.Steps as steps
 use Rattle.session_steps.specs.Talks.{Talk}
-use Rattle.session_steps.specs.Steps.{CanCall, CanStarve, CanStep, Follows, PutsAnswer, PutsHeard, Refuses, SessionStep, after_asking, after_booking, after_call, after_news, after_step, end_after, met_stage, put_in, reads_after, reads_after_step, writes_after, writes_after_put}
+use Rattle.session_steps.specs.Steps.{CanCall, CanStarve, CanStep, Follows, PutsAnswer, PutsHeard, Refuses, Says, SessionStep, after_asking, after_booking, after_call, after_news, after_step, end_after, met_stage, put_in, reads_after, reads_after_step, writes_after, writes_after_put}
 use Rattle.session_loop.specs.Causes.{is_read_end, is_write_end}
 use Rattle.session_loop.specs.Sessions.{IsSession}
 
@@ -98,6 +98,7 @@ blame_briefed (topic.Opening request_id kind) brief stage none = none
 blame_briefed (topic.Channel channel) brief stage none = none
 blame_briefed (topic.Token request_id) brief stage none = none
 blame_briefed (topic.OwnJob channel request_id) brief stage none = none
+blame_briefed (topic.Declared request_id) brief stage none = none
 
 pub blame_answered : (about : About) (entered : Bool) (idles : ℕ) (answer : Reply) → blame_at (answered_stage about entered idles answer) ≡ Neither
 blame_answered about entered idles (reply.PoolFull most) = blame_end entered end.PoolFull
@@ -142,12 +143,14 @@ blame_call (Leaving reason) s call put can = blame_left reason call.outcome ∙ 
 blame_call Greeting s call put can = absurd can
 blame_call Reading s call put can = absurd can
 blame_call (Refusing code flags) s call put can = absurd can
+blame_call (Saying bytes) s call put can = absurd can
 blame_call (Over reason) s call put can = absurd can
 
 blame_met : (entered : Bool) (made : Step) → blame_at (met_stage entered made) ≡ Neither
 blame_met entered step.Ignore = refl
 blame_met entered (step.Ask asked) = refl
 blame_met entered (step.RefuseSetup code flags) = refl
+blame_met entered (step.Say bytes) = refl
 blame_met entered step.BadSetup = blame_end entered end.BadSetup
 blame_met entered (step.BadMessage kind) = blame_end entered (end.BadMessage kind)
 
@@ -162,6 +165,7 @@ starving_blame : (stage : Stage) → CanStarve stage → Neither ≡ blame_at st
 starving_blame Greeting can = refl
 starving_blame Reading can = refl
 starving_blame (Refusing code flags) can = absurd can
+starving_blame (Saying bytes) can = absurd can
 starving_blame (Asking asked) can = absurd can
 starving_blame (Committing brief) can = absurd can
 starving_blame Polling can = absurd can
@@ -170,6 +174,7 @@ starving_blame (Over reason) can = absurd can
 
 refusing_blame : (stage : Stage) (put : Put) → Refuses stage put → Neither ≡ blame_at stage
 refusing_blame (Refusing code flags) put refuses = refl
+refusing_blame (Saying bytes) put refuses = absurd refuses
 refusing_blame Greeting put refuses = absurd refuses
 refusing_blame Reading put refuses = absurd refuses
 refusing_blame (Asking asked) put refuses = absurd refuses
@@ -178,6 +183,17 @@ refusing_blame Polling put refuses = absurd refuses
 refusing_blame (Leaving reason) put refuses = absurd refuses
 refusing_blame (Over reason) put refuses = absurd refuses
 
+saying_blame : (stage : Stage) (put : Put) → Says stage put → Neither ≡ blame_at stage
+saying_blame (Saying bytes) put says = refl
+saying_blame (Refusing code flags) put says = absurd says
+saying_blame Greeting put says = absurd says
+saying_blame Reading put says = absurd says
+saying_blame (Asking asked) put says = absurd says
+saying_blame (Committing brief) put says = absurd says
+saying_blame Polling put says = absurd says
+saying_blame (Leaving reason) put says = absurd says
+saying_blame (Over reason) put says = absurd says
+
 -- what a step leads to is blamed by the step alone, and else as before
 blame_step : (worker : ℕ) (s : State) (x : SessionStep) → CanStep worker s x → blame_at (after_step s x).stage ≡ blame_after x (blame_at s.stage)
 blame_step worker s (steps.Greeted put) can = blame_putting put.fault s.entered Reading refl ∙ ap (blame_put put.fault) (ap blame_at (sym can.0))
@@ -185,6 +201,7 @@ blame_step worker s (steps.Took bytes) can = refl
 blame_step worker s (steps.Framed met) can = blame_met s.entered met.step ∙ reading_blame s.stage can.reading
 blame_step worker s (steps.Refused put) can =
     blame_putting put.fault s.entered (end_stage s.entered end.BadSetup) (blame_end s.entered end.BadSetup) ∙ ap (blame_put put.fault) (refusing_blame s.stage put can)
+blame_step worker s (steps.Said put) can = blame_putting put.fault s.entered Reading refl ∙ ap (blame_put put.fault) (saying_blame s.stage put can)
 blame_step worker s (steps.Overran len) can = blame_end s.entered (end.TooLong len) ∙ reading_blame s.stage can.reading
 blame_step worker s steps.Idled can = blame_news s.entered (s.idles - 1) ∙ reading_blame s.stage can.waiting.reading
 blame_step worker s steps.Ended can = blame_end s.entered (input_end s.unmet) ∙ blame_input s.unmet ∙ reading_blame s.stage can.waiting.reading
@@ -231,6 +248,7 @@ module _ (n : ℕ) where
   reads_call Greeting s call put can = absurd can
   reads_call Reading s call put can = absurd can
   reads_call (Refusing code flags) s call put can = absurd can
+  reads_call (Saying bytes) s call put can = absurd can
   reads_call (Over reason) s call put can = absurd can
 
   writes_call : (stage : Stage) (s : State) (call : PoolCall) (put : Put) → CanCall stage s call put
@@ -242,6 +260,7 @@ module _ (n : ℕ) where
   writes_call Greeting s call put can = absurd can
   writes_call Reading s call put can = absurd can
   writes_call (Refusing code flags) s call put can = absurd can
+  writes_call (Saying bytes) s call put can = absurd can
   writes_call (Over reason) s call put can = absurd can
 
   reads_step : (worker : ℕ) (s : State) (x : SessionStep) → CanStep worker s x → reads_after_step (reads_by n (blame_at s.stage)) x ≡ reads_by n (blame_after x (blame_at s.stage))
@@ -249,6 +268,7 @@ module _ (n : ℕ) where
   reads_step worker s (steps.Took bytes) can = refl
   reads_step worker s (steps.Framed met) can = refl
   reads_step worker s (steps.Refused put) can = reads_at s.stage put.fault (refusing_blame s.stage put can)
+  reads_step worker s (steps.Said put) can = reads_at s.stage put.fault (saying_blame s.stage put can)
   reads_step worker s (steps.Overran len) can = refl
   reads_step worker s steps.Idled can = refl
   reads_step worker s steps.Ended can = refl
@@ -263,6 +283,7 @@ module _ (n : ℕ) where
   writes_step worker s (steps.Took bytes) can = refl
   writes_step worker s (steps.Framed met) can = refl
   writes_step worker s (steps.Refused put) can = writes_at s.stage put.fault (refusing_blame s.stage put can)
+  writes_step worker s (steps.Said put) can = writes_at s.stage put.fault (saying_blame s.stage put can)
   writes_step worker s (steps.Overran len) can = refl
   writes_step worker s steps.Idled can = refl
   writes_step worker s steps.Ended can = refl

@@ -134,6 +134,7 @@ booked_stage (topic.Opening request_id kind) brief asked stage books = absurd bo
 booked_stage (topic.Channel channel) brief asked stage books = absurd books
 booked_stage (topic.Token request_id) brief asked stage books = absurd books
 booked_stage (topic.OwnJob channel request_id) brief asked stage books = absurd books
+booked_stage (topic.Declared request_id) brief asked stage books = absurd books
 
 unbooked_stage : (about : About) (brief : Briefing) (stage : Stage) → is_booked about (reply.Brief brief) ≡ false → briefed_stage about brief stage ≡ stage
 unbooked_stage (topic.Share sub) brief stage booked = cc
@@ -142,6 +143,7 @@ unbooked_stage (topic.Opening request_id kind) brief stage booked = refl
 unbooked_stage (topic.Channel channel) brief stage booked = refl
 unbooked_stage (topic.Token request_id) brief stage booked = refl
 unbooked_stage (topic.OwnJob channel request_id) brief stage booked = refl
+unbooked_stage (topic.Declared request_id) brief stage booked = refl
 
 -- an answer that was put leads to the news, or to the end of the session
 pub answered_leads : (answer : Reply) (next : AfterReply) (about : About) (entered : Bool) (idles : ℕ) → is_booked about answer ≡ false → IsAfterAnswer answer next

@@ -20,7 +20,7 @@ use Rattle.session_steps.specs.declared.ends.SessionEnd.{SessionEnd}
 use Rattle.session_steps.specs.declared.ends.SessionEnd.TheVariants as end
 use Rattle.session_steps.specs.declared.manner.Manner.{Manner}
 use Rattle.session_steps.specs.Answers.{greeting}
-use Rattle.session_steps.specs.States.{Over, Put, Reading, State, failed_end, new_state, next_stage, nothing_put}
+use Rattle.session_steps.specs.States.{Over, most_payload, Put, Reading, State, failed_end, new_state, next_stage, nothing_put}
 use Rattle.session_steps.specs.Steps as steps
 use Rattle.session_steps.specs.Steps.{BeginsOver, CanTake, Follows, Greeted, Idled, SessionStep, Starved, after_step, at_stage, bytes_in_steps, bytes_of_frames, calls_in, put_in, reads_after, turns_in, writes_after}
 use Rattle.session_steps.specs.Talks.{new_talk}
@@ -150,8 +150,8 @@ module _ (idle_turns : ℕ) (waiting : Waiting) (old middle new : LinkSeen) (buf
 -- ---- the steps that these are
 
 -- a session that took no bytes yet waits for them
-no_header : (len : ℕ) → ¬ BeginsOver len []
-no_header len begins =
+no_header : (most len : ℕ) → ¬ BeginsOver most len []
+no_header most len begins =
     let six : length (header_of begins.ext begins.kind len) ≡ 6 = refl in
     let parts : 0 ≡ length (header_of begins.ext begins.kind len) + length begins.more =
     ap length begins.header ∙ length-append (header_of begins.ext begins.kind len) begins.more in
@@ -172,7 +172,7 @@ idle_state manner idles = record (new_state manner) { stage = Reading; idles = i
 
 can_take : (manner : Manner) (idles : ℕ) → CanTake (idle_state manner idles)
 can_take manner idles = record {
-  waiting = record { reading = refl; cut = nothing_cut; not_over = no_header };
+  waiting = record { reading = refl; cut = nothing_cut; not_over = no_header (most_payload manner.declares) };
   some = omega arith;
 }
 
@@ -333,7 +333,7 @@ begun_bytes worker does old new a manner waits buffer first begins =
 
 -- the first bytes are what is met first
 pub begun_is : (listener : Listener) (c : Conversation) (manner : Manner) (waiting : Waiting) (piece : List ℕ) → listener.waiting ≡ waiting → listener.splitter.held ≡ []
-    → c.session ≡ new_talk manner.role manner.rolling → c.entered ≡ false → c.cursor ≡ 0
+    → c.session ≡ new_talk manner.role manner.rolling manner.declares → c.entered ≡ false → c.cursor ≡ 0
     → state_at Reading (intake_with piece listener) c ≡ begun_state manner waiting piece
 begun_is listener c manner waiting piece waits none talk entered cursor = rw (waits, none, talk, entered, cursor) refl
 

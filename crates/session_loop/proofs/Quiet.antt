@@ -14,7 +14,7 @@ use Rattle.session_steps.specs.declared.about.About.{About}
 use Rattle.session_steps.specs.declared.about.About.TheVariants as topic
 use Rattle.session_steps.specs.declared.ends.SessionEnd.{SessionEnd}
 use Rattle.session_steps.specs.declared.ends.SessionEnd.TheVariants as end
-use Rattle.session_steps.specs.States.{State, Stage, Asking, Committing, Greeting, Leaving, Over, Polling, Reading, Refusing, Put, answered_stage, briefed_stage, end_stage, fault_end, hears, news_stage, next_stage, put_stage}
+use Rattle.session_steps.specs.States.{State, Stage, Asking, Committing, Greeting, Leaving, Over, Polling, Reading, Refusing, Saying, Put, answered_stage, briefed_stage, end_stage, fault_end, hears, news_stage, next_stage, put_stage}
 use Rattle.session_steps.specs.Steps.{after_asking, after_booking, after_news}
 
 abbrev pub IsQuietEnd : SessionEnd → Type 0
@@ -61,6 +61,7 @@ quiet_briefed (topic.Opening request_id kind) brief stage quiet = quiet
 quiet_briefed (topic.Channel channel) brief stage quiet = quiet
 quiet_briefed (topic.Token request_id) brief stage quiet = quiet
 quiet_briefed (topic.OwnJob channel request_id) brief stage quiet = quiet
+quiet_briefed (topic.Declared request_id) brief stage quiet = quiet
 
 quiet_answered : (about : About) (entered : Bool) (idles : ℕ) (answer : Reply) → IsQuietStage (answered_stage about entered idles answer)
 quiet_answered about entered idles (reply.PoolFull most) = quiet_end entered end.PoolFull tt

@@ -24,9 +24,9 @@ use Rattle.session_steps.specs.declared.ends.SessionEnd.TheVariants as end
 use Rattle.session_steps.specs.declared.meeting.SetupCode.{SetupCode}
 use Rattle.session_steps.specs.declared.meeting.Step.{Step}
 use Rattle.session_steps.specs.Answers.{greeting, refusal_frame}
-use Rattle.session_steps.specs.States.{Greeting, Reading, Refusing, end_stage, failed_end, input_end, most_payload, new_state, news_stage, next_stage, put_stage}
+use Rattle.session_steps.specs.States.{State, Greeting, Reading, Refusing, Saying, end_stage, failed_end, input_end, most_payload, new_state, news_stage, next_stage, put_stage}
 use Rattle.session_steps.specs.Steps as steps
-use Rattle.session_steps.specs.Steps.{CanTake, Framed, Greeted, Overran, Refused, Starved, bytes_of_frames, met_stage}
+use Rattle.session_steps.specs.Steps.{CanTake, Framed, Greeted, Overran, Refused, Said, Starved, bytes_of_frames, met_stage}
 use Rattle.session_steps.specs.Talks.{new_talk}
 use Rattle.session_loop.specs.declared.conversation.Conversation.{Conversation}
 use Rattle.session_loop.specs.declared.listening.Listener.{Listener}
@@ -34,6 +34,7 @@ use Rattle.session_loop.specs.Links.{PutsOut}
 use Rattle.session_loop.specs.Meeting.{MeetsHeld}
 use Rattle.session_loop.specs.Running.{Runs, TakesAll}
 use Rattle.session_steps.proofs.Deciding.{held_waits}
+use Rattle.session_steps.proofs.Streams.{follows_declares}
 use Rattle.session_loop.specs.Standing.{GoesOnOrEnds, HasMetAll, HoldsNoMore, Intake, IsListening, counted, intake_of, intake_with, new_intake, stage_or, state_at}
 use Rattle.session_loop.proofs.Chains.{runs_none, runs_on, runs_put, runs_quiet, runs_step}
 use Rattle.session_loop.specs.Sessions.{ReadsOn}
@@ -63,9 +64,24 @@ module _ {A : Type 0} {worker : A → ℕ} {does : A → PoolCall → A → Type
       runs_put (Refused (record { bytes = puts.bytes; fault = fault })) (refusal_frame code flags) fault puts puts.front
       (ap (λ stage. state_at stage intake c) (refused_stage c.entered fault)) refl refl refl refl (λ n. refl)
 
+  pub said_runs : (bytes : List ℕ) (fault : Option SinkFailed) → PutsOut bytes fault l l'
+      → Runs worker does (state_at (Saying bytes) intake c) (state_at (stage_or Reading c.entered (put_end fault)) intake c) l l' a a
+  said_runs bytes fault puts =
+      runs_put (Said (record { bytes = puts.bytes; fault = fault })) bytes fault puts puts.front
+      (ap (λ stage. state_at stage intake c) (put_stage_or fault c.entered Reading)) refl refl refl refl (λ n. refl)
+
+-- an intake that waits for something
+abbrev pub one_idle : Intake
+one_idle = record { idle_turns = 1; idles = 1; bytes = 0; unmet = [] }
+
+-- whether declarations are taken stays as it is
+pub runs_declares : {A : Type 0} {worker : A → ℕ} {does : A → PoolCall → A → Type 0} {s t : State} {l l' : LinkSeen} {a a' : A}
+    → Runs worker does s t l l' a a' → t.talk.declares ≡ s.talk.declares
+runs_declares {worker = worker} {s = s} {t = t} {a = a} runs = follows_declares (worker a) s t runs.steps runs.follows
+
 module _ {A : Type 0} {worker : A → ℕ} {does : A → PoolCall → A → Type 0} {l : LinkSeen} {a : A} (intake : Intake) (c : Conversation) where
   -- a header over the limit
-  pub overran_runs : (holding : Holding) (rest : List ℕ) (len : ℕ) → holding.limit ≡ most_payload → HoldsOver len holding
+  pub overran_runs : (holding : Holding) (rest : List ℕ) (len : ℕ) → holding.limit ≡ most_payload c.session.declares → HoldsOver len holding
       → Runs worker does (state_at Reading (record intake { unmet = holding.held ++ rest }) c)
       (state_at (end_stage c.entered (end.TooLong len)) (record intake { unmet = holding.held ++ rest }) c) l l a a
   overran_runs holding rest len limit over =
@@ -94,7 +110,7 @@ module _ {A : Type 0} {worker : A → ℕ} {does : A → PoolCall → A → Type
   unserved_runs = runs_quiet Starved tt refl refl refl refl refl (λ n. refl)
 
   -- a frame
-  pub framed_runs : (holding : Holding) (rest : List ℕ) (made : Step) (new : Conversation) → holding.limit ≡ most_payload → MeetsHeld holding c made new
+  pub framed_runs : (holding : Holding) (rest : List ℕ) (made : Step) (new : Conversation) → holding.limit ≡ most_payload c.session.declares → MeetsHeld holding c made new
       → Runs worker does (state_at Reading (record intake { unmet = holding.held ++ rest }) c) (state_at (met_stage new.entered made) (record intake { unmet = rest }) new) l l a a
   framed_runs holding rest made new limit meets =
       runs_quiet (Framed (record { frame = meets.frame; rest = rest; step = made; talk = new.session }))
@@ -121,28 +137,29 @@ failed_brings None new buffer takes = tt
 failed_brings (Some turns) new buffer takes = (takes.0, takes.1, ap steps_of (sym takes.2))
 
 -- what is held once all is met is cut within the limit, and no more than that
-cut_at_most : (holding : Holding) → HasMetAll holding → IsCutWithin (record { held = holding.held; limit = most_payload })
-cut_at_most holding met = subst (λ n. IsCutWithin (record { held = holding.held; limit = n })) met.limit met.cut
+cut_at_most : (declares : Bool) (holding : Holding) → HasMetAll declares holding → IsCutWithin (record { held = holding.held; limit = most_payload declares })
+cut_at_most declares holding met = subst (λ n. IsCutWithin (record { held = holding.held; limit = n })) met.limit met.cut
 
-held_at_most : (holding : Holding) → HasMetAll holding → length holding.held ≤ frame_end most_payload holding.held
-held_at_most holding met = subst (λ n. length holding.held ≤ frame_end n holding.held) met.limit met.no_more
+held_at_most : (declares : Bool) (holding : Holding) → HasMetAll declares holding → length holding.held ≤ frame_end (most_payload declares) holding.held
+held_at_most declares holding met = subst (λ n. length holding.held ≤ frame_end n holding.held) met.limit met.no_more
 
-module _ (listener : Listener) (listening : IsListening listener) where
-  can_take : (c : Conversation) → CanTake (state_at Reading (intake_of listener) c)
-  can_take c = record {
+module _ (listener : Listener) (c : Conversation) (listening : IsListening c.session.declares listener) where
+  can_take : CanTake (state_at Reading (intake_of listener) c)
+  can_take = record {
     waiting = record {
       reading = refl;
-      cut = (cut_at_most listener.splitter listening.met).cut;
-      not_over = held_waits listener.splitter.held (cut_at_most listener.splitter listening.met) (held_at_most listener.splitter listening.met);
+      cut = (cut_at_most c.session.declares listener.splitter listening.met).cut;
+      not_over = held_waits (most_payload c.session.declares) listener.splitter.held (cut_at_most c.session.declares listener.splitter listening.met)
+          (held_at_most c.session.declares listener.splitter listening.met);
     };
     some = listening.below.some;
   }
 
-  module _ {A : Type 0} {worker : A → ℕ} {does : A → PoolCall → A → Type 0} {l l' : LinkSeen} {a : A} (c : Conversation) (buffer : List ℕ) where
+  module _ {A : Type 0} {worker : A → ℕ} {does : A → PoolCall → A → Type 0} {l l' : LinkSeen} {a : A} (buffer : List ℕ) where
     pub took_runs : (n : ℕ) → length (take n buffer) ≡ n → 0 < n → n ≤ 4096 → n ≤ listener.waiting.bytes → TakesOf (took.Bytes n) buffer l l'
         → Runs worker does (state_at Reading (intake_of listener) c) (state_at Reading (intake_with (take n buffer) (counted (took.Bytes n) listener)) c) l l' a a
     took_runs n len some piece within takes =
-        runs_step (steps.Took (take n buffer)) (record { can = can_take c; some = rw len some; piece = rw len piece; within = rw len within })
+        runs_step (steps.Took (take n buffer)) (record { can = can_take; some = rw len some; piece = rw len piece; within = rw len within })
         (ap (λ m. state_at Reading (record (intake_with (take n buffer) (counted (took.Bytes n) listener)) { bytes = listener.waiting.bytes - m }) c) (sym len))
         (brought_bytes l.source.left l.source.left l'.source.left [] n buffer (brought_none l.source.left) takes.turns) tt
         (rw (ap (λ (s : SinkSeen). s.held) takes.sink) (Adds-none l.sink.held)) takes.counts (ap (λ (s : SinkSeen). s.faults) takes.sink) refl refl
@@ -151,7 +168,7 @@ module _ (listener : Listener) (listening : IsListening listener) where
         → Runs worker does (state_at Reading (intake_of listener) c)
         (state_at (news_stage c.entered (listener.waiting.idles - 1)) (intake_of (counted took.Idle listener)) c) l l' a a
     idled_runs takes =
-        runs_step steps.Idled (can_take c) refl
+        runs_step steps.Idled can_take refl
         (brought_idle l.source.left l.source.left l'.source.left [] buffer (brought_none l.source.left) takes.turns) tt
         (rw (ap (λ (s : SinkSeen). s.held) takes.sink) (Adds-none l.sink.held)) takes.counts (ap (λ (s : SinkSeen). s.faults) takes.sink) refl refl
 
@@ -159,20 +176,20 @@ module _ (listener : Listener) (listening : IsListening listener) where
         → Runs worker does (state_at Reading (intake_of listener) c) (state_at (end_stage c.entered (input_end listener.splitter.held)) (intake_of listener) c) l l' a a
     ended_runs takes =
         let brings = end_brings l.source.left l'.source.left buffer takes.turns in
-        runs_step steps.Ended (can_take c) refl brings.0 brings.1 (rw (ap (λ (s : SinkSeen). s.held) takes.sink) (Adds-none l.sink.held)) takes.counts (ap (λ (s : SinkSeen). s.faults) takes.sink) refl refl
+        runs_step steps.Ended can_take refl brings.0 brings.1 (rw (ap (λ (s : SinkSeen). s.held) takes.sink) (Adds-none l.sink.held)) takes.counts (ap (λ (s : SinkSeen). s.faults) takes.sink) refl refl
 
     pub missed_runs : TakesOf took.Failed buffer l l'
         → Runs worker does (state_at Reading (intake_of listener) c) (state_at (end_stage c.entered end.ReadFault) (intake_of listener) c) l l' a a
     missed_runs takes =
-        runs_step steps.Missed (can_take c) refl (failed_brings l.source.left l'.source.left buffer takes.turns) tt
+        runs_step steps.Missed can_take refl (failed_brings l.source.left l'.source.left buffer takes.turns) tt
         (rw (ap (λ (s : SinkSeen). s.held) takes.sink) (Adds-none l.sink.held)) takes.counts (ap (λ (s : SinkSeen). s.faults) takes.sink) refl refl
 
 -- as many bytes came as are taken
 pub spent_runs : {A : Type 0} {worker : A → ℕ} {does : A → PoolCall → A → Type 0} {l : LinkSeen} {a : A} (intake : Intake) (c : Conversation)
-    → IsCutWithin (record { held = intake.unmet; limit = most_payload }) → length intake.unmet ≤ frame_end most_payload intake.unmet → intake.bytes ≡ 0
+    → IsCutWithin (record { held = intake.unmet; limit = most_payload c.session.declares }) → length intake.unmet ≤ frame_end (most_payload c.session.declares) intake.unmet → intake.bytes ≡ 0
     → Runs worker does (state_at Reading intake c) (state_at (end_stage c.entered end.BytesOut) intake c) l l a a
 spent_runs intake c cut no_more none =
-    runs_quiet steps.Spent (record { reading = refl; cut = cut.cut; not_over = held_waits intake.unmet cut no_more }, none) refl refl refl refl refl (λ n. refl)
+    runs_quiet steps.Spent (record { reading = refl; cut = cut.cut; not_over = held_waits (most_payload c.session.declares) intake.unmet cut no_more }, none) refl refl refl refl refl (λ n. refl)
 
 -- a step that leads on to more
 pub reads_first : {A : Type 0} {worker : A → ℕ} {does : A → PoolCall → A → Type 0} {l l' l'' : LinkSeen} {a a' a'' : A} {before middle kept : Intake} {old new : Conversation} {result : Result Unit SessionEnd}
@@ -202,12 +219,21 @@ fed_no_more limit all new fed same = rw (fed, same) (present_after limit all)
 
 -- once all frames are met, the next turn is taken, or as many bytes came as are taken
 pub met_goes_on : {A : Type 0} {worker : A → ℕ} {does : A → PoolCall → A → Type 0} {l : LinkSeen} {a : A} (listener : Listener) (c : Conversation) (result : Result Unit SessionEnd)
-    → HasMetAll listener.splitter → 0 < listener.waiting.idles → GoesOnOrEnds listener.waiting result
+    → HasMetAll c.session.declares listener.splitter → 0 < listener.waiting.idles → GoesOnOrEnds listener.waiting result
     → Runs worker does (state_at Reading (intake_of listener) c) (state_at (stage_or Reading c.entered result) (intake_of listener) c) l l a a
 met_goes_on listener c (Ok _) met waits goes = runs_none refl
 met_goes_on listener c (Err reason) met waits (limit.IdleOut, is, reason_is) = absurd (omega (arith, is, waits))
 met_goes_on listener c (Err reason) met waits (limit.BytesOut, is, reason_is) =
-    rw reason_is (spent_runs (intake_of listener) c (cut_at_most listener.splitter met) (held_at_most listener.splitter met) is.1)
+    rw reason_is (spent_runs (intake_of listener) c (cut_at_most c.session.declares listener.splitter met) (held_at_most c.session.declares listener.splitter met) is.1)
+
+-- a listener that met all goes on listening, where no limit is reached
+pub listens_on : (declares before : Bool) (listener : Listener) (result : Result Unit SessionEnd) → declares ≡ before → HasMetAll before listener.splitter
+    → listener.waiting.idles ≤ listener.waiting.idle_turns → GoesOnOrEnds listener.waiting result → OnOk result (IsListening declares listener)
+listens_on declares before listener (Ok _) same met most goes = record {
+  met = subst (λ d. HasMetAll d listener.splitter) (sym same) met;
+  below = record { some = goes.1; waits = goes.0; most = most };
+}
+listens_on declares before listener (Err reason) same met most goes = tt
 
 -- once an Idle turn's news are told, the same, or too many came in a row
 pub idle_goes_on : (entered : Bool) (waiting : Waiting) (result : Result Unit SessionEnd) → 0 < waiting.bytes → GoesOnOrEnds waiting result
@@ -217,6 +243,6 @@ idle_goes_on entered waiting (Err reason) some (limit.IdleOut, is, reason_is) = 
 idle_goes_on entered waiting (Err reason) some (limit.BytesOut, is, reason_is) = absurd (omega (arith, is.1, some))
 
 -- a session begins
-pub new_is : (c : Conversation) (manner : Manner) → c.session ≡ new_talk manner.role manner.rolling → c.entered ≡ false → c.cursor ≡ 0
+pub new_is : (c : Conversation) (manner : Manner) → c.session ≡ new_talk manner.role manner.rolling manner.declares → c.entered ≡ false → c.cursor ≡ 0
     → state_at Greeting (new_intake manner.idle_turns) c ≡ new_state manner
 new_is c manner talk entered cursor = rw (talk, entered, cursor) refl

@@ -69,14 +69,14 @@ abbrev pub HoldsNoMore : Holding → Type 0
 HoldsNoMore holding = length holding.held ≤ frame_end holding.limit holding.held
 
 -- all frames that came are met
-pub record HasMetAll (holding : Holding) : Type 0 where
+pub record HasMetAll (declares : Bool) (holding : Holding) : Type 0 where
   pub cut : IsCutWithin holding
   pub no_more : HoldsNoMore holding
-  pub limit : holding.limit ≡ most_payload
+  pub limit : holding.limit ≡ most_payload declares
 
 -- a turn may be taken
-pub record IsListening (listener : Listener) : Type 0 where
-  pub met : HasMetAll listener.splitter
+pub record IsListening (declares : Bool) (listener : Listener) : Type 0 where
+  pub met : HasMetAll declares listener.splitter
   pub below : IsBelowLimits listener.waiting
 
 -- a limit is the end of a session

@@ -58,7 +58,7 @@ pub fn begin<L: Link>(
     ensures room { length buffer.new ≡ PIECE_LEN }
     ensures begins { Begins manner buffer.new (L.seen link.old) (L.seen link.new) result }
 {
-    let session = Session::new(manner.role, manner.rolling);
+    let session = Session::new(alloc, manner);
     put_greeting(alloc, &session, link)?;
     first_piece(manner.idle_turns, buffer, link)
 }

@@ -12,8 +12,9 @@ ghost use Rattle.session_loop.specs.Meeting.{IsAfterAnswer};
 use crate::acting::{Acted, Acting};
 use crate::putting::put_frames;
 use pool_core::{Session, SessionEnd};
-use pool_history::{Reply, Request, Role};
+use pool_history::{Reply, Request};
 use pool_network::Link;
+use session_steps::Manner;
 use std::alloc::Global;
 
 /// What one session knows of its pool: beside what it said, whether it entered, and the place up to
@@ -42,14 +43,15 @@ impl Conversation {
     ghost use Rattle.session_loop.specs.Running.{Runs};
     ghost use Rattle.session_loop.specs.Standing.{Intake, stage_or, state_at};
 
-    pub(crate) fn new(alloc: Global, role: Role, rolling: bool) -> Conversation
-        ensures talk { result.session ≡ new_talk role rolling }
+    pub(crate) fn new(alloc: Global, manner: Manner) -> Conversation
+        ensures talk { result.session
+            ≡ new_talk manner.role manner.rolling manner.declares }
         ensures entered { result.entered ≡ false }
         ensures cursor { result.cursor ≡ 0 }
     {
         Conversation {
             alloc,
-            session: Session::new(role, rolling),
+            session: Session::new(alloc, manner),
             entered: false,
             cursor: 0,
         }

@@ -18,6 +18,20 @@ use sv2_frames::Splitter;
 /// The most bytes of a payload.
 const MOST_PAYLOAD: u32 = 262_144;
 
+/// The same where declarations are taken.
+const MOST_DECLARED: u32 = 8_388_608;
+
+/// The most bytes of a payload that a session takes.
+fn most_payload(declares: bool) -> u32
+    ensures { result ≡ states.most_payload declares }
+{
+    if declares {
+        MOST_DECLARED
+    } else {
+        MOST_PAYLOAD
+    }
+}
+
 /// What came of a frame that isn't whole, and what is still waited for.
 #[derive(Drop)]
 pub(crate) struct Listener {
@@ -31,13 +45,17 @@ impl Listener {
     ghost use Rattle.session_loop.specs.Sessions.{ReadsOn};
 
     /// Nothing came that isn't met.
-    pub(crate) fn new(alloc: Global, waiting: Waiting) -> Result<Listener, AllocError>
+    pub(crate) fn new(
+        alloc: Global,
+        declares: bool,
+        waiting: Waiting,
+    ) -> Result<Listener, AllocError>
         ensures waiting { IfOk result (λ listener. listener.waiting ≡ waiting) }
-        ensures met { IfOk result (λ listener. HasMetAll listener.splitter) }
+        ensures met { IfOk result (λ listener. HasMetAll declares listener.splitter) }
         ensures none { IfOk result (λ listener. listener.splitter.held ≡ []) }
     {
         Ok(Listener {
-            splitter: Splitter::new(alloc, MOST_PAYLOAD)?,
+            splitter: Splitter::new(alloc, most_payload(declares))?,
             waiting,
         })
     }
@@ -51,11 +69,12 @@ impl Listener {
         acting: &mut A,
     ) -> Result<(), SessionEnd>
         requires ready { A.ready acting.old }
-        requires met { HasMetAll self.old.splitter }
+        requires met { HasMetAll conversation.old.session.declares self.old.splitter }
         requires waits { 0 < self.old.waiting.idles }
         requires most { self.old.waiting.idles ≤ self.old.waiting.idle_turns }
         ensures ready { A.ready acting.new }
-        ensures listening { OnOk result (IsListening self.new) }
+        ensures listening { OnOk result
+            (IsListening conversation.new.session.declares self.new) }
         ensures waiting { self.new.waiting ≡ self.old.waiting }
         ensures reads { ReadsOn A.worker A.does (intake_with piece.now self.old) (intake_of self.new)
             conversation.old conversation.new (L.seen link.old) (L.seen link.new) acting.old
@@ -73,11 +92,12 @@ impl Listener {
         acting: &mut A,
     ) -> Result<(), SessionEnd>
         requires ready { A.ready acting.old }
-        requires met { HasMetAll self.now.splitter }
+        requires met { HasMetAll conversation.old.session.declares self.now.splitter }
         requires some { 0 < self.now.waiting.bytes }
         requires most { self.now.waiting.idles ≤ self.now.waiting.idle_turns }
         ensures ready { A.ready acting.new }
-        ensures listening { OnOk result (IsListening self.now) }
+        ensures listening { OnOk result
+            (IsListening conversation.new.session.declares self.now) }
         ensures runs { Runs A.worker A.does
             (state_at (states.news_stage conversation.old.entered self.now.waiting.idles)
             (intake_of self.now) conversation.old)
@@ -105,10 +125,11 @@ impl Listener {
         acting: &mut A,
     ) -> Result<(), SessionEnd>
         requires ready { A.ready acting.old }
-        requires listening { IsListening self.old }
+        requires listening { IsListening conversation.old.session.declares self.old }
         requires room { length buffer.old ≡ PIECE_LEN }
         ensures ready { A.ready acting.new }
-        ensures listening { OnOk result (IsListening self.new) }
+        ensures listening { OnOk result
+            (IsListening conversation.new.session.declares self.new) }
         ensures nearer { OnOk result (turns_left self.new.waiting < turns_left self.old.waiting) }
         ensures reads { ReadsOn A.worker A.does (intake_of self.old) (intake_of self.new)
             conversation.old conversation.new (L.seen link.old) (L.seen link.new) acting.old

@@ -7,7 +7,7 @@ ghost use Rattle.session_steps.specs.Steps.{met_stage};
 
 use crate::acting::Acting;
 use crate::conversation::Conversation;
-use crate::putting::put_refused;
+use crate::putting::{put_bytes, put_refused};
 use pool_core::{SessionEnd, Step};
 use pool_network::Link;
 use sv2_frames::{Splitter, TooLong};
@@ -76,6 +76,10 @@ impl Conversation {
         match step {
             Step::Ignore => Ok(()),
             Step::Ask(asked) => self.answer(asked, link, acting),
+            Step::Say(bytes) => {
+                put_bytes(link, bytes.bytes())?;
+                Ok(())
+            }
             Step::RefuseSetup(code, flags) => {
                 put_refused(self.alloc, code, flags, link)?;
                 Err(SessionEnd::BadSetup)
@@ -93,10 +97,10 @@ impl Conversation {
         acting: &mut A,
     ) -> Result<(), SessionEnd>
         requires ready { A.ready acting.old }
-        requires limit { splitter.old.limit ≡ most_payload }
+        requires limit { splitter.old.limit ≡ most_payload self.old.session.declares }
         requires no_more { HoldsNoMore splitter.old }
         ensures ready { A.ready acting.new }
-        ensures limit { splitter.new.limit ≡ splitter.old.limit }
+        ensures limit { splitter.new.limit ≡ most_payload self.new.session.declares }
         ensures cut { OnOk result (IsCutWithin splitter.new) }
         ensures no_more { OnOk result (HoldsNoMore splitter.new) }
         ensures runs { (intake : Intake) (rest : List ℕ) → 0 < intake.idles → Runs A.worker A.does
@@ -122,11 +126,11 @@ impl Conversation {
         acting: &mut A,
     ) -> Result<(), SessionEnd>
         requires ready { A.ready acting.old }
-        requires limit { splitter.old.limit ≡ most_payload }
+        requires limit { splitter.old.limit ≡ most_payload self.old.session.declares }
         requires cut { IsCutWithin splitter.old }
         requires no_more { HoldsNoMore splitter.old }
         ensures ready { A.ready acting.new }
-        ensures limit { splitter.new.limit ≡ splitter.old.limit }
+        ensures limit { splitter.new.limit ≡ most_payload self.new.session.declares }
         ensures cut { OnOk result (IsCutWithin splitter.new) }
         ensures no_more { OnOk result (HoldsNoMore splitter.new) }
         ensures runs { (intake : Intake) → 0 < intake.idles → (rest : List ℕ)

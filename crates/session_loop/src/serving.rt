@@ -33,7 +33,7 @@ impl Conversation {
         acting: &mut A,
     ) -> SessionEnd
         requires ready { A.ready acting.old }
-        requires listening { IsListening listener }
+        requires listening { IsListening self.old.session.declares listener }
         ensures ready { A.ready acting.new }
         ensures serves { Serves A.worker A.does Reading (intake_of listener) self.old self.new
             (L.seen link.old) (L.seen link.new) acting.old acting.new result }
@@ -55,7 +55,7 @@ impl Conversation {
         acting: &mut A,
     ) -> SessionEnd
         requires ready { A.ready acting.old }
-        requires met { HasMetAll listener.splitter }
+        requires met { HasMetAll self.old.session.declares listener.splitter }
         requires waits { 0 < listener.waiting.idles }
         requires most { listener.waiting.idles ≤ listener.waiting.idle_turns }
         ensures ready { A.ready acting.new }
@@ -86,10 +86,10 @@ pub fn go_on<L: Link, A: Acting>(
     ensures rest { IsRestOfSession A.worker A.does (begun_state manner waiting piece.now)
         (L.seen link.old) (L.seen link.new) acting.old acting.new result }
 {
-    let Ok(listener) = Listener::new(alloc, waiting) else {
+    let Ok(listener) = Listener::new(alloc, manner.declares, waiting) else {
         return SessionEnd::Memory;
     };
-    let mut conversation = Conversation::new(alloc, manner.role, manner.rolling);
+    let mut conversation = Conversation::new(alloc, manner);
     let end = conversation.serve(listener, piece, link, acting);
     leave(conversation.entered, end, acting)
 }

@@ -86,8 +86,27 @@ pub token_of_a_feed : takes_kind Feed (Some 2) 0x50 ≡ false
 token_of_a_feed = refl
 
 -- the channel bit isn't tested, and any other bit is
-pub with_channel_bit : is_taken (new_talk Solo true) (record { ext = 0x8000; kind = 0; payload = [] }) ≡ true
+pub with_channel_bit : is_taken (new_talk Solo true false) (record { ext = 0x8000; kind = 0; payload = [] }) ≡ true
 with_channel_bit = refl
 
-pub with_another_bit : is_taken (new_talk Solo true) (record { ext = 0x8001; kind = 0; payload = [] }) ≡ false
+pub with_another_bit : is_taken (new_talk Solo true false) (record { ext = 0x8001; kind = 0; payload = [] }) ≡ false
 with_another_bit = refl
+
+-- declarations, and the transactions that they lack, where they are taken at all
+pub declaration : is_taken (record (new_talk Miner true true) { flags = Some 2 }) (record { ext = 0; kind = 0x57; payload = [] }) ≡ true
+declaration = refl
+
+pub transactions : is_taken (record (new_talk Solo true true) { flags = Some 3 }) (record { ext = 0; kind = 0x56; payload = [] }) ≡ true
+transactions = refl
+
+pub declaration_without_its_flag : is_taken (record (new_talk Solo true true) { flags = Some 5 }) (record { ext = 0; kind = 0x57; payload = [] }) ≡ false
+declaration_without_its_flag = refl
+
+pub declaration_of_a_feed : is_taken (record (new_talk Feed true true) { flags = Some 2 }) (record { ext = 0; kind = 0x57; payload = [] }) ≡ false
+declaration_of_a_feed = refl
+
+pub declaration_before_the_setup : is_taken (new_talk Solo true true) (record { ext = 0; kind = 0x57; payload = [] }) ≡ false
+declaration_before_the_setup = refl
+
+pub declaration_where_none_is_taken : is_taken (record (new_talk Solo true false) { flags = Some 2 }) (record { ext = 0; kind = 0x57; payload = [] }) ≡ false
+declaration_where_none_is_taken = refl

@@ -1,5 +1,5 @@
 -- The worked session, frame by frame: what comes, what it asks for, and what is answered, byte for byte.
-use Rattle.std.proofs.Common.{◌≡◌, ℕ, true, None, Some, List, [], ◌∷◌, ◌++◌, refl, lit≤}
+use Rattle.std.proofs.Common.{◌≡◌, ℕ, true, false, None, Some, List, [], ◌∷◌, ◌++◌, refl, lit≤}
 use Rattle.std.specs.Prelude.{replicate}
 use Rattle.sv2_types.specs.Fields.{Number, Truth, Bytes, Parts}
 use Rattle.block_header.specs.Target.{number_bytes}
@@ -10,13 +10,15 @@ use Rattle.pool_history.specs.declared.events.Kind.TheVariants as kind
 use Rattle.pool_history.specs.declared.events.Role.TheVariants as role
 use Rattle.pool_history.specs.declared.refusals.Failed.TheVariants as failed
 use Rattle.pool_history.specs.declared.refusals.CustomError.TheVariants as custom
+use Rattle.pool_history.specs.declared.refusals.GrantError.TheVariants as grant
 use Rattle.pool_history.specs.declared.replies.Reply.TheVariants as reply
 use Rattle.pool_history.specs.declared.shares.Submission.{Submission}
 use Rattle.pool_history.specs.declared.telling.Note.TheVariants as note
 use Rattle.pool_history.proofs.Given.{extended_rolls, template_of, tip_of}
 use Rattle.session_steps.specs.declared.about.About.{About}
-use Rattle.session_steps.specs.declared.about.About.TheVariants.{Nothing, Opening, Share, Token, OwnJob}
+use Rattle.session_steps.specs.declared.about.About.TheVariants.{Nothing, Opening, Share, Token, OwnJob, Declared}
 use Rattle.session_steps.specs.Answers.{answer_frames, greeting}
+use Rattle.declare_rules.specs.State.{start}
 use Rattle.session_steps.specs.Asking.{Asks, message_of}
 use Rattle.session_steps.specs.Setups.{Accepted, setup_in}
 use Rattle.session_steps.specs.Steps.{bytes_of_frames}
@@ -25,7 +27,7 @@ use Rattle.session_steps.specs.Told.{declare_frame, mining_frame, template_frame
 
 -- a session that was set up, and asked about this
 abbrev pub asked : About → Talk
-asked about = record { role = role.Solo; rolling = true; flags = Some 0; number = 0; about = about }
+asked about = record { role = role.Solo; rolling = true; declares = false; flags = Some 0; number = 0; about = about; declarations = start }
 
 -- F1 sets it up, and A1 tells that version 2 is used
 pub first_frame : mining_frame 0 (Number 0 ∷ Number 2 ∷ Number 2 ∷ Number 0 ∷ Bytes [] ∷ Number 0 ∷ Bytes [] ∷ Bytes [] ∷ Bytes [] ∷ Bytes [] ∷ []) ≡ (0x00 ∷ 0x00 ∷ 0x00 ∷ 0x10 ∷ 0x00 ∷ 0x00 ∷ []) ++ (0x00 ∷ 0x02 ∷ 0x00 ∷ 0x02 ∷ []) ++ replicate 12 0x00
@@ -122,6 +124,13 @@ token_frame = refl
 pub token_answer : answer_frames (asked (Token 3)) (reply.Granted 1 (0x51 ∷ [])) ≡ ((0x00 ∷ 0x00 ∷ 0x51 ∷ 0x19 ∷ 0x00 ∷ 0x00 ∷ 0x03 ∷ 0x00 ∷ 0x00 ∷ 0x00 ∷ 0x08 ∷ 0x01 ∷ []) ++ replicate 7 0x00 ++ (0x0a ∷ 0x00 ∷ []) ++ replicate 8 0x00 ++ (0x01 ∷ 0x51 ∷ [])) ∷ []
 unfolding compact
 token_answer = refl
+
+-- a declaration is answered with its token, or refused where no more are granted
+pub declared_answer : answer_frames (asked (Declared 5)) (reply.Granted 2 (0x51 ∷ [])) ≡ ((0x00 ∷ 0x00 ∷ 0x58 ∷ 0x0d ∷ 0x00 ∷ 0x00 ∷ 0x05 ∷ 0x00 ∷ 0x00 ∷ 0x00 ∷ 0x08 ∷ 0x02 ∷ []) ++ replicate 7 0x00) ∷ []
+declared_answer = refl
+
+pub declared_refused : answer_frames (asked (Declared 5)) (reply.GrantRefused (grant.TooManyGrants 262144)) ≡ (0x00 ∷ 0x00 ∷ 0x59 ∷ 0x16 ∷ 0x00 ∷ 0x00 ∷ 0x05 ∷ 0x00 ∷ 0x00 ∷ 0x00 ∷ 0x0f ∷ 0x74 ∷ 0x6f ∷ 0x6f ∷ 0x2d ∷ 0x6d ∷ 0x61 ∷ 0x6e ∷ 0x79 ∷ 0x2d ∷ 0x67 ∷ 0x72 ∷ 0x61 ∷ 0x6e ∷ 0x74 ∷ 0x73 ∷ 0x00 ∷ 0x00 ∷ []) ∷ []
+declared_refused = refl
 
 -- a miner's own job is taken, or refused
 pub own_job_answer : answer_frames (asked (OwnJob 1 4)) (reply.CustomJob 2) ≡ (0x00 ∷ 0x00 ∷ 0x23 ∷ 0x0c ∷ 0x00 ∷ 0x00 ∷ 0x01 ∷ 0x00 ∷ 0x00 ∷ 0x00 ∷ 0x04 ∷ 0x00 ∷ 0x00 ∷ 0x00 ∷ 0x02 ∷ 0x00 ∷ 0x00 ∷ 0x00 ∷ []) ∷ []

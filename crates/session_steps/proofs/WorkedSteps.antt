@@ -1,5 +1,5 @@
 -- Where steps lead: a session from its greeting to each of its ends.
-use Rattle.std.proofs.Common.{◌≡◌, ℕ, Bool, true, false, Some, List, [], ◌∷◌, refl}
+use Rattle.std.proofs.Common.{◌≡◌, ℕ, Bool, true, false, None, Some, List, [], ◌∷◌, refl}
 use Rattle.pool_base.specs.Calls.{Replied, Faulted}
 use Rattle.pool_io.specs.declared.sink.SinkFailed.TheVariants as sink
 use Rattle.pool_history.specs.declared.asking.Request.{Request}
@@ -16,8 +16,8 @@ use Rattle.session_steps.specs.declared.ends.SessionEnd.TheVariants as end
 use Rattle.session_steps.specs.declared.meeting.SetupCode.TheVariants as code
 use Rattle.session_steps.specs.declared.meeting.Step.{Step}
 use Rattle.session_steps.specs.declared.meeting.Step.TheVariants as step
-use Rattle.session_steps.specs.States.{State, Stage, Reading, Refusing, Asking, Committing, Polling, Leaving, Over, Put, new_state, nothing_put}
-use Rattle.session_steps.specs.Steps.{Met, Greeted, Took, Framed, Refused, Overran, Idled, Ended, Missed, Starved, Spent, Called, after_step}
+use Rattle.session_steps.specs.States.{State, Stage, Reading, Refusing, Saying, Asking, Committing, Polling, Leaving, Over, Put, new_state, nothing_put}
+use Rattle.session_steps.specs.Steps.{Met, Greeted, Took, Framed, Refused, Said, Overran, Idled, Ended, Missed, Starved, Spent, Called, after_step}
 use Rattle.session_steps.proofs.WorkedFrames.{asked, sub}
 
 -- nothing could be put
@@ -72,10 +72,10 @@ met made = record {
 }
 
 -- the greeting
-pub greeted : (after_step (new_state (record { role = role.Solo; rolling = true; idle_turns = 3 })) (Greeted nothing_put)).stage ≡ Reading
+pub greeted : (after_step (new_state (record { role = role.Solo; rolling = true; declares = false; idle_turns = 3 })) (Greeted nothing_put)).stage ≡ Reading
 greeted = refl
 
-pub greeting_failed : (after_step (new_state (record { role = role.Feed; rolling = true; idle_turns = 3 })) (Greeted unput)).stage ≡ Over end.WriteFault
+pub greeting_failed : (after_step (new_state (record { role = role.Feed; rolling = true; declares = false; idle_turns = 3 })) (Greeted unput)).stage ≡ Over end.WriteFault
 greeting_failed = refl
 
 -- bytes come behind those that aren't met, and the Idle turns count anew
@@ -164,6 +164,16 @@ refusal_put = refl
 
 pub refusal_unput : (after_step (standing (Refusing code.Version 0) false 3 []) (Refused unput)).stage ≡ Over end.WriteFault
 refusal_unput = refl
+
+-- bytes that are said without a request, after which the next turn is taken
+pub says : (after_step (standing Reading true 3 []) (Framed (met (step.Say (1 ∷ 2 ∷ []))))).stage ≡ Saying (1 ∷ 2 ∷ [])
+says = refl
+
+pub said : (after_step (standing (Saying (1 ∷ 2 ∷ [])) true 3 []) (Said (record { bytes = 1 ∷ 2 ∷ []; fault = None }))).stage ≡ Reading
+said = refl
+
+pub unsaid : (after_step (standing (Saying (1 ∷ 2 ∷ [])) true 3 []) (Said unput)).stage ≡ Leaving end.WriteFault
+unsaid = refl
 
 -- a session that leaves is over; a leaving that failed is the end of one that was done, and of no other
 pub left : (after_step (standing (Leaving end.Done) true 3 []) (Called (replied request.Leave 6 reply.Left) nothing_put)).stage ≡ Over end.Done

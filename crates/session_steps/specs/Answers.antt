@@ -17,8 +17,10 @@ use Rattle.pool_history.specs.Channels.{group_id}
 use Rattle.pool_history.specs.Codes.{custom_code, open_code, share_code, update_code}
 use Rattle.pool_history.specs.Headers.{extranonce_prefix, rolled_length}
 use Rattle.pool_history.specs.Refusing.{token_of}
+use Rattle.declare_rules.specs.declared.refusals.DeclareError.TheVariants as refusal
+use Rattle.declare_rules.specs.Declaring.{error_frame, success_frame}
 use Rattle.session_steps.specs.declared.about.About.{About}
-use Rattle.session_steps.specs.declared.about.About.TheVariants.{Opening, Channel, Share, Token, OwnJob}
+use Rattle.session_steps.specs.declared.about.About.TheVariants.{Opening, Channel, Share, Token, OwnJob, Declared}
 use Rattle.session_steps.specs.declared.meeting.SetupCode.{SetupCode}
 use Rattle.session_steps.specs.declared.meeting.SetupCode.TheVariants.{Protocol, Version, Flags}
 use Rattle.session_steps.specs.Talks.{Talk}
@@ -112,7 +114,13 @@ token_frame request_id number script =
 
 abbrev pub token_frames : About → ℕ → List ℕ → List (List ℕ)
 token_frames (Token request_id) number script = token_frame request_id number script ∷ []
+token_frames (Declared request_id) number script = success_frame request_id number ∷ []
 token_frames about number script = []
+
+-- a declaration that is granted none is refused, and who asked for a token isn't answered
+abbrev pub grant_error_frames : About → List (List ℕ)
+grant_error_frames (Declared request_id) = error_frame request_id refusal.TooManyGrants ∷ []
+grant_error_frames about = []
 
 abbrev pub own_job_frames : About → ℕ → List (List ℕ)
 own_job_frames (OwnJob channel request_id) job =
@@ -152,7 +160,7 @@ only_frames role number about (reply.NameRefused error) = []
 only_frames role number about reply.Closed = []
 only_frames role number about reply.NotOpen = []
 only_frames role number about (reply.Brief brief) = []
-only_frames role number about (reply.GrantRefused error) = []
+only_frames role number about (reply.GrantRefused error) = grant_error_frames about
 
 -- the frames of its news
 abbrev pub news_frames : Reply → List (List ℕ)

@@ -20,7 +20,7 @@ TakenIsMet =
 abbrev pub MetAreFrames : Type 0
 MetAreFrames =
     (worker : ℕ) (first last : State) (steps : List SessionStep) → Follows worker first steps last
-    → AllByRecursion IsFrame (frames_in steps) × AreWithin most_payload (frames_in steps)
+    → AllByRecursion IsFrame (frames_in steps) × AreWithin (most_payload first.talk.declares) (frames_in steps)
 
 -- The bytes that aren't met decide what comes of them: one frame, or a header over the limit, or more
 -- bytes are waited for.

@@ -17,12 +17,13 @@ use Rattle.session_steps.specs.declared.ends.SessionEnd.TheVariants as end
 use Rattle.session_steps.specs.declared.meeting.SetupCode.{SetupCode}
 use Rattle.session_steps.specs.Talks.{Talk, heard, new_talk}
 
--- what comes next: the greeting, a turn or a frame, the refusal of a setup, a request, the booking of a share whose header
--- was computed, a poll, the leaving, or nothing
+-- what comes next: the greeting, a turn or a frame, the refusal of a setup, bytes that are said, a
+-- request, the booking of a share whose header was computed, a poll, the leaving, or nothing
 pub data Stage : Type 0 where
   Greeting : Stage
   Reading : Stage
   Refusing : (code : SetupCode) → (flags : ℕ) → Stage
+  Saying : (bytes : List ℕ) → Stage
   Asking : (asked : Request) → Stage
   Committing : (brief : Briefing) → Stage
   Polling : Stage
@@ -45,14 +46,15 @@ pub record State : Type 0 where
 abbrev pub most_bytes : ℕ
 most_bytes = 2 ^ 40
 
--- the most bytes of a payload
-abbrev pub most_payload : ℕ
-most_payload = 262144
+-- the most bytes of a payload, by whether declarations are taken
+abbrev pub most_payload : Bool → ℕ
+most_payload false = 262144
+most_payload true = 8388608
 
 -- a session before its first step
 abbrev pub new_state : Manner → State
 new_state manner = record {
-  talk = new_talk manner.role manner.rolling;
+  talk = new_talk manner.role manner.rolling manner.declares;
   stage = Greeting;
   entered = false;
   cursor = 0;

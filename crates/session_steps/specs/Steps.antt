@@ -23,7 +23,7 @@ use Rattle.session_steps.specs.declared.meeting.Step.{Step}
 use Rattle.session_steps.specs.declared.meeting.Step.TheVariants as step
 use Rattle.session_steps.specs.Answers.{answer_frames, greeting, refusal_frame}
 use Rattle.session_steps.specs.Meeting.{Meets}
-use Rattle.session_steps.specs.States.{State, Stage, Greeting, Reading, Refusing, Asking, Committing, Polling, Leaving, Over, Put, IsPutOf, nothing_put, most_payload, answered_stage, cursor_after, end_after_fault, end_stage, fault_end, hears, input_end, news_stage, next_stage, put_stage}
+use Rattle.session_steps.specs.States.{State, Stage, Greeting, Reading, Refusing, Saying, Asking, Committing, Polling, Leaving, Over, Put, IsPutOf, nothing_put, most_payload, answered_stage, cursor_after, end_after_fault, end_stage, fault_end, hears, input_end, news_stage, next_stage, put_stage}
 use Rattle.session_steps.specs.Talks.{Talk, heard}
 
 -- a frame that was met: the bytes behind it, what the session made of it, and what it knew then
@@ -33,14 +33,15 @@ pub record Met : Type 0 where
   pub step : Step
   pub talk : Talk
 
--- a step: the greeting; bytes that came; a frame; the refusal of a setup; a header over the limit;
--- an Idle turn; the end of the input; a take that failed; memory that was wanted; as many bytes as
--- are taken; or a call, with what was put of its answer
+-- a step: the greeting; bytes that came; a frame; the refusal of a setup; what is said without a
+-- request; a header over the limit; an Idle turn; the end of the input; a take that failed; memory
+-- that was wanted; as many bytes as are taken; or a call, with what was put of its answer
 pub data SessionStep : Type 0 where
   Greeted : (put : Put) → SessionStep
   Took : (bytes : List ℕ) → SessionStep
   Framed : (met : Met) → SessionStep
   Refused : (put : Put) → SessionStep
+  Said : (put : Put) → SessionStep
   Overran : (len : ℕ) → SessionStep
   Idled : SessionStep
   Ended : SessionStep
@@ -54,7 +55,7 @@ abbrev pub bytes_of_frames : List (List ℕ) → List ℕ
 bytes_of_frames frames = flat_map (λ frame. frame) frames
 
 -- bytes begin with a header that says this length, over the limit
-pub record BeginsOver (len : ℕ) (bytes : List ℕ) : Type 0 where
+pub record BeginsOver (most len : ℕ) (bytes : List ℕ) : Type 0 where
   pub ext : ℕ
   pub kind : ℕ
   pub more : List ℕ
@@ -62,13 +63,17 @@ pub record BeginsOver (len : ℕ) (bytes : List ℕ) : Type 0 where
   pub ext_fits : ext < 2 ^ 16
   pub kind_fits : kind < 2 ^ 8
   pub length_fits : len < 2 ^ 24
-  pub over : most_payload < len
+  pub over : most < len
+
+-- the most bytes of a payload that a session takes
+abbrev pub most_of : State → ℕ
+most_of s = most_payload s.talk.declares
 
 -- all frames that came are met, and more may come
 pub record IsWaiting (s : State) : Type 0 where
   pub reading : s.stage ≡ Reading
   pub cut : IsCut s.unmet
-  pub not_over : (len : ℕ) → ¬ BeginsOver len s.unmet
+  pub not_over : (len : ℕ) → ¬ BeginsOver (most_of s) len s.unmet
 
 -- a turn may be taken
 pub record CanTake (s : State) : Type 0 where
@@ -87,19 +92,20 @@ pub record CanMeet (s : State) (met : Met) : Type 0 where
   pub reading : s.stage ≡ Reading
   pub whole : s.unmet ≡ frame_bytes met.frame ++ met.rest
   pub fits : IsFrame met.frame
-  pub within : length met.frame.payload ≤ most_payload
+  pub within : length met.frame.payload ≤ most_of s
   pub meets : Meets s.talk met.frame met.step met.talk
 
 -- the bytes that aren't met begin with a header over the limit
 pub record CanOverrun (s : State) (len : ℕ) : Type 0 where
   pub reading : s.stage ≡ Reading
-  pub begins : BeginsOver len s.unmet
+  pub begins : BeginsOver (most_of s) len s.unmet
 
 -- memory runs out for the first frames, or for a frame's request
 abbrev pub CanStarve : Stage → Type 0
 CanStarve Greeting = Unit {0}
 CanStarve Reading = Unit {0}
 CanStarve (Refusing code flags) = ⊥
+CanStarve (Saying bytes) = ⊥
 CanStarve (Asking asked) = ⊥
 CanStarve (Committing brief) = ⊥
 CanStarve Polling = ⊥
@@ -109,6 +115,7 @@ CanStarve (Over end) = ⊥
 -- a setup is refused with its code and flags
 abbrev pub Refuses : Stage → Put → Type 0
 Refuses (Refusing code flags) put = IsPutOf (refusal_frame code flags) put
+Refuses (Saying bytes) put = ⊥
 Refuses Greeting put = ⊥
 Refuses Reading put = ⊥
 Refuses (Asking asked) put = ⊥
@@ -116,6 +123,18 @@ Refuses (Committing brief) put = ⊥
 Refuses Polling put = ⊥
 Refuses (Leaving end) put = ⊥
 Refuses (Over end) put = ⊥
+
+-- bytes are said
+abbrev pub Says : Stage → Put → Type 0
+Says (Saying bytes) put = IsPutOf bytes put
+Says (Refusing code flags) put = ⊥
+Says Greeting put = ⊥
+Says Reading put = ⊥
+Says (Asking asked) put = ⊥
+Says (Committing brief) put = ⊥
+Says Polling put = ⊥
+Says (Leaving end) put = ⊥
+Says (Over end) put = ⊥
 
 -- what is put of an outcome: all frames of the reply's answer, or a front of them where a put
 -- failed; a fault is answered by nothing
@@ -146,6 +165,7 @@ CanCall (Leaving end) s call put = (call.asked ≡ request.Leave) × (put ≡ no
 CanCall Greeting s call put = ⊥
 CanCall Reading s call put = ⊥
 CanCall (Refusing code flags) s call put = ⊥
+CanCall (Saying bytes) s call put = ⊥
 CanCall (Over end) s call put = ⊥
 
 -- a step that may come next, in a session of this worker
@@ -155,6 +175,7 @@ CanStep worker s (Greeted put) =
 CanStep worker s (Took bytes) = CanTakeBytes s bytes
 CanStep worker s (Framed met) = CanMeet s met
 CanStep worker s (Refused put) = Refuses s.stage put
+CanStep worker s (Said put) = Says s.stage put
 CanStep worker s (Overran len) = CanOverrun s len
 CanStep worker s Idled = CanTake s
 CanStep worker s Ended = CanTake s
@@ -170,10 +191,11 @@ at_stage stage s = record s { stage = stage }
 abbrev pub ended_by : SessionEnd → State → State
 ended_by reason s = at_stage (end_stage s.entered reason) s
 
--- after a frame: the next one is met, or it asks for something, or it ends the session
+-- after a frame: the next one is met, or it asks for or says something, or it ends the session
 abbrev pub met_stage : Bool → Step → Stage
 met_stage entered step.Ignore = Reading
 met_stage entered (step.Ask asked) = Asking asked
+met_stage entered (step.Say bytes) = Saying bytes
 met_stage entered (step.RefuseSetup code flags) = Refusing code flags
 met_stage entered step.BadSetup = end_stage entered end.BadSetup
 met_stage entered (step.BadMessage kind) = end_stage entered (end.BadMessage kind)
@@ -212,6 +234,7 @@ after_call (Leaving reason) s call put = at_stage (Over (end_after reason call.o
 after_call Greeting s call put = s
 after_call Reading s call put = s
 after_call (Refusing code flags) s call put = s
+after_call (Saying bytes) s call put = s
 after_call (Over reason) s call put = s
 
 -- where a step leads: the state is determined by the step
@@ -223,6 +246,7 @@ after_step s (Framed met) =
     record s { talk = met.talk; stage = met_stage s.entered met.step; unmet = met.rest }
 after_step s (Refused put) =
     at_stage (put_stage put.fault s.entered (end_stage s.entered end.BadSetup)) s
+after_step s (Said put) = at_stage (put_stage put.fault s.entered Reading) s
 after_step s (Overran len) = ended_by (end.TooLong len) s
 after_step s Idled =
     record s { stage = news_stage s.entered (s.idles - 1); idles = s.idles - 1 }
@@ -259,6 +283,7 @@ calls_in steps = flat_map call_in steps
 abbrev pub put_in : SessionStep → Put
 put_in (Greeted put) = put
 put_in (Refused put) = put
+put_in (Said put) = put
 put_in (Called call put) = put
 put_in _ = nothing_put
 

@@ -47,6 +47,18 @@ takes_kind role flags kind =
     is_work_kind role kind || (is_none flags && is_setup_kind role kind)
     || (is_own_jobs_kind kind && brings_own_jobs role flags)
 
+-- declarations, and the transactions that they lack
+abbrev pub is_declared_kind : ℕ → Bool
+is_declared_kind kind =
+    (kind == kinds.DECLARE_MINING_JOB) || (kind == kinds.PROVIDE_MISSING_TRANSACTIONS_SUCCESS)
+
+-- they are taken of a miner that brings jobs of its own, where the pool takes any
+abbrev pub takes_declared : Talk → ℕ → Bool
+takes_declared talk kind =
+    is_declared_kind kind && (talk.declares && brings_own_jobs talk.role talk.flags)
+
 -- a frame is taken where its kind is, and no bit of its extension type but the channel bit is set
 abbrev pub is_taken : Talk → FrameValue → Bool
-is_taken talk frame = (frame.ext % 0x8000 == 0) && takes_kind talk.role talk.flags frame.kind
+is_taken talk frame =
+    (frame.ext % 0x8000 == 0)
+    && (takes_kind talk.role talk.flags frame.kind || takes_declared talk frame.kind)

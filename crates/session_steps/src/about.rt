@@ -16,4 +16,6 @@ pub enum About {
     Token(u32),
     /// The channel and the request id of a miner's own job.
     OwnJob(u32, u32),
+    /// The request id of an accepted declaration.
+    Declared(u32),
 }

@@ -8,7 +8,7 @@ pub fn taken_bytes_are_met()
     ensures { TakenIsMet }
 {}
 
-/// All that a session met was whole frames, with payloads of at most 262,144 bytes.
+/// All that a session met was whole frames, with payloads within its limit.
 pub fn met_are_frames()
     ensures { MetAreFrames }
 {}

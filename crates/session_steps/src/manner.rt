@@ -8,6 +8,8 @@ pub struct Manner {
     pub role: Role,
     /// Whether versions may be rolled.
     pub rolling: bool,
+    /// Whether miners may declare jobs of their own: then payloads may be longer.
+    pub declares: bool,
     /// After so many Idle turns in a row a session ends.
     pub idle_turns: u64,
 }

@@ -1,6 +1,7 @@
 //! What a frame leads to.
 
 use pool_history::Request;
+use sv2_types::Blob;
 
 /// Why a setup is refused. Where several reasons hold, the first in this order is told.
 #[derive(Clone, Copy, Debug, PartialEq, Eq)]
@@ -19,6 +20,8 @@ pub enum Step {
     /// It isn't taken.
     Ignore,
     Ask(Request),
+    /// These bytes are said, and nothing is asked.
+    Say(Blob),
     /// The setup is refused, with the flags that aren't offered.
     RefuseSetup(SetupCode, u32),
     /// The first message is no setup.

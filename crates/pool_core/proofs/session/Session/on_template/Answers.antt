@@ -1,7 +1,7 @@
 use Rattle.std.proofs.Common.{refl}
 use Rattle.template_msgs.specs.Seen.{template_message}
 use Rattle.sv2_messages.specs.Tables.{template_table}
-use Rattle.pool_core.proofs.Reading.{leads_on, none_read}
+use Rattle.pool_core.proofs.Reading.{if_leads_on, none_read}
 use Rattle.pool_core.proofs.session.Session.on_template.Goals as goal
 
 pub returns-in-Err-clause-ok : goal.returns-in-Err-clause-ok
@@ -14,5 +14,5 @@ returns-in-Err-clause-ok c = record {
 pub returns-in_ok-template_meaning-in-Ok-clause-ok : goal.returns-in_ok-template_meaning-in-Ok-clause-ok
 returns-in_ok-template_meaning-in-Ok-clause-ok c =
     let found = rw c.in-Ok.is at c.read-read.ensures.found in
-    leads_on template_table c.args.self.now _ c.args.kind c.args.payload.now c.lead.result (template_message c.in-Ok.message) found c.requires
-    (c.lead.ensures (template_message c.in-Ok.message) c.in_ok-template_meaning-in-Ok.ensures)
+    if_leads_on template_table c.args.self.now _ c.args.kind c.args.payload.now c.lead.result _ (template_message c.in-Ok.message) found c.requires
+    c.in_ok-template_meaning-in-Ok.ensures c.lead.ensures.ok

@@ -8,7 +8,7 @@ use Rattle.session_loop.proofs.conversation.Conversation.listen.Given as goal
 abbrev pub invariant-loop-end : goal.invariant-loop-end
 invariant-loop-end g l = record {
   ready : g.A.Acting.ready l.acting;
-  listening : IsListening l.listener;
+  listening : IsListening l.self.session.declares l.listener;
   room : length l.buffer ≡ 4096;
   runs : Runs g.A.Acting.worker g.A.Acting.does
       (state_at Reading (intake_of l.initial.listener) l.initial.self) (state_at Reading (intake_of l.listener) l.self) (g.L.Link.seen l.initial.link) (g.L.Link.seen l.link) l.initial.acting l.acting;

@@ -1,7 +1,10 @@
-use Rattle.std.proofs.Common.{◌++◌, refl}
+use Rattle.std.proofs.Common.{◌++◌, arith, refl, sym, ap, ◌∙◌}
+use Rattle.sv2_frames.specs.Holding.{Holding}
+use Rattle.session_steps.specs.States.{most_payload}
+use Rattle.session_steps.proofs.Streams.{meets_declares}
 use Rattle.session_loop.proofs.Chains.{runs_none, runs_on}
 use Rattle.session_loop.proofs.Asked.{meets_told}
-use Rattle.session_loop.proofs.Turns.{framed_runs, overran_runs, starved_runs}
+use Rattle.session_loop.proofs.Turns.{framed_runs, one_idle, overran_runs, runs_declares, starved_runs}
 use Rattle.session_loop.proofs.conversation.Conversation.meet.Goals as goal
 
 pub take_step-requires-clause-told : goal.take_step-requires-clause-told
@@ -30,3 +33,11 @@ returns-in-Frame-clause-runs g c = λ intake rest some.
     rw found.1
     (runs_on (framed_runs intake c.args.self.now c.args.splitter.now rest c.in-Frame.step c.find_next.new.self c.requires.limit found.2)
     (c.take_step.ensures.runs (record intake { unmet = rest }) some))
+
+pub returns-in-Frame-clause-limit : goal.returns-in-Frame-clause-limit
+returns-in-Frame-clause-limit g c =
+    let found = c.in-Frame.ensures in
+    let met = found.2 in
+    let same = meets_declares c.args.self.now.session c.find_next.new.self.session met.frame c.in-Frame.step met.meets in
+    ap (λ (h : Holding). h.limit) found.1 ∙ c.requires.limit
+    ∙ sym (ap most_payload (runs_declares (c.take_step.ensures.runs one_idle (omega arith)) ∙ same))

@@ -24,7 +24,7 @@ returns-in_err-meet-clause-runs g c = λ intake some.
 pub loop-rest-preserved : goal.loop-rest-preserved
 loop-rest-preserved g c = record {
   ready = c.meet.ensures.ready;
-  limit = c.meet.ensures.limit ∙ c.feed-count.ensures.limit ∙ c.loop-rest.invariant.limit;
+  limit = c.meet.ensures.limit;
   cut = c.in_ok-meet.ensures.cut;
   no_more = c.in_ok-meet.ensures.no_more;
   runs = λ intake some.

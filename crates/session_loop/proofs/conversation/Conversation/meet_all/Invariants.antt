@@ -1,6 +1,6 @@
 use Rattle.std.proofs.Common.{◌≡◌, ◌<◌, ◌++◌, length}
 use Rattle.sv2_frames.specs.Holding.{IsCutWithin}
-use Rattle.session_steps.specs.States.{Reading}
+use Rattle.session_steps.specs.States.{Reading, most_payload}
 use Rattle.session_loop.specs.Running.{Runs}
 use Rattle.session_loop.specs.Standing.{HoldsNoMore, Intake, state_at}
 use Rattle.session_loop.proofs.conversation.Conversation.meet_all.Given as goal
@@ -8,7 +8,7 @@ use Rattle.session_loop.proofs.conversation.Conversation.meet_all.Given as goal
 abbrev pub invariant-loop-rest : goal.invariant-loop-rest
 invariant-loop-rest g l = record {
   ready : g.A.Acting.ready l.acting;
-  limit : l.splitter.limit ≡ l.initial.splitter.limit;
+  limit : l.splitter.limit ≡ most_payload l.self.session.declares;
   cut : IsCutWithin l.splitter;
   no_more : HoldsNoMore l.splitter;
   runs : (intake : Intake) → 0 < intake.idles

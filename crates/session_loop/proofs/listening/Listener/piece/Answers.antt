@@ -1,4 +1,3 @@
-use Rattle.std.proofs.Common.{◌∙◌}
 use Rattle.std.proofs.lemmas.Result.{err_from_is_err_and}
 use Rattle.session_loop.specs.declared.listening.Listener.{Listener}
 use Rattle.session_loop.specs.Standing.{HasMetAll, intake_of, intake_with}
@@ -16,10 +15,10 @@ returns-in_err-meet_all-clause-reads g c =
 pub returns-clause-reads : goal.returns-clause-reads
 returns-clause-reads g c =
     let ran = c.in_ok-meet_all.ensures.runs (intake_with c.args.piece.now c.args.self.now) c.requires.waits in
-    let met : HasMetAll c.meet_all.new.splitter = record {
+    let met : HasMetAll c.meet_all.new.self.session.declares c.meet_all.new.splitter = record {
       cut = c.in_ok-meet_all.ensures.cut;
       no_more = c.in_ok-meet_all.ensures.no_more;
-      limit = c.meet_all.ensures.limit ∙ c.requires.met.limit;
+      limit = c.meet_all.ensures.limit;
     } in
     let after : Listener = record c.args.self.now { splitter = c.meet_all.new.splitter } in
     reads_at (intake_of after)

@@ -12,14 +12,14 @@ returns-in-Bytes-clause-reads g c =
     let len = length-take-le c.in-Bytes.count c.take.new.buffer bound.1 in
     let short : c.in-Bytes.count ≤ 4096 = omega (arith, bound.1, c.take.auto.buffer, c.requires.room) in
     reads_first
-    (took_runs c.args.self.now c.requires.listening c.args.conversation.now c.take.new.buffer c.in-Bytes.count len bound.0 short c.in-Bytes.ensures.within.1 c.in-Bytes.ensures.takes)
+    (took_runs c.args.self.now c.args.conversation.now c.requires.listening c.take.new.buffer c.in-Bytes.count len bound.0 short c.in-Bytes.ensures.within.1 c.in-Bytes.ensures.takes)
     (rw c.in-Bytes.ensures.counted at c.piece.ensures.reads)
 
 pub returns-in-Idle-clause-reads : goal.returns-in-Idle-clause-reads
 returns-in-Idle-clause-reads g c =
     rw c.in-Idle.ensures.counted
     (reads_at (intake_of (counted took.Idle c.args.self.now))
-    (runs_on (idled_runs c.args.self.now c.requires.listening c.args.conversation.now c.take.new.buffer c.in-Idle.ensures.takes)
+    (runs_on (idled_runs c.args.self.now c.args.conversation.now c.requires.listening c.take.new.buffer c.in-Idle.ensures.takes)
     (rw c.in-Idle.ensures.counted at c.idle.ensures.runs)))
 
 pub returns-in-End-clause-reads : goal.returns-in-End-clause-reads
@@ -27,12 +27,12 @@ returns-in-End-clause-reads g c = record {
   intake = intake_of c.args.self.now;
   kept_is = tt;
   runs = rw c.end.ensures
-      (ended_runs c.args.self.now c.requires.listening c.args.conversation.now c.take.new.buffer c.in-End.ensures.takes);
+      (ended_runs c.args.self.now c.args.conversation.now c.requires.listening c.take.new.buffer c.in-End.ensures.takes);
 }
 
 pub returns-in-Failed-clause-reads : goal.returns-in-Failed-clause-reads
 returns-in-Failed-clause-reads g c = record {
   intake = intake_of c.args.self.now;
   kept_is = tt;
-  runs = missed_runs c.args.self.now c.requires.listening c.args.conversation.now c.take.new.buffer c.in-Failed.ensures.takes;
+  runs = missed_runs c.args.self.now c.args.conversation.now c.requires.listening c.take.new.buffer c.in-Failed.ensures.takes;
 }
