@@ -104,6 +104,7 @@ fn visit(
     let manner = Manner {
         role,
         rolling: true,
+        declares: false,
         idle_turns: 2,
     };
     let end = serve_link(alloc, &mut asker, link, manner, terms);

@@ -141,6 +141,7 @@ fn talk(
     let manner = Manner {
         role,
         rolling: true,
+        declares: false,
         idle_turns: 2,
     };
     let end = converse(alloc, link, &mut sole, manner);

@@ -10,7 +10,7 @@ use Rattle.pool_history.specs.declared.replies.Reply.TheVariants as reply
 use Rattle.pool_history.specs.Calls.{PoolCall}
 use Rattle.session_steps.specs.declared.ends.SessionEnd.{SessionEnd}
 use Rattle.session_steps.specs.declared.ends.SessionEnd.TheVariants as end
-use Rattle.session_steps.specs.States.{Stage, Asking, Committing, Greeting, Leaving, Over, Polling, Reading, Refusing, Put, end_stage, failed_end, fault_end, hears, input_end, news_stage}
+use Rattle.session_steps.specs.States.{Stage, Asking, Committing, Greeting, Leaving, Over, Polling, Reading, Refusing, Saying, Put, end_stage, failed_end, fault_end, hears, input_end, news_stage}
 use Rattle.session_steps.specs.Steps.{after_call}
 use Rattle.session_limits.specs.Ends.{EntersFirst, is_enter}
 use Rattle.session_limits.proofs.Entering.{StageBehind, StaysBehind, all_more, asking_behind, booking_behind, books_none, ended_behind, news_behind, told_behind}
@@ -113,6 +113,7 @@ first_asks flags None Reading s call before asks = absurd asks
 first_asks flags None (Over reason) s call before asks = absurd asks
 first_asks flags None Greeting s call before asks = absurd before
 first_asks flags None (Refusing code refused) s call before asks = absurd before
+first_asks flags None (Saying bytes) s call before asks = absurd before
 first_asks flags None (Asking asked) s call before asks = absurd before
 first_asks flags None (Committing brief) s call before asks = absurd before
 first_asks flags None Polling s call before asks = absurd before
@@ -120,6 +121,7 @@ first_asks flags None (Leaving reason) s call before asks = absurd before
 first_asks flags (Some wish) Greeting s call before asks = absurd before
 first_asks flags (Some wish) Reading s call before asks = absurd before
 first_asks flags (Some wish) (Refusing code refused) s call before asks = absurd before
+first_asks flags (Some wish) (Saying bytes) s call before asks = absurd before
 first_asks flags (Some wish) (Committing brief) s call before asks = absurd before
 first_asks flags (Some wish) Polling s call before asks = absurd before
 first_asks flags (Some wish) (Leaving reason) s call before asks = absurd before
@@ -153,6 +155,7 @@ asks_later (Leaving reason) s call asks behind = ap is_enter asks
 asks_later Greeting s call asks behind = absurd asks
 asks_later Reading s call asks behind = absurd asks
 asks_later (Refusing code flags) s call asks behind = absurd asks
+asks_later (Saying bytes) s call asks behind = absurd asks
 asks_later (Over reason) s call asks behind = absurd asks
 
 call_behind : (stage : Stage) (s : LineState) (call : PoolCall) (put : Put) → Requests stage s call → StaysBehind s.pool (after_call stage s.pool call put)
@@ -163,6 +166,7 @@ call_behind (Leaving reason) s call put asks = record { flags = refl; stage = tt
 call_behind Greeting s call put asks = absurd asks
 call_behind Reading s call put asks = absurd asks
 call_behind (Refusing code flags) s call put asks = absurd asks
+call_behind (Saying bytes) s call put asks = absurd asks
 call_behind (Over reason) s call put asks = absurd asks
 
 called_behind : (terms : Terms) (next : Option LineRequest) (s : LineState) (call : PoolCall) (put : Put) → s.next ≡ next → next ≡ None

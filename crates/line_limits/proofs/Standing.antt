@@ -12,7 +12,7 @@ use Rattle.pool_history.specs.Calls.{PoolCall}
 use Rattle.session_steps.specs.declared.manner.Manner.{Manner}
 use Rattle.session_steps.specs.declared.ends.SessionEnd.{SessionEnd}
 use Rattle.session_steps.specs.declared.ends.SessionEnd.TheVariants as end
-use Rattle.session_steps.specs.States.{State, Stage, Asking, Committing, Greeting, Leaving, Over, Polling, Reading, Refusing, Put, end_stage, failed_end, fault_end, hears, input_end}
+use Rattle.session_steps.specs.States.{State, Stage, Asking, Committing, Greeting, Leaving, Over, Polling, Reading, Refusing, Saying, Put, end_stage, failed_end, fault_end, hears, input_end}
 use Rattle.session_steps.specs.Steps as frames
 use Rattle.session_steps.specs.Steps.{SessionStep, after_asking, after_booking, after_call, after_news, calls_in, ended_by, put_in, turn_in, turns_in}
 use Rattle.session_limits.specs.Ends.{is_missed, session_bounds}
@@ -138,6 +138,7 @@ module _ (bounds : Bounds) (done : List SessionStep) (s : LineState) (stands : S
   waits_asking wish Greeting waits shows = absurd waits
   waits_asking wish Reading waits shows = absurd waits
   waits_asking wish (Refusing code flags) waits shows = absurd waits
+  waits_asking wish (Saying bytes) waits shows = absurd waits
   waits_asking wish (Committing brief) waits shows = absurd waits
   waits_asking wish Polling waits shows = absurd waits
   waits_asking wish (Leaving reason) waits shows = absurd waits
@@ -152,6 +153,7 @@ module _ (bounds : Bounds) (done : List SessionStep) (s : LineState) (stands : S
   asked_shows sum Greeting asks shows = absurd asks
   asked_shows sum Reading asks shows = absurd asks
   asked_shows sum (Refusing code flags) asks shows = absurd asks
+  asked_shows sum (Saying bytes) asks shows = absurd asks
   asked_shows sum (Over reason) asks shows = absurd asks
 
   call_stands : (worker : ℕ) (terms : Terms) (next : Option LineRequest) → s.next ≡ next → CanCall worker terms s call put

@@ -13,7 +13,7 @@ use Rattle.line_turns.specs.Hearing.{BeginsLongLine}
 use Rattle.session_steps.specs.declared.manner.Manner.{Manner}
 use Rattle.session_steps.specs.declared.ends.SessionEnd.{SessionEnd}
 use Rattle.session_steps.specs.declared.ends.SessionEnd.TheVariants as end
-use Rattle.session_steps.specs.States.{Stage, Asking, Committing, Greeting, Leaving, Over, Polling, Reading, Refusing, Put, end_stage, failed_end, fault_end, hears, input_end, news_stage}
+use Rattle.session_steps.specs.States.{Stage, Asking, Committing, Greeting, Leaving, Over, Polling, Reading, Refusing, Saying, Put, end_stage, failed_end, fault_end, hears, input_end, news_stage}
 use Rattle.session_steps.specs.Steps.{after_call, end_after}
 use Rattle.session_loop.proofs.Quiet.{IsQuietEnd, IsQuietStage, asking_quiet, booking_quiet, polling_quiet, quiet_fault, quiet_news}
 use Rattle.session_limits.proofs.Standing.{any_last, any_more}
@@ -64,6 +64,7 @@ module _ (done : List LineStep) (unheard : List ℕ) where
   quiet_stage (Leaving reason) quiet = quiet_leaves reason quiet
   quiet_stage (Over reason) quiet = quiet_leaves reason quiet
   quiet_stage (Refusing code flags) quiet = absurd quiet
+  quiet_stage (Saying bytes) quiet = tt
   quiet_stage Greeting quiet = tt
   quiet_stage Reading quiet = tt
   quiet_stage (Asking asked) quiet = tt
@@ -169,6 +170,7 @@ module _ (worker : ℕ) (terms : Terms) (done : List LineStep) (s : LineState) w
   asked_leaves Greeting call put asks leaves = absurd asks
   asked_leaves Reading call put asks leaves = absurd asks
   asked_leaves (Refusing code flags) call put asks leaves = absurd asks
+  asked_leaves (Saying bytes) call put asks leaves = absurd asks
   asked_leaves (Over reason) call put asks leaves = absurd asks
 
   called_leaves : (next : Option LineRequest) (call : PoolCall) (put : Put) → Requests s.pool.stage s call → LeavesAt done s

@@ -264,6 +264,7 @@ shares_alone (topic.Opening request_id kind) telling answer brief asked alone is
 shares_alone (topic.Channel channel) telling answer brief asked alone is books = absurd books
 shares_alone (topic.Token request_id) telling answer brief asked alone is books = absurd books
 shares_alone (topic.OwnJob channel request_id) telling answer brief asked alone is books = absurd books
+shares_alone (topic.Declared request_id) telling answer brief asked alone is books = absurd books
 
 -- a share that was briefed says nothing
 pub briefed_hears : {l : LinkSeen} (terms : Terms) (telling : Telling) (old new : LineConversation) (front : ℕ) (answer : Reply) (brief : Briefing) (booking : Request)
@@ -554,7 +555,7 @@ module _ {A : Type 0} {worker : A → ℕ} {does : A → PoolCall → A → Type
   left_runs reason last leaves = left_at c.entered reason last leaves
 
 -- a session to which these bytes came first
-pub begun_is : (c : LineConversation) (manner : Manner) (waiting : Waiting) (piece : List ℕ) → c.session ≡ new_talk manner.role manner.rolling → c.v1 ≡ start → c.entered ≡ false → c.cursor ≡ 0
+pub begun_is : (c : LineConversation) (manner : Manner) (waiting : Waiting) (piece : List ℕ) → c.session ≡ new_talk manner.role manner.rolling manner.declares → c.v1 ≡ start → c.entered ≡ false → c.cursor ≡ 0
     → line_state Reading (intake_at waiting piece) c ≡ begun_lines manner waiting piece
 begun_is c manner waiting piece talk v1 entered cursor = rw (talk, v1, entered, cursor) refl
 

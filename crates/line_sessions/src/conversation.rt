@@ -16,10 +16,11 @@ ghost use Rattle.line_sessions.specs.Standing.{LeadsOn, asks_about, line_state};
 use crate::asking::{Wish, wish_for};
 use crate::telling::{Telling, tell};
 use pool_core::{Session, SessionEnd};
-use pool_history::{Reply, Request, Role};
+use pool_history::{Reply, Request};
 use pool_io::SinkFailed;
 use pool_network::Link;
 use session_loop::{Acted, Acting, AfterReply, after_answer, put_bytes, told_to};
+use session_steps::Manner;
 use std::alloc::{AllocError, Global};
 use v1_translate::{V1Session, V1Terms};
 
@@ -40,15 +41,16 @@ impl LineConversation {
     ghost use Rattle.line_steps.specs.States.{sends};
     ghost use Rattle.line_sessions.specs.declared.telling.Telling.TheVariants as tellings;
 
-    pub(crate) fn new(alloc: Global, role: Role, rolling: bool) -> LineConversation
-        ensures talk { result.session ≡ new_talk role rolling }
+    pub(crate) fn new(alloc: Global, manner: Manner) -> LineConversation
+        ensures talk { result.session
+            ≡ new_talk manner.role manner.rolling manner.declares }
         ensures v1 { result.v1 ≡ start }
         ensures entered { result.entered ≡ false }
         ensures cursor { result.cursor ≡ 0 }
     {
         LineConversation {
             alloc,
-            session: Session::new(role, rolling),
+            session: Session::new(alloc, manner),
             v1: V1Session::new(alloc),
             entered: false,
             cursor: 0,

@@ -105,7 +105,7 @@ pub fn serve_lines<L: Link, A: Acting>(
     ensures writes { CountsFailure (is_write_end result) (L.seen link.old).sink.faults
         (L.seen link.new).sink.faults }
 {
-    let mut conversation = LineConversation::new(alloc, manner.role, manner.rolling);
+    let mut conversation = LineConversation::new(alloc, manner);
     let mut session = LineSession {
         terms,
         conversation: &mut conversation,

@@ -33,7 +33,7 @@ use Rattle.session_steps.specs.declared.about.About.TheVariants as topic
 use Rattle.session_steps.specs.declared.ends.SessionEnd.{SessionEnd}
 use Rattle.session_steps.specs.declared.ends.SessionEnd.TheVariants as end
 use Rattle.session_steps.specs.declared.manner.Manner.{Manner}
-use Rattle.session_steps.specs.States.{State, Stage, Asking, Committing, Greeting, Leaving, Over, Polling, Reading, Refusing, Put, briefed_stage, end_stage, failed_end, fault_end, hears, input_end, news_stage, next_stage, put_stage}
+use Rattle.session_steps.specs.States.{State, Stage, Asking, Committing, Greeting, Leaving, Over, Polling, Reading, Refusing, Saying, Put, briefed_stage, end_stage, failed_end, fault_end, hears, input_end, news_stage, next_stage, put_stage}
 use Rattle.session_steps.specs.Steps.{Books, after_asking, after_booking, after_call, after_news}
 use Rattle.v1_rules.specs.Configuring.{Configuration, configuration_in, configured}
 use Rattle.v1_rules.specs.Difficulty.{asked_difficulty}
@@ -411,6 +411,7 @@ call_waits terms s call put (Leaving reason) asks is waits = tt
 call_waits terms s call put Greeting asks is waits = absurd asks
 call_waits terms s call put Reading asks is waits = absurd asks
 call_waits terms s call put (Refusing code flags) asks is waits = absurd asks
+call_waits terms s call put (Saying bytes) asks is waits = absurd asks
 call_waits terms s call put (Over reason) asks is waits = absurd asks
 
 entered_stands : (wish : LineRequest) (answer : Reply) (s : LineState) → Awaits wish.request wish.about s.v1 → Stands (entered_next wish answer s)

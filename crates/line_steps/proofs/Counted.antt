@@ -14,7 +14,7 @@ use Rattle.session_loop.specs.Causes.{is_read_end, is_write_end}
 use Rattle.session_loop.proofs.Counted.{Blame, Take, Neither, SaysNoFault, blame_asking, blame_at, blame_booking, blame_end, blame_fault, blame_input, blame_left, blame_news, blame_of, blame_put, blame_told, counts_read, counts_written, reading_blame, reads_at, reads_by, reads_put, writes_at, writes_by, writes_put}
 use Rattle.session_steps.specs.declared.ends.SessionEnd.{SessionEnd}
 use Rattle.session_steps.specs.declared.ends.SessionEnd.TheVariants as end
-use Rattle.session_steps.specs.States.{Stage, Asking, Committing, Greeting, Leaving, Over, Polling, Put, Reading, Refusing, fault_end, input_end}
+use Rattle.session_steps.specs.States.{Stage, Asking, Committing, Greeting, Leaving, Over, Polling, Put, Reading, Refusing, Saying, fault_end, input_end}
 use Rattle.session_steps.specs.Steps.{after_call, writes_after_put}
 use Rattle.v1_rules.specs.State.{Terms}
 use Rattle.line_steps.specs.Requests.{LineRequest}
@@ -62,6 +62,7 @@ blame_called terms (Leaving reason) s call put requests puts leaves = blame_left
 blame_called terms Greeting s call put requests puts leaves = absurd requests
 blame_called terms Reading s call put requests puts leaves = absurd requests
 blame_called terms (Refusing code flags) s call put requests puts leaves = absurd requests
+blame_called terms (Saying bytes) s call put requests puts leaves = absurd requests
 blame_called terms (Over reason) s call put requests puts leaves = absurd requests
 
 -- a stage from which a session enters blames nothing
@@ -73,6 +74,7 @@ waits_blame wish (Leaving reason) waits = absurd waits
 waits_blame wish Greeting waits = absurd waits
 waits_blame wish Reading waits = absurd waits
 waits_blame wish (Refusing code flags) waits = absurd waits
+waits_blame wish (Saying bytes) waits = absurd waits
 waits_blame wish (Over reason) waits = absurd waits
 
 blame_call : (terms : Terms) (next : Option LineRequest) (s : LineState) (call : PoolCall) (put : Put) → Requests s.pool.stage s call → PutsTold terms next s call.outcome put
@@ -106,6 +108,7 @@ module _ (n : ℕ) where
   reads_called Greeting s call put requests leaves = absurd requests
   reads_called Reading s call put requests leaves = absurd requests
   reads_called (Refusing code flags) s call put requests leaves = absurd requests
+  reads_called (Saying bytes) s call put requests leaves = absurd requests
   reads_called (Over reason) s call put requests leaves = absurd requests
 
   writes_called : (stage : Stage) (s : LineState) (call : PoolCall) (put : Put) → Requests stage s call → steps.PutsNoLeave stage put
@@ -117,6 +120,7 @@ module _ (n : ℕ) where
   writes_called Greeting s call put requests leaves = absurd requests
   writes_called Reading s call put requests leaves = absurd requests
   writes_called (Refusing code flags) s call put requests leaves = absurd requests
+  writes_called (Saying bytes) s call put requests leaves = absurd requests
   writes_called (Over reason) s call put requests leaves = absurd requests
 
   reads_step : (worker : ℕ) (terms : Terms) (s : LineState) (x : LineStep) → CanStep worker terms s x

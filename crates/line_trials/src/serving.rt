@@ -154,6 +154,7 @@ fn talk<L: Link, A: Acting>(
     let manner = Manner {
         role: Role::Miner,
         rolling: terms.rules().version_rolling,
+        declares: false,
         idle_turns: 2,
     };
     let mut buffer = [0; PIECE_LEN];

@@ -33,15 +33,16 @@ frame_for table message = record { ext = ext_of message.kind; kind = message.kin
 
 -- it is short and brings its message
 record IsBrought (table : List Row) (message : Message) : Type 0 where
-  within : IsWithinLimit (frame_for table message)
+  within : IsWithinLimit false (frame_for table message)
   brings : Brings (frame_for table message) message
 
 is_brought : (table : List Row) (message : Message) → message.kind < 2 ^ 8 → table_for message.kind ≡ table → FitsFrame table message
     → length (message_payload table message) ≤ 100 → IsBrought table message
 is_brought table message few is fits short =
     let back = read_back table message few fits in
+    let within : length (message_payload table message) ≤ 262144 = omega (arith, short) in
     record {
-      within = (back.frame, omega (arith, short));
+      within = (back.frame, within);
       brings = subst (λ t. MsgOf t message.kind (message_payload table message) message) (sym is) back.payload;
     }
 
@@ -61,12 +62,12 @@ same_message a b kinds_are fields =
 
 -- what the frames of a set-up session are
 abbrev IsLater : FrameValue → Type 0
-IsLater frame = IsWithinLimit frame × IsIgnoredOrMessage (talk_of Solo true (Some 0)) frame
+IsLater frame = IsWithinLimit false frame × IsIgnoredOrMessage (talk_of Solo true false (Some 0)) frame
 
 later : (table : List Row) (message : Message) → IsBrought table message → IsLater (frame_for table message)
 later table message is = (is.within, inr (message, is.brings))
 
-are_good : (frames : List FrameValue) → AllByRecursion IsLater frames → AreGood Solo true (Some 0) frames
+are_good : (frames : List FrameValue) → AllByRecursion IsLater frames → AreGood Solo true false (Some 0) frames
 are_good [] all = tt
 are_good (frame ∷ frames) all = (all.0.0, all.0.1, are_good frames all.1)
 
@@ -231,7 +232,7 @@ whole number steps = sym (
     )
 
 -- so the input is good
-setup_good : IsGoodSetup Solo true (frame_for mining_table setup_message) 0
+setup_good : IsGoodSetup Solo true false (frame_for mining_table setup_message) 0
 setup_good = record {
   taken = refl;
   message = setup_message;
@@ -241,7 +242,7 @@ setup_good = record {
       (same_fields mining_table kinds.SETUP_CONNECTION (message_payload mining_table setup_message) read setup_message brings setup_brought.brings));
 }
 
-pub good_load : (number steps : ℕ) → steps ≤ 20000 → IsGoodInput (solo_manner load_rules load_idle_turns) (turn.Piece (load_frames number steps) ∷ [])
+pub good_load : (number steps : ℕ) → steps ≤ 20000 → IsGoodInput (solo_manner load_rules false load_idle_turns) (turn.Piece (load_frames number steps) ∷ [])
 good_load number steps few = record {
   frames = frame_for mining_table setup_message ∷ load_values number steps;
   whole =
@@ -251,8 +252,10 @@ good_load number steps few = record {
 }
 
 -- and it is short
-frame_length : (frame : FrameValue) → IsWithinLimit frame → length (frame_bytes frame) ≤ 262150
-frame_length frame within = simp length-append (omega (arith, within.1))
+frame_length : (frame : FrameValue) → IsWithinLimit false frame → length (frame_bytes frame) ≤ 262150
+frame_length frame within =
+    let most : length frame.payload ≤ 262144 = within.1 in
+    simp length-append (omega (arith, most))
 
 lengths : (frames : List FrameValue) → AllByRecursion IsLater frames → length (flat_map frame_bytes frames) ≤ 262150 * length frames
 lengths [] all = omega arith

@@ -1,5 +1,5 @@
 -- The session that was served is the one that the text is of.
-use Rattle.std.proofs.Common.{◌≡◌, ℕ, ◌≤◌, Some, Result, Ok, Err, IfOk, List, [], ◌∷◌, ◌++◌, refl, ap, subst, ◌∙◌, arith}
+use Rattle.std.proofs.Common.{◌≡◌, ℕ, ◌≤◌, false, Some, Result, Ok, Err, IfOk, List, [], ◌∷◌, ◌++◌, refl, ap, subst, ◌∙◌, arith}
 use Rattle.pool_base.specs.Counts.{Rose}
 use Rattle.pool_io.specs.declared.turn.Turn.{Turn}
 use Rattle.pool_io.specs.declared.turn.Turn.TheVariants as turn
@@ -26,16 +26,16 @@ outsides turns held keeper = record {
 
 module _ (number steps : ℕ) (turns : List Turn) (held : List ℕ) (keeper : KeeperSeen) (back : Outsides) (reason : SessionEnd) (history : List Event)
     (come : turns ≡ turn.Piece (load_frames number steps) ∷ []) (empty : held ≡ []) (done : reason ≡ end.Done)
-    (session : IsSoloSession load_rules load_idle_turns (outsides turns held keeper) back reason history) where
+    (session : IsSoloSession load_rules false load_idle_turns (outsides turns held keeper) back reason history) where
   pub loaded : (text : List ℕ) → text ≡ load_text number steps history → IsLoadText number steps text
   loaded text says = record {
     keeper = keeper;
     back = back;
     history = history;
     session =
-        subst (λ t. IsSoloSession load_rules load_idle_turns (outsides t [] keeper) back end.Done history) come
-        (subst (λ h. IsSoloSession load_rules load_idle_turns (outsides turns h keeper) back end.Done history) empty
-        (subst (λ r. IsSoloSession load_rules load_idle_turns (outsides turns held keeper) back r history) done session));
+        subst (λ t. IsSoloSession load_rules false load_idle_turns (outsides t [] keeper) back end.Done history) come
+        (subst (λ h. IsSoloSession load_rules false load_idle_turns (outsides turns h keeper) back end.Done history) empty
+        (subst (λ r. IsSoloSession load_rules false load_idle_turns (outsides turns held keeper) back r history) done session));
     says = says;
   }
 
@@ -72,7 +72,7 @@ two_ends end.LedgerFault well done memory = well
 
 pub well_ended : (number steps : ℕ) (turns : List Turn) (held left : List ℕ) (rest : List Turn) (old new : KeeperSeen) (reason : SessionEnd) → steps ≤ 20000
     → turns ≡ turn.Piece (load_frames number steps) ∷ [] → old.faults ≡ 0 → 0 ≡ new.faults
-    → ServesGoodInput load_rules load_idle_turns (outsides turns held old) (outsides rest left new) (solo.Over reason)
+    → ServesGoodInput load_rules false load_idle_turns (outsides turns held old) (outsides rest left new) (solo.Over reason)
     → (reason ≡ end.Done → ⊥) → (reason ≡ end.Memory → ⊥) → ⊥
 well_ended number steps turns held left rest old new reason few come was is serves done memory =
     two_ends reason

@@ -66,6 +66,6 @@ pub record IsLoadText (number steps : ℕ) (text : List ℕ) : Type 0 where
   pub keeper : KeeperSeen
   pub back : Outsides
   pub history : List Event
-  pub session : IsSoloSession load_rules load_idle_turns (load_outsides number steps keeper) back
+  pub session : IsSoloSession load_rules false load_idle_turns (load_outsides number steps keeper) back
       end.Done history
   pub says : text ≡ load_text number steps history

@@ -38,7 +38,7 @@ pub(crate) fn load_text(alloc: Global, number: u64) -> Result<Vec<u8>, AllocErro
         sink: _,
         book,
         end,
-    } = serve_book(alloc, book, source, sink, true, LIMITS);
+    } = serve_book(alloc, book, source, sink, true, false, LIMITS);
     let mut summary = Vec::new(alloc);
     book.summary(&mut summary)?;
     let (_keeper, history) = book.into_parts();

@@ -19,7 +19,7 @@ use Rattle.session_steps.specs.declared.about.About.TheVariants as topic
 use Rattle.session_steps.specs.declared.ends.SessionEnd.{SessionEnd}
 use Rattle.session_steps.specs.declared.ends.SessionEnd.TheVariants as end
 use Rattle.session_steps.specs.declared.manner.Manner.{Manner}
-use Rattle.session_steps.specs.States.{State, Stage, Asking, Committing, Greeting, Leaving, Over, Polling, Reading, Refusing, Put, answered_stage, briefed_stage, end_stage, entered_after, failed_end, fault_end, hears, input_end, news_stage, next_stage, put_stage}
+use Rattle.session_steps.specs.States.{State, Stage, Asking, Committing, Greeting, Leaving, Over, Polling, Reading, Refusing, Saying, Put, answered_stage, briefed_stage, end_stage, entered_after, failed_end, fault_end, hears, input_end, news_stage, next_stage, put_stage}
 use Rattle.session_steps.specs.Steps.{Books, after_asking, after_booking, after_call, after_news, end_after}
 use Rattle.v1_rules.specs.Lines.{line_reaction}
 use Rattle.v1_rules.specs.State.{Terms}
@@ -137,6 +137,7 @@ briefed_inside (topic.Opening request_id kind) brief stage inside = inside
 briefed_inside (topic.Channel channel) brief stage inside = inside
 briefed_inside (topic.Token request_id) brief stage inside = inside
 briefed_inside (topic.OwnJob channel request_id) brief stage inside = inside
+briefed_inside (topic.Declared request_id) brief stage inside = inside
 
 answered_inside : (about : About) (entered : Bool) (idles : ℕ) (answer : Reply) → entered ≡ true → StageInside (answered_stage about entered idles answer)
 answered_inside about entered idles (reply.PoolFull most) is = ended_inside entered end.PoolFull is
@@ -234,6 +235,7 @@ books_inside (topic.Opening request_id kind) brief asked later books = absurd bo
 books_inside (topic.Channel channel) brief asked later books = absurd books
 books_inside (topic.Token request_id) brief asked later books = absurd books
 books_inside (topic.OwnJob channel request_id) brief asked later books = absurd books
+books_inside (topic.Declared request_id) brief asked later books = absurd books
 
 module _ (worker : ℕ) (terms : Terms) (t : LineState) where
   -- a call, and what follows on it
@@ -263,6 +265,7 @@ module _ (worker : ℕ) (terms : Terms) (t : LineState) where
     called_at Reading stands asks follows = absurd asks
     called_at Greeting stands asks follows = absurd stands
     called_at (Refusing code flags) stands asks follows = absurd stands
+    called_at (Saying bytes) stands asks follows = absurd stands
     called_at (Over reason) stands asks follows = absurd stands
 
     called_inside : Requests s.pool.stage s call → Follows worker terms (after_called terms s.next s call put) xs t → AskInside (call ∷ calls_of xs)
@@ -374,6 +377,7 @@ module _ (worker : ℕ) (terms : Terms) (t : LineState) (role : Role) where
   enter_on s call put xs (Some wish) Greeting out before asks follows = absurd before
   enter_on s call put xs (Some wish) Reading out before asks follows = absurd before
   enter_on s call put xs (Some wish) (Refusing code flags) out before asks follows = absurd before
+  enter_on s call put xs (Some wish) (Saying bytes) out before asks follows = absurd before
   enter_on s call put xs (Some wish) (Committing brief) out before asks follows = absurd before
   enter_on s call put xs (Some wish) Polling out before asks follows = absurd before
   enter_on s call put xs (Some wish) (Leaving reason) out before asks follows = absurd before
@@ -382,6 +386,7 @@ module _ (worker : ℕ) (terms : Terms) (t : LineState) (role : Role) where
   enter_on s call put xs None (Over reason) out before asks follows = absurd asks
   enter_on s call put xs None Greeting out before asks follows = absurd before
   enter_on s call put xs None (Refusing code flags) out before asks follows = absurd before
+  enter_on s call put xs None (Saying bytes) out before asks follows = absurd before
   enter_on s call put xs None (Asking asked) out before asks follows = absurd before
   enter_on s call put xs None (Committing brief) out before asks follows = absurd before
   enter_on s call put xs None Polling out before asks follows = absurd before

@@ -37,6 +37,7 @@ frames_of_worker worker s t (frames.Greeted put ∷ xs) follows = frames_of_work
 frames_of_worker worker s t (frames.Took bytes ∷ xs) follows = frames_of_worker worker (frames.after_step s (frames.Took bytes)) t xs follows.1
 frames_of_worker worker s t (frames.Framed met ∷ xs) follows = frames_of_worker worker (frames.after_step s (frames.Framed met)) t xs follows.1
 frames_of_worker worker s t (frames.Refused put ∷ xs) follows = frames_of_worker worker (frames.after_step s (frames.Refused put)) t xs follows.1
+frames_of_worker worker s t (frames.Said put ∷ xs) follows = frames_of_worker worker (frames.after_step s (frames.Said put)) t xs follows.1
 frames_of_worker worker s t (frames.Overran len ∷ xs) follows = frames_of_worker worker (frames.after_step s (frames.Overran len)) t xs follows.1
 frames_of_worker worker s t (frames.Idled ∷ xs) follows = frames_of_worker worker (frames.after_step s frames.Idled) t xs follows.1
 frames_of_worker worker s t (frames.Ended ∷ xs) follows = frames_of_worker worker (frames.after_step s frames.Ended) t xs follows.1

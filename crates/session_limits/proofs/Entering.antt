@@ -1,5 +1,5 @@
 -- A session asks to enter first, and never again.
-use Rattle.std.proofs.Common.{◌≡◌, ℕ, ◌-◌, Bool, true, false, List, [], ◌∷◌, ◌++◌, Option, None, Some, refl, sym, ap, subst, ◌∙◌, append_assoc, append-nil, suc, zero}
+use Rattle.std.proofs.Common.{◌≡◌, ℕ, ◌-◌, Bool, true, false, List, [], ◌∷◌, ◌++◌, Option, None, Some, inl, inr, refl, sym, ap, subst, ◌∙◌, append_assoc, append-nil, suc, zero}
 use Rattle.std.proofs.Math.Dec.{eqb-suc-zero}
 use Rattle.std.specs.List.{AllByRecursion}
 use Rattle.std.specs.Prelude.{if◌then◌else◌, is_none}
@@ -22,11 +22,11 @@ use Rattle.session_steps.specs.declared.ends.SessionEnd.TheVariants as end
 use Rattle.session_steps.specs.declared.meeting.Step.{Step}
 use Rattle.session_steps.specs.declared.meeting.Step.TheVariants as step
 use Rattle.session_steps.specs.Asking.{Asks}
-use Rattle.session_steps.specs.Meeting.{LeadsBy, Meets, SetsUp}
+use Rattle.session_steps.specs.Meeting.{AsksNext, LeadsBy, Meets, SetsUp}
 use Rattle.session_steps.specs.Setups.{Setup, Accepted, Refused, Unsuited, setup_in}
-use Rattle.session_steps.specs.States.{State, Stage, Asking, Committing, Greeting, Leaving, Over, Polling, Reading, Refusing, Put, answered_stage, briefed_stage, end_stage, fault_end, hears, input_end, new_state, news_stage, next_stage, put_stage}
+use Rattle.session_steps.specs.States.{State, Stage, Asking, Committing, Greeting, Leaving, Over, Polling, Reading, Refusing, Saying, Put, answered_stage, briefed_stage, end_stage, fault_end, hears, input_end, new_state, news_stage, next_stage, put_stage}
 use Rattle.session_steps.specs.Steps as steps
-use Rattle.session_steps.specs.Steps.{Books, CanCall, CanStep, Follows, SessionStep, after_asking, after_booking, after_call, after_news, after_step, call_in, calls_in, met_stage}
+use Rattle.session_steps.specs.Steps.{Books, CanCall, CanStep, Follows, Says, SessionStep, after_asking, after_booking, after_call, after_news, after_step, call_in, calls_in, met_stage}
 use Rattle.session_steps.specs.Talks.{Talk}
 use Rattle.session_limits.specs.Ends.{EntersFirst, is_enter}
 use Rattle.session_limits.specs.Laws.{EntersComeFirst}
@@ -36,6 +36,7 @@ abbrev StageBefore : Option ℕ → Stage → Type 0
 StageBefore flags Greeting = flags ≡ None
 StageBefore flags Reading = flags ≡ None
 StageBefore flags (Refusing code refused) = Unit {0}
+StageBefore flags (Saying bytes) = ⊥
 StageBefore flags (Asking asked) = (is_enter asked ≡ true) × (is_none flags ≡ false)
 StageBefore flags (Committing brief) = ⊥
 StageBefore flags Polling = ⊥
@@ -95,6 +96,7 @@ briefed_behind (topic.Opening request_id kind) brief stage behind = behind
 briefed_behind (topic.Channel channel) brief stage behind = behind
 briefed_behind (topic.Token request_id) brief stage behind = behind
 briefed_behind (topic.OwnJob channel request_id) brief stage behind = behind
+briefed_behind (topic.Declared request_id) brief stage behind = behind
 
 answered_behind : (about : About) (entered : Bool) (idles : ℕ) (answer : Reply) → StageBehind (answered_stage about entered idles answer)
 answered_behind about entered idles (reply.PoolFull most) = ended_behind entered end.PoolFull
@@ -133,6 +135,7 @@ call_behind (Leaving reason) s call put can = record { flags = refl; stage = tt 
 call_behind Greeting s call put can = absurd can
 call_behind Reading s call put can = absurd can
 call_behind (Refusing code flags) s call put can = absurd can
+call_behind (Saying bytes) s call put can = absurd can
 call_behind (Over reason) s call put can = absurd can
 
 -- what a stage asks, before the first call and behind it
@@ -145,6 +148,7 @@ asks_first flags (Leaving reason) s call put can before = absurd before
 asks_first flags Greeting s call put can before = absurd can
 asks_first flags Reading s call put can before = absurd can
 asks_first flags (Refusing code refused) s call put can before = absurd can
+asks_first flags (Saying bytes) s call put can before = absurd can
 asks_first flags (Over reason) s call put can before = absurd can
 
 pub books_none : (about : About) (brief : Briefing) (asked : Request) → Books about brief asked → is_enter asked ≡ false
@@ -156,6 +160,7 @@ books_none (topic.Opening request_id kind) brief asked books = absurd books
 books_none (topic.Channel channel) brief asked books = absurd books
 books_none (topic.Token request_id) brief asked books = absurd books
 books_none (topic.OwnJob channel request_id) brief asked books = absurd books
+books_none (topic.Declared request_id) brief asked books = absurd books
 
 asks_later : (stage : Stage) (s : State) (call : PoolCall) (put : Put) → CanCall stage s call put → StageBehind stage → is_enter call.asked ≡ false
 asks_later (Asking asked) s call put can behind = ap is_enter can.0 ∙ behind
@@ -165,6 +170,7 @@ asks_later (Leaving reason) s call put can behind = ap is_enter can.0
 asks_later Greeting s call put can behind = absurd can
 asks_later Reading s call put can behind = absurd can
 asks_later (Refusing code flags) s call put can behind = absurd can
+asks_later (Saying bytes) s call put can behind = absurd can
 asks_later (Over reason) s call put can behind = absurd can
 
 -- what a frame asks for
@@ -181,6 +187,11 @@ sets_up (Accepted flags) talk next asked sets =
 sets_up (Refused code flags) talk next asked sets = (let no = sets.0 in cc)
 sets_up Unsuited talk next asked sets = (let no = sets.0 in cc)
 
+says_nothing : (setup : Setup) (talk next : Talk) (bytes : List ℕ) → SetsUp setup talk (step.Say bytes) next → ⊥
+says_nothing (Accepted flags) talk next bytes sets = (let no = sets.0 in cc)
+says_nothing (Refused code flags) talk next bytes sets = (let no = sets.0 in cc)
+says_nothing Unsuited talk next bytes sets = (let no = sets.0 in cc)
+
 leads_none : (flags : Option ℕ) (talk next : Talk) (message : Message) (made : Step) → flags ≡ None → LeadsBy flags talk message made next
     → SetsUp (setup_in talk.role talk.rolling message) talk made next
 leads_none None talk next message made is leads = leads
@@ -191,6 +202,8 @@ met_before : (talk next : Talk) (frame : FrameValue) (made : Step) (entered : Bo
 met_before talk next frame step.Ignore entered is none meets = ap (λ t. t.flags) meets.1 ∙ none
 met_before talk next frame (step.Ask asked) entered is none meets =
     sets_up (setup_in talk.role talk.rolling meets.message) talk next asked (leads_none talk.flags talk next meets.message (step.Ask asked) none meets.leads)
+met_before talk next frame (step.Say bytes) entered is none meets =
+    says_nothing (setup_in talk.role talk.rolling meets.message) talk next bytes (leads_none talk.flags talk next meets.message (step.Say bytes) none meets.leads)
 met_before talk next frame (step.RefuseSetup code flags) entered is none meets = tt
 met_before talk next frame step.BadSetup entered is none meets = ended_before next.flags entered end.BadSetup is
 met_before talk next frame (step.BadMessage kind) entered is none meets = ended_before next.flags entered (end.BadMessage kind) is
@@ -207,8 +220,14 @@ met_behind : (flags : Option ℕ) (talk next : Talk) (frame : FrameValue) (made 
 met_behind None talk next frame made entered is some meets = cc
 met_behind (Some flags) talk next frame step.Ignore entered is some meets = record { flags = some_flags next.flags flags (ap (λ t. t.flags) meets.1 ∙ is); stage = tt }
 met_behind (Some flags) talk next frame (step.Ask asked) entered is some meets =
-    let leads = rw is at meets.leads in
-    record { flags = some_flags next.flags flags (ap (λ t. t.flags) leads.2); stage = asks_none meets.message asked leads.0 leads.1 }
+    let leads : AsksNext meets.message talk (step.Ask asked) next = subst (λ f. LeadsBy f talk meets.message (step.Ask asked) next) is meets.leads in
+    elim leads [
+      | inl work ↦ record { flags = some_flags next.flags flags (ap (λ t. t.flags) work.2 ∙ is); stage = asks_none meets.message asked work.0 work.1 }
+      | inr declared ↦ record { flags = some_flags next.flags flags (ap (λ t. t.flags) declared.next_is ∙ is); stage = ap is_enter declared.asked_is }
+    ]
+met_behind (Some flags) talk next frame (step.Say bytes) entered is some meets =
+    let says : AsksNext meets.message talk (step.Say bytes) next = subst (λ f. LeadsBy f talk meets.message (step.Say bytes) next) is meets.leads in
+    record { flags = some_flags next.flags flags (ap (λ t. t.flags) says.next_is ∙ is); stage = tt }
 met_behind (Some flags) talk next frame (step.RefuseSetup code more) entered is some meets = absurd (rw is at meets.leads)
 met_behind (Some flags) talk next frame step.BadSetup entered is some meets = absurd (rw is at meets.leads)
 met_behind (Some flags) talk next frame (step.BadMessage kind) entered is some meets =
@@ -218,6 +237,18 @@ pub all_more : (calls : List PoolCall) (call : PoolCall) → AllByRecursion (λ 
     → AllByRecursion (λ later. is_enter later.asked ≡ false) (calls ++ call ∷ [])
 all_more [] call all one = (one, tt)
 all_more (c ∷ calls) call all one = (all.0, all_more calls call all.1 one)
+
+-- nothing is said before the first call
+said_before : (flags : Option ℕ) (stage : Stage) (put : Put) → Says stage put → StageBefore flags stage → ⊥
+said_before flags (Saying bytes) put says before = before
+said_before flags (Refusing code more) put says before = says
+said_before flags Greeting put says before = says
+said_before flags Reading put says before = says
+said_before flags (Asking asked) put says before = says
+said_before flags (Committing brief) put says before = says
+said_before flags Polling put says before = says
+said_before flags (Leaving reason) put says before = says
+said_before flags (Over reason) put says before = says
 
 module _ (worker : ℕ) (s : State) where
   -- a stage that reads or greets
@@ -232,6 +263,7 @@ module _ (worker : ℕ) (s : State) where
       (out, met_before s.talk met.talk met.frame met.step s.entered out (before_at Reading can.reading before) can.meets)
   step_before (steps.Refused put) can (out, before) =
       (out, put_before s.talk.flags put.fault s.entered (end_stage s.entered end.BadSetup) out (ended_before s.talk.flags s.entered end.BadSetup out))
+  step_before (steps.Said put) can (out, before) = absurd (said_before s.talk.flags s.stage put can before)
   step_before (steps.Overran len) can (out, before) = (out, ended_before s.talk.flags s.entered (end.TooLong len) out)
   step_before steps.Idled can (out, before) =
       (out, news_before s.talk.flags s.entered (s.idles - 1) out (before_at Reading can.waiting.reading before))
@@ -255,6 +287,7 @@ module _ (worker : ℕ) (s : State) where
       rw (append-nil cs) (first, next.flags, next.stage)
   step_behind c cs (steps.Refused put) can (first, flags, behind) =
       rw (append-nil cs) (first, flags, put_behind put.fault s.entered (end_stage s.entered end.BadSetup) (ended_behind s.entered end.BadSetup))
+  step_behind c cs (steps.Said put) can (first, flags, behind) = rw (append-nil cs) (first, flags, put_behind put.fault s.entered Reading tt)
   step_behind c cs (steps.Overran len) can (first, flags, behind) = rw (append-nil cs) (first, flags, ended_behind s.entered (end.TooLong len))
   step_behind c cs steps.Idled can (first, flags, behind) = rw (append-nil cs) (first, flags, news_behind s.entered (s.idles - 1))
   step_behind c cs steps.Ended can (first, flags, behind) = rw (append-nil cs) (first, flags, ended_behind s.entered (input_end s.unmet))

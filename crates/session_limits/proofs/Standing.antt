@@ -23,9 +23,9 @@ use Rattle.session_steps.specs.declared.ends.SessionEnd.{SessionEnd}
 use Rattle.session_steps.specs.declared.ends.SessionEnd.TheVariants as end
 use Rattle.session_steps.specs.declared.meeting.Step.{Step}
 use Rattle.session_steps.specs.declared.meeting.Step.TheVariants as step
-use Rattle.session_steps.specs.States.{State, Stage, Asking, Committing, Greeting, Leaving, Over, Polling, Reading, Refusing, Put, answered_stage, briefed_stage, end_stage, fault_end, hears, input_end, new_state, news_stage, next_stage, put_stage}
+use Rattle.session_steps.specs.States.{State, Stage, Asking, Committing, Greeting, Leaving, Over, Polling, Reading, Refusing, Saying, Put, answered_stage, briefed_stage, end_stage, fault_end, hears, input_end, new_state, news_stage, next_stage, put_stage}
 use Rattle.session_steps.specs.Steps as steps
-use Rattle.session_steps.specs.Steps.{CanCall, CanStep, Follows, SessionStep, after_asking, after_booking, after_call, after_news, after_step, call_in, calls_in, end_after, met_stage, put_in, turn_in, turns_in}
+use Rattle.session_steps.specs.Steps.{CanCall, CanStep, Follows, Says, SessionStep, after_asking, after_booking, after_call, after_news, after_step, call_in, calls_in, end_after, met_stage, put_in, turn_in, turns_in}
 use Rattle.session_limits.specs.Ends.{has_missed, has_turned_away, has_unkept, has_unwritten, is_full, is_missed, is_turned_away, is_unwritten, session_bounds}
 
 -- what an end says of the steps that led to it
@@ -131,6 +131,7 @@ module _ (bounds : Bounds) (done : List SessionStep) (idles : ℕ) where
   met_shows : (entered : Bool) (made : Step) → 0 < idles → StageShows bounds done idles (met_stage entered made)
   met_shows entered step.Ignore waits = waits
   met_shows entered (step.Ask asked) waits = waits
+  met_shows entered (step.Say bytes) waits = waits
   met_shows entered (step.RefuseSetup code flags) waits = waits
   met_shows entered step.BadSetup waits = ended_shows entered end.BadSetup tt
   met_shows entered (step.BadMessage kind) waits = ended_shows entered (end.BadMessage kind) tt
@@ -154,6 +155,7 @@ module _ (bounds : Bounds) (done : List SessionStep) (idles : ℕ) (sum : idles 
   briefed_shows (topic.Channel channel) brief stage waits shows = shows
   briefed_shows (topic.Token request_id) brief stage waits shows = shows
   briefed_shows (topic.OwnJob channel request_id) brief stage waits shows = shows
+  briefed_shows (topic.Declared request_id) brief stage waits shows = shows
 
   answered_shows : (about : About) (entered : Bool) (answer : Reply) → 0 < idles → (is_full answer ≡ true → has_turned_away (calls_in done) ≡ true)
       → StageShows bounds done idles (answered_stage about entered idles answer)
@@ -191,6 +193,7 @@ call_within (Leaving reason) s call put = record { turns = refl; idles = refl; b
 call_within Greeting s call put = within_same s
 call_within Reading s call put = within_same s
 call_within (Refusing code flags) s call put = within_same s
+call_within (Saying bytes) s call put = within_same s
 call_within (Over reason) s call put = within_same s
 
 -- what the stage after a call says
@@ -242,6 +245,7 @@ module _ (bounds : Bounds) (done : List SessionStep) (s : State) (call : PoolCal
   call_shows Greeting can shows = absurd can
   call_shows Reading can shows = absurd can
   call_shows (Refusing code flags) can shows = absurd can
+  call_shows (Saying bytes) can shows = absurd can
   call_shows (Over reason) can shows = absurd can
 
 module _ (bounds : Bounds) (done : List SessionStep) (s : State) (stands : Stands bounds done s) where
@@ -305,6 +309,17 @@ module _ (bounds : Bounds) (done : List SessionStep) (s : State) (stands : Stand
         stage = news_shows bounds (done ++ x ∷ []) (s.idles - 1) s.entered sum;
       }
 
+  says_waits : (stage : Stage) (put : Put) → Says stage put → s.stage ≡ stage → 0 < s.idles
+  says_waits (Saying bytes) put says is = waits (Saying bytes) is
+  says_waits (Refusing code flags) put says is = absurd says
+  says_waits Greeting put says is = absurd says
+  says_waits Reading put says is = absurd says
+  says_waits (Asking asked) put says is = absurd says
+  says_waits (Committing brief) put says is = absurd says
+  says_waits Polling put says is = absurd says
+  says_waits (Leaving reason) put says is = absurd says
+  says_waits (Over reason) put says is = absurd says
+
   step_stands : (worker : ℕ) (x : SessionStep) → 0 < bounds.idle_turns → CanStep worker s x → Stands bounds (done ++ x ∷ []) (after_step s x)
   step_stands worker (steps.Greeted put) positive can =
       let x = steps.Greeted put in
@@ -320,6 +335,10 @@ module _ (bounds : Bounds) (done : List SessionStep) (s : State) (stands : Stand
       at x (put_stage put.fault s.entered (end_stage s.entered end.BadSetup)) refl
       (put_shows bounds (done ++ x ∷ []) s.idles put.fault s.entered (end_stage s.entered end.BadSetup) (unwritten_now bounds done x)
       (ended_shows bounds (done ++ x ∷ []) s.idles s.entered end.BadSetup tt))
+  step_stands worker (steps.Said put) positive can =
+      let x = steps.Said put in
+      at x (put_stage put.fault s.entered Reading) refl
+      (put_shows bounds (done ++ x ∷ []) s.idles put.fault s.entered Reading (unwritten_now bounds done x) (says_waits s.stage put can refl))
   step_stands worker (steps.Overran len) positive can =
       let x = steps.Overran len in
       at x (end_stage s.entered (end.TooLong len)) refl (ended_shows bounds (done ++ x ∷ []) s.idles s.entered (end.TooLong len) tt)
