@@ -6,7 +6,7 @@ use Rattle.std.proofs.lemmas.Nat.{from_le_bytes-to_le_bytes_4}
 use Rattle.fixed_command.specs.declared.judge.Job.{Job}
 use Rattle.command_line.specs.Numbers.{IsNumber}
 use Rattle.command_line.specs.declared.words.Form.{Form}
-use Rattle.command_line.specs.declared.words.Form.TheVariants.{SoloFixed, Frames, Solo, Serve, Audit, Migrate, Load, Mine, Feed, Durable}
+use Rattle.command_line.specs.declared.words.Form.TheVariants.{SoloFixed, Frames, Solo, Declare, Serve, Audit, Migrate, Load, Mine, Feed, Durable}
 use Rattle.command_line.specs.declared.words.OnDisk.{OnDisk}
 use Rattle.command_line.specs.declared.words.OnDisk.TheVariants as disk
 use Rattle.command_line.specs.Forms.{AskAtAddress, AskForDisk, IsDurable, IsForm, IsJob, IsSoloFixed}
@@ -105,6 +105,27 @@ one_form words Serve Audit is also = absurd (let both = sym also.spelled ∙ is.
 one_form words Migrate Serve is also = absurd (let both = sym is.spelled ∙ also.spelled in cc)
 one_form words Serve Migrate is also = absurd (let both = sym also.spelled ∙ is.spelled in cc)
 one_form words Serve Serve is also = refl
+one_form words Declare Declare is also = refl
+one_form words Declare (SoloFixed class job) is also = absurd (let other : 100 ≡ 115 = ap (letter 0) (sym is.spelled ∙ also.spelled) in omega (arith, other))
+one_form words (SoloFixed class job) Declare is also = absurd (let other : 115 ≡ 100 = ap (letter 0) (sym is.spelled ∙ also.spelled) in omega (arith, other))
+one_form words Declare Frames is also = absurd (let other : 100 ≡ 102 = ap (letter 0) (sym is.spelled ∙ also) in omega (arith, other))
+one_form words Frames Declare is also = absurd (let other : 102 ≡ 100 = ap (letter 0) (sym is ∙ also.spelled) in omega (arith, other))
+one_form words Declare Solo is also = absurd (let other : 100 ≡ 115 = ap (letter 0) (sym is.spelled ∙ also.spelled) in omega (arith, other))
+one_form words Solo Declare is also = absurd (let other : 115 ≡ 100 = ap (letter 0) (sym is.spelled ∙ also.spelled) in omega (arith, other))
+one_form words Declare Serve is also = absurd (let other : 100 ≡ 115 = ap (letter 0) (sym is.spelled ∙ also.spelled) in omega (arith, other))
+one_form words Serve Declare is also = absurd (let other : 115 ≡ 100 = ap (letter 0) (sym is.spelled ∙ also.spelled) in omega (arith, other))
+one_form words Declare Audit is also = absurd (let other : 100 ≡ 97 = ap (letter 0) (sym is.spelled ∙ also.spelled) in omega (arith, other))
+one_form words Audit Declare is also = absurd (let other : 97 ≡ 100 = ap (letter 0) (sym is.spelled ∙ also.spelled) in omega (arith, other))
+one_form words Declare Migrate is also = absurd (let other : 100 ≡ 109 = ap (letter 0) (sym is.spelled ∙ also.spelled) in omega (arith, other))
+one_form words Migrate Declare is also = absurd (let other : 109 ≡ 100 = ap (letter 0) (sym is.spelled ∙ also.spelled) in omega (arith, other))
+one_form words Declare (Load number) is also = absurd (let other : 100 ≡ 108 = ap (letter 0) (sym is.spelled ∙ also.spelled) in omega (arith, other))
+one_form words (Load number) Declare is also = absurd (let other : 108 ≡ 100 = ap (letter 0) (sym is.spelled ∙ also.spelled) in omega (arith, other))
+one_form words Declare (Mine class count) is also = absurd (let other : 100 ≡ 109 = ap (letter 0) (sym is.spelled ∙ also.spelled) in omega (arith, other))
+one_form words (Mine class count) Declare is also = absurd (let other : 109 ≡ 100 = ap (letter 0) (sym is.spelled ∙ also.spelled) in omega (arith, other))
+one_form words Declare Feed is also = absurd (let other : 100 ≡ 102 = ap (letter 0) (sym is.spelled ∙ also.spelled) in omega (arith, other))
+one_form words Feed Declare is also = absurd (let other : 102 ≡ 100 = ap (letter 0) (sym is.spelled ∙ also.spelled) in omega (arith, other))
+one_form words Declare (Durable command) is also = absurd (let other : 101 ≡ 117 = ap (λ (w : List ℕ). get_or w 1 0) (sym (ap (λ (ws : List (List ℕ)). get_or ws 0 []) is.spelled) ∙ durably words command also) in omega (arith, other))
+one_form words (Durable command) Declare is also = absurd (let other : 117 ≡ 101 = ap (λ (w : List ℕ). get_or w 1 0) (sym (durably words command is) ∙ ap (λ (ws : List (List ℕ)). get_or ws 0 []) also.spelled) in omega (arith, other))
 one_form words (Load number) (Load other) is also =
     ap Load (one_number is.digits also.digits number other (let both = sym is.spelled ∙ also.spelled in cc) is.is_number also.is_number)
 one_form words (SoloFixed class job) (Load number) is also = absurd (let both = sym is.spelled ∙ also.spelled in cc)
@@ -178,6 +199,7 @@ pub within_limits : (words : List (List ℕ)) (form : Form) → IsForm words for
 within_limits words (SoloFixed class job) is = is.limit
 within_limits words Frames is = tt
 within_limits words Solo is = tt
+within_limits words Declare is = tt
 within_limits words Serve is = tt
 within_limits words Audit is = tt
 within_limits words Migrate is = tt
@@ -191,6 +213,7 @@ pub alone : (words : List (List ℕ)) (form : Form) → IsForm words form → (A
 alone words (SoloFixed class job) is none = tt
 alone words Frames is none = tt
 alone words Solo is none = tt
+alone words Declare is none = tt
 alone words Serve is none = none (inl is)
 alone words Audit is none = tt
 alone words Migrate is none = tt
@@ -206,6 +229,7 @@ pub off_disk : (words : List (List ℕ)) (form : Form) → IsForm words form →
 off_disk words (SoloFixed class job) is none = tt
 off_disk words Frames is none = tt
 off_disk words Solo is none = tt
+off_disk words Declare is none = tt
 off_disk words Serve is none = tt
 off_disk words Audit is none = tt
 off_disk words Migrate is none = tt

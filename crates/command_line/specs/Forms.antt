@@ -4,7 +4,7 @@ use Rattle.std.specs.Int.{w32, to_le_bytes}
 use Rattle.hex.specs.Hex.{decode_sized}
 use Rattle.fixed_command.specs.declared.judge.Job.{Job}
 use Rattle.command_line.specs.declared.words.Form.{Form}
-use Rattle.command_line.specs.declared.words.Form.TheVariants.{SoloFixed, Frames, Solo, Serve, Audit, Migrate, Load, Mine, Feed, Durable}
+use Rattle.command_line.specs.declared.words.Form.TheVariants.{SoloFixed, Frames, Solo, Declare, Serve, Audit, Migrate, Load, Mine, Feed, Durable}
 use Rattle.command_line.specs.declared.words.OnDisk.{OnDisk}
 use Rattle.command_line.specs.declared.words.OnDisk.TheVariants as disk
 use Rattle.command_line.specs.Numbers.{IsNumber}
@@ -36,6 +36,12 @@ pub record IsSolo (words : List (List ℕ)) : Type 0 where
   pub settings : List ℕ
   pub ledger : List ℕ
   pub spelled : words ≡ codes "solo" ∷ settings ∷ ledger ∷ []
+
+-- `declare SETTINGS LEDGER`: the names of two files
+pub record IsDeclare (words : List (List ℕ)) : Type 0 where
+  pub settings : List ℕ
+  pub ledger : List ℕ
+  pub spelled : words ≡ codes "declare" ∷ settings ∷ ledger ∷ []
 
 -- `serve SETTINGS LEDGER`: the names of two files
 pub record IsServe (words : List (List ℕ)) : Type 0 where
@@ -112,6 +118,7 @@ abbrev pub IsForm : List (List ℕ) → Form → Type 0
 IsForm words (SoloFixed class job) = IsSoloFixed words class job
 IsForm words Frames = IsFrames words
 IsForm words Solo = IsSolo words
+IsForm words Declare = IsDeclare words
 IsForm words Serve = IsServe words
 IsForm words Audit = IsAudit words
 IsForm words Migrate = IsMigrate words

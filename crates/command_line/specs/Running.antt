@@ -18,12 +18,12 @@ use Rattle.mine_command.specs.Row.{MineRow}
 use Rattle.serve_command.specs.Row.{ServeRow}
 use Rattle.pool_io.specs.Hosts.{HostSeen}
 use Rattle.pool_network.specs.Worlds.{WorldSeen}
-use Rattle.solo_command.specs.Row.{SoloRow}
+use Rattle.solo_command.specs.Row.{DeclareRow, SoloRow}
 use Rattle.command_line.specs.declared.words.Form.{Form}
-use Rattle.command_line.specs.declared.words.Form.TheVariants.{SoloFixed, Frames, Solo, Serve, Audit, Migrate, Load, Mine, Feed, Durable}
+use Rattle.command_line.specs.declared.words.Form.TheVariants.{SoloFixed, Frames, Solo, Declare, Serve, Audit, Migrate, Load, Mine, Feed, Durable}
 use Rattle.command_line.specs.declared.words.OnDisk.{OnDisk}
 use Rattle.command_line.specs.declared.words.OnDisk.TheVariants as disk
-use Rattle.command_line.specs.Forms.{IsAudit, IsDurableAudit, IsDurableServe, IsDurableSolo, IsFeed, IsMigrate, IsMine, IsServe, IsSolo}
+use Rattle.command_line.specs.Forms.{IsAudit, IsDeclare, IsDurableAudit, IsDurableServe, IsDurableSolo, IsFeed, IsMigrate, IsMine, IsServe, IsSolo}
 
 -- a command over standard input and output: what it owes at each status, and that it asked for
 -- these alone
@@ -40,6 +40,9 @@ OwesPlainRow words Frames old new status =
     OwesStreams listing_duty old.host new.host status × (new.network ≡ old.network)
 OwesPlainRow words Solo old new status =
     ((names : IsSolo words) × SoloRow names.settings names.ledger old.host new.host status)
+    × (new.network ≡ old.network)
+OwesPlainRow words Declare old new status =
+    ((names : IsDeclare words) × DeclareRow names.settings names.ledger old.host new.host status)
     × (new.network ≡ old.network)
 OwesPlainRow words Serve old new status =
     (names : IsServe words) × ServeRow names.settings names.ledger old new status
@@ -113,6 +116,7 @@ abbrev pub IsWithinLimits : Form → Type 0
 IsWithinLimits (SoloFixed class job) = class ≤ 60
 IsWithinLimits Frames = Unit {0}
 IsWithinLimits Solo = Unit {0}
+IsWithinLimits Declare = Unit {0}
 IsWithinLimits Serve = Unit {0}
 IsWithinLimits Audit = Unit {0}
 IsWithinLimits Migrate = Unit {0}

@@ -11,14 +11,15 @@ ghost use Rattle.mine_command.specs.Row.{MineRow};
 ghost use Rattle.serve_command.specs.Row.{ServeRow};
 ghost use Rattle.pool_io.specs.Hosts.{IsHandedBack};
 ghost use Rattle.durable_commands.specs.Surroundings.{IsAllBack, IsWorldBack, around};
-ghost use Rattle.solo_command.specs.Row.{SoloRow};
+ghost use Rattle.solo_command.specs.Row.{DeclareRow, SoloRow};
 ghost use Rattle.command_line.specs.declared.words.Form.{Form as Asked};
-ghost use Rattle.command_line.specs.Forms.{AskAtAddress, AskForDisk, HasNoForm, IsAudit, IsDurable, IsDurableAudit, IsDurableServe, IsDurableSolo, IsFeed, IsForm, IsMigrate, IsMine, IsServe, IsSolo};
+ghost use Rattle.command_line.specs.Forms.{AskAtAddress, AskForDisk, HasNoForm, IsAudit, IsDeclare, IsDurable, IsDurableAudit, IsDurableServe, IsDurableSolo, IsFeed, IsForm, IsMigrate, IsMine, IsServe, IsSolo};
 ghost use Rattle.command_line.specs.Running.{DoesForm, IsAlone, IsOffDisk, IsWithinLimits, OwesDurableRow, OwesRow};
 
 use crate::on_disk::durable_named;
 use crate::words::{
-    Form, Word, audit_name, feed_names, form_of, migrate_names, serve_names, solo_names,
+    Form, Word, audit_name, declare_names, feed_names, form_of, migrate_names, serve_names,
+    solo_names,
 };
 use disk_io::Disks;
 use feed_command::feed;
@@ -117,6 +118,7 @@ where
         Form::SoloFixed { class, job } => judge_shares(alloc, host, class, &job),
         Form::Frames => list_frames(alloc, host),
         Form::Solo => solo_named(alloc, host, words),
+        Form::Declare => declare_named(alloc, host, words),
         Form::Serve => serve_named(rt, alloc, host, network, words),
         Form::Audit => audit_named(alloc, host, words),
         Form::Migrate => migrate_named(alloc, host, words),
@@ -227,6 +229,25 @@ fn solo_named<H: Host>(alloc: Global, host: &mut H, words: &[Word]) -> Status
             let settings_name = settings.text();
             let ledger_name = ledger.text();
             solo_command::serve_by_settings(alloc, host, settings_name, ledger_name)
+        }
+        None => unreachable!(),
+    }
+}
+
+/// The same, and takes declarations.
+fn declare_named<H: Host>(alloc: Global, host: &mut H, words: &[Word]) -> Status
+    requires names { IsDeclare words.now }
+    ensures row { (names : IsDeclare words.now) × DeclareRow names.settings names.ledger
+        (H.seen host.old) (H.seen host.new) result }
+    ensures back { IsHandedBack (H.seen host.old) (H.seen host.new) }
+    ensures counts { CountsFailure (status_code result == 7) (H.seen host.old).streams.faults
+        (H.seen host.new).streams.faults }
+{
+    match declare_names(words) {
+        Some((settings, ledger)) => {
+            let settings_name = settings.text();
+            let ledger_name = ledger.text();
+            solo_command::declare_by_settings(alloc, host, settings_name, ledger_name)
         }
         None => unreachable!(),
     }

@@ -6,7 +6,7 @@ ghost use Rattle.hex.specs.Hex.{decode_sized};
 ghost use Rattle.command_line.specs.Numbers.{IsNumber};
 ghost use Rattle.fixed_command.specs.declared.judge.Job.{Job as Work};
 ghost use Rattle.command_line.specs.declared.words.OnDisk.{OnDisk as Durable};
-ghost use Rattle.command_line.specs.Forms.{IsAudit, IsDurable, IsDurableAudit, IsDurableServe, IsDurableSolo, IsFeed, IsForm, IsFrames, IsJob, IsLoad, IsMigrate, IsMine, IsServe, IsSolo, IsSoloFixed};
+ghost use Rattle.command_line.specs.Forms.{IsAudit, IsDeclare, IsDurable, IsDurableAudit, IsDurableServe, IsDurableSolo, IsFeed, IsForm, IsFrames, IsJob, IsLoad, IsMigrate, IsMine, IsServe, IsSolo, IsSoloFixed};
 
 use fixed_command::Job;
 use hex::FromHex;
@@ -66,6 +66,8 @@ pub enum Form {
     Frames,
     /// `solo SETTINGS LEDGER`
     Solo,
+    /// `declare SETTINGS LEDGER`
+    Declare,
     /// `serve SETTINGS LEDGER`
     Serve,
     /// `audit LEDGER`
@@ -92,6 +94,9 @@ pub fn form_of(words: &[Word]) -> Option<Form>
     }
     if solo_names(words).is_some() {
         return Some(Form::Solo);
+    }
+    if declare_names(words).is_some() {
+        return Some(Form::Declare);
     }
     if serve_names(words).is_some() {
         return Some(Form::Serve);
@@ -198,6 +203,15 @@ pub fn solo_names(words: &[Word]) -> Option<(&Word, &Word)>
     ensures none { IfNone result (IsSolo words.now → ⊥) }
 {
     names_behind(words, "solo")
+}
+
+/// The words behind `declare`, where there are two: the names of the settings file and of the ledger.
+pub fn declare_names(words: &[Word]) -> Option<(&Word, &Word)>
+    ensures found { IfSome result (λ names. words.now
+        ≡ codes "declare" ∷ names.0.now ∷ names.1.now ∷ []) }
+    ensures none { IfNone result (IsDeclare words.now → ⊥) }
+{
+    names_behind(words, "declare")
 }
 
 /// The words behind `serve`, where there are two: the names of the settings file and of the ledger.

@@ -2,6 +2,7 @@
 use Rattle.std.proofs.Common.{◌≡◌, ℕ, ◌+◌, Option, None, Some, is_some, List, length, map, true≢false, refl, sym, ap, ◌∙◌, subst}
 use Rattle.std.specs.Global.{Vec}
 use Rattle.pool_base.specs.Calls.{Parted}
+use Rattle.desk.specs.Machines.{Telling}
 use Rattle.desk.specs.Passes.{HasJustOpened, IsSamePass, Opening, fresh_passes}
 use Rattle.desk.specs.Views.{workers_from}
 use Rattle.desk_threads.specs.Parts.{HasTended}
@@ -86,7 +87,8 @@ module _ {D L : Type 0} {seeing : Seeing D L} {desk : Opening BookSeen} {closed 
         doors_after = all.after ∙ ap (λ (l : List D). map seeing.door l) (sym restored.doors_are);
         begins = at.begins;
         kept = kept;
-        ledger = keeps-telling desk.start.keeper.records closed.keeper.records closed.events at.later.tells ledger;
+        ledger = keeps-telling desk.start.keeper.records closed.keeper.records closed.events (ap (λ (t : Telling). t.records) at.later.tells) ledger;
+        begun = ap (λ (t : Telling). t.begun) at.later.tells;
         good = subst (λ (l : List PoolCall). GoodPoolCalls closed.events l) all.calls at.good;
         parted = subst (λ (l : List PoolCall). Parted desk.start.events closed.events desk.start.keeper.faults closed.keeper.faults l) all.calls at.parted;
         rise = all.rise;

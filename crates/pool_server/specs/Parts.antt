@@ -1,5 +1,5 @@
 -- What one thread has in hand, and what it did with it (this project's own).
-use Rattle.std.specs.Prelude.{◌≡◌, ℕ, Some}
+use Rattle.std.specs.Prelude.{◌≡◌, ℕ, false, Some}
 use Rattle.pool_io.specs.declared.limits.Limits.{Limits}
 use Rattle.pool_network.specs.Seen.{DoorSeen, LinkSeen}
 use Rattle.pool_history.specs.declared.events.Role.{Role}
@@ -33,6 +33,7 @@ abbrev pub manner_of : Service → Role → Manner
 manner_of service role = record {
   role = role;
   rolling = service.terms.rules.version_rolling;
+  declares = false;
   idle_turns = service.idle_turns;
 }
 

@@ -8,6 +8,7 @@ use Rattle.pool_history.specs.declared.events.Role.TheVariants as role
 use Rattle.pool_history.specs.Calls.{GoodPoolCalls, PoolCall}
 use Rattle.ledger_laws.specs.Keeping.{IsKept}
 use Rattle.share_ledger.specs.Books.{BookSeen, KeepsInstead}
+use Rattle.share_ledger.specs.Recovery.{KeepsBeginning}
 use Rattle.session_steps.specs.declared.ends.SessionEnd.{SessionEnd}
 use Rattle.link_session.specs.Courses.{Course, calls_on}
 use Rattle.session_workers.specs.Visits.{IsVisit}
@@ -35,8 +36,8 @@ NumbersRise calls = (known : ℕ) × RiseFrom 0 calls known
 
 -- The first worker served the feed's link by one session, and each later one had a shift at its door.
 -- The history begins with the one that came, is legal and has records; a keeper that told its records
--- then tells this history's ledger. The calls of all these sessions are good, and are all that became of the
--- history that came; the numbers of each worker's rise.
+-- then tells this history's ledger, its first moment being the same. The calls of all these sessions
+-- are good, and are all that became of the history that came; the numbers of each worker's rise.
 pub record HasRun (service : Service) (old new : Hall) (reason : SessionEnd)
     (ledger_faults door_faults door_memory : ℕ) : Type 0 where
   pub course : Course
@@ -53,6 +54,7 @@ pub record HasRun (service : Service) (old new : Hall) (reason : SessionEnd)
   pub begins : Begins old.book.events new.book.events
   pub kept : IsKept new.book.events
   pub ledger : KeepsInstead old.book.keeper.records new.book.keeper.records new.book.events
+  pub begun : KeepsBeginning old.book.keeper new.book.keeper
   pub good : GoodPoolCalls new.book.events (all_calls course shifts)
   pub parted : Parted old.book.events new.book.events old.book.keeper.faults
       new.book.keeper.faults (all_calls course shifts)

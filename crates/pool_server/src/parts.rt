@@ -94,6 +94,7 @@ fn manner_of(role: Role, terms: &V1Terms, limits: Limits) -> Manner
     Manner {
         role,
         rolling: terms.rules().version_rolling,
+        declares: false,
         idle_turns: limits.idle_turns,
     }
 }

@@ -1,5 +1,5 @@
--- What `solo SETTINGS LEDGER` owes at each status (this project's own).
-use Rattle.std.specs.Prelude.{ℕ, ◌≡◌, ◌⊎◌, List, Some, Result, Ok, Err}
+-- What `solo SETTINGS LEDGER` and `declare SETTINGS LEDGER` owe at each status (this project's own).
+use Rattle.std.specs.Prelude.{ℕ, Bool, true, false, ◌≡◌, ◌⊎◌, List, Some, Result, Ok, Err}
 use Rattle.pool_io.specs.declared.host.HostError.{HostError}
 use Rattle.pool_io.specs.declared.opening.Opening.TheVariants as opening
 use Rattle.pool_io.specs.declared.turn.Turn.{Turn}
@@ -20,7 +20,7 @@ use Rattle.solo_session.specs.Solo.{BlamesNoInput, Outsides, ServesSession, solo
 
 -- A source and a sink were given beside the keeper, the session was served from the one to the
 -- other, and all three came back.
-pub record ServedOnHost (settings : Settings) (keeper : KeeperSeen) (old new : HostSeen)
+pub record ServedOnHost (declares : Bool) (settings : Settings) (keeper : KeeperSeen) (old new : HostSeen)
     (end : SoloEnd) : Type 0 where
   pub given : Outsides
   pub back : Outsides
@@ -30,10 +30,10 @@ pub record ServedOnHost (settings : Settings) (keeper : KeeperSeen) (old new : H
     keeper = keeper;
   }
   -- what the session did, by its end, and that good input was served to its end where nothing failed
-  pub served : ServesSession settings.rules settings.limits.idle_turns given back end
+  pub served : ServesSession settings.rules declares settings.limits.idle_turns given back end
   -- input that is to blame for nothing isn't blamed
   pub good : (turns : List Turn) → given.source.left ≡ Some turns
-      → IsGoodInput (solo_manner settings.rules settings.limits.idle_turns) turns → BlamesNoInput end
+      → IsGoodInput (solo_manner settings.rules declares settings.limits.idle_turns) turns → BlamesNoInput end
   pub sources : CameBack old.streams.sources new.streams.sources back.source
   pub sinks : CameBack old.streams.sinks new.streams.sinks back.sink
   pub input : new.streams.input ≡ nothing_left old.streams.input
@@ -57,30 +57,38 @@ pub record IsRefusedSession (keeper : KeeperSeen) (old new : HostSeen) (error : 
     pub streams : IsRefusedByHost old.streams new.streams error
 
 -- with a keeper that the host gave
-abbrev pub SessionRow : Settings → KeeperSeen → HostSeen → HostSeen → Status → Type 0
-SessionRow settings keeper old new status =
-    ((end : SoloEnd) × (status ≡ status_of_solo end) × ServedOnHost settings keeper old new end)
+abbrev pub SessionRow : Bool → Settings → KeeperSeen → HostSeen → HostSeen → Status → Type 0
+SessionRow declares settings keeper old new status =
+    ((end : SoloEnd) × (status ≡ status_of_solo end) × ServedOnHost declares settings keeper old new end)
     ⊎ ((error : HostError) × (status ≡ status_of_refusal error)
     × IsRefusedSession keeper old new error)
 
 -- with settings: a keeper is asked for, and then the streams
-abbrev pub KeeperRow : Settings → List ℕ → HostSeen → HostSeen → Status → Type 0
-KeeperRow settings ledger old new status =
+abbrev pub KeeperRow : Bool → Settings → List ℕ → HostSeen → HostSeen → Status → Type 0
+KeeperRow declares settings ledger old new status =
     ((keeper : KeeperSeen) × (given : HostSeen) × IsKeeperGiven ledger old given keeper
-    × SessionRow settings keeper given new status)
+    × SessionRow declares settings keeper given new status)
     ⊎ ((error : HostError) × (status ≡ status_of_refusal error)
     × IsRefusedKeeper ledger old new error)
 
 -- what follows on the settings file's reading
 abbrev pub GoesOnFrom :
-    List ℕ → Result Settings NoSettings → HostSeen → HostSeen → Status → Type 0
-GoesOnFrom ledger (Ok settings) old new status = KeeperRow settings ledger old new status
-GoesOnFrom ledger (Err no_settings) old new status =
+    Bool → List ℕ → Result Settings NoSettings → HostSeen → HostSeen → Status → Type 0
+GoesOnFrom declares ledger (Ok settings) old new status = KeeperRow declares settings ledger old new status
+GoesOnFrom declares ledger (Err no_settings) old new status =
     (new ≡ old) × (status ≡ status_of_no_settings no_settings)
 
--- the row of `solo SETTINGS LEDGER`: the settings file is read and handed back, and then the keeper
--- and the streams are asked for, up to what is refused
-abbrev pub SoloRow : List ℕ → List ℕ → HostSeen → HostSeen → Status → Type 0
-SoloRow settings_name ledger_name old new status =
+-- the row of a command that serves one session and takes declarations, or not: the settings file is
+-- read and handed back, and then the keeper and the streams are asked for, up to what is refused
+abbrev pub SessionCommandRow : Bool → List ℕ → List ℕ → HostSeen → HostSeen → Status → Type 0
+SessionCommandRow declares settings_name ledger_name old new status =
     (answer : Result Settings NoSettings) × (read : HostSeen)
-    × OpensSettings settings_name old read answer × GoesOnFrom ledger_name answer read new status
+    × OpensSettings settings_name old read answer
+    × GoesOnFrom declares ledger_name answer read new status
+
+-- `solo SETTINGS LEDGER` takes none, and `declare SETTINGS LEDGER` does
+abbrev pub SoloRow : List ℕ → List ℕ → HostSeen → HostSeen → Status → Type 0
+SoloRow = SessionCommandRow false
+
+abbrev pub DeclareRow : List ℕ → List ℕ → HostSeen → HostSeen → Status → Type 0
+DeclareRow = SessionCommandRow true

@@ -7,7 +7,7 @@ ghost use Rattle.pool_settings.specs.Reading.{AreInRange};
 ghost use Rattle.stream_commands.specs.Statuses.{status_code};
 ghost use Rattle.pool_io.specs.Hosts.{IsHandedBack};
 ghost use Rattle.share_ledger.specs.Books.{IsUnused};
-ghost use Rattle.solo_command.specs.Row.{KeeperRow, SessionRow, SoloRow};
+ghost use Rattle.solo_command.specs.Row.{DeclareRow, KeeperRow, SessionCommandRow, SessionRow, SoloRow};
 
 use crate::status::solo_status;
 use pool_io::Host;
@@ -34,8 +34,41 @@ pub fn serve_by_settings<H: Host>(
     ensures counts { CountsFailure (status_code result == 7) (H.seen host.old).streams.faults
         (H.seen host.new).streams.faults }
 {
+    keep_by_settings(alloc, host, settings_name, ledger_name, false)
+}
+
+/// The same, and takes declarations: so frames may be as long as the transactions that one lacks.
+pub fn declare_by_settings<H: Host>(
+    alloc: Global,
+    host: &mut H,
+    settings_name: &str,
+    ledger_name: &str,
+) -> Status
+    ensures row { DeclareRow settings_name.now ledger_name.now (H.seen host.old) (H.seen host.new)
+        result }
+    ensures back { IsHandedBack (H.seen host.old) (H.seen host.new) }
+    ensures counts { CountsFailure (status_code result == 7) (H.seen host.old).streams.faults
+        (H.seen host.new).streams.faults }
+{
+    keep_by_settings(alloc, host, settings_name, ledger_name, true)
+}
+
+/// Either of both.
+fn keep_by_settings<H: Host>(
+    alloc: Global,
+    host: &mut H,
+    settings_name: &str,
+    ledger_name: &str,
+    declares: bool,
+) -> Status
+    ensures row { SessionCommandRow declares settings_name.now ledger_name.now (H.seen host.old)
+        (H.seen host.new) result }
+    ensures back { IsHandedBack (H.seen host.old) (H.seen host.new) }
+    ensures counts { CountsFailure (status_code result == 7) (H.seen host.old).streams.faults
+        (H.seen host.new).streams.faults }
+{
     match open_settings(alloc, host, settings_name) {
-        Ok(settings) => keep_session(alloc, host, settings, ledger_name),
+        Ok(settings) => keep_session(alloc, host, settings, ledger_name, declares),
         Err(no_settings) => no_settings.status(),
     }
 }
@@ -46,26 +79,34 @@ fn keep_session<H: Host>(
     host: &mut H,
     settings: Settings,
     ledger_name: &str,
+    declares: bool,
 ) -> Status
     requires ranges { AreInRange settings }
-    ensures row { KeeperRow settings ledger_name.now (H.seen host.old) (H.seen host.new) result }
+    ensures row { KeeperRow declares settings ledger_name.now (H.seen host.old) (H.seen host.new) result }
     ensures back { IsHandedBack (H.seen host.old) (H.seen host.new) }
     ensures counts { CountsFailure (status_code result == 7) (H.seen host.old).streams.faults
         (H.seen host.new).streams.faults }
 {
     match host.open_keeper(ledger_name) {
-        Ok(keeper) => serve_session(alloc, host, settings, keeper),
+        Ok(keeper) => serve_session(alloc, host, settings, keeper, declares),
         Err(error) => refusal_status(error),
     }
 }
 
 /// The same by a keeper that the host gave.
-fn serve_session<H: Host>(alloc: Global, host: &mut H, settings: Settings, keeper: H::K) -> Status
+fn serve_session<H: Host>(
+    alloc: Global,
+    host: &mut H,
+    settings: Settings,
+    keeper: H::K,
+    declares: bool,
+) -> Status
     requires ranges { AreInRange settings }
     requires out { 0 < (H.seen host.old).openings.keepers.lent }
     requires unused { IsUnused (H.K.seen keeper).records }
     requires untold { (H.K.seen keeper).stored ≡ None }
-    ensures row { SessionRow settings (H.K.seen keeper) (H.seen host.old) (H.seen host.new) result }
+    ensures row { SessionRow declares settings (H.K.seen keeper) (H.seen host.old) (H.seen host.new)
+        result }
     ensures sources { (H.seen host.new).streams.sources.lent ≡ (H.seen host.old).streams.sources.lent }
     ensures sinks { (H.seen host.new).streams.sinks.lent ≡ (H.seen host.old).streams.sinks.lent }
     ensures keepers { (H.seen host.new).openings.keepers.lent
@@ -94,7 +135,7 @@ fn serve_session<H: Host>(alloc: Global, host: &mut H, settings: Settings, keepe
         sink,
         keeper,
         end,
-    } = serve_solo(alloc, rules, keeper, source, sink, limits);
+    } = serve_solo(alloc, rules, keeper, source, sink, declares, limits);
     host.done_source(source);
     host.done_sink(sink);
     host.done_keeper(keeper);

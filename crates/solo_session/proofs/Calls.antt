@@ -17,6 +17,7 @@ use Rattle.history_laws.specs.Answered.{AnswersKeepLegality, BriefsRoll}
 use Rattle.ledger_laws.specs.Requests.{IsWellFormedRequest}
 use Rattle.session_loop.specs.Answerers.{Acts, RollsAsBriefed, outcome_of}
 use Rattle.share_ledger.specs.Books.{BookSeen, IsReplied, KeepsInstead, KeepsLedger, is_keeper_fault}
+use Rattle.share_ledger.specs.Recovery.{KeepsBeginning}
 use Rattle.solo_session.specs.Calling.{CallsBook, GoesOn, StandInTurn, added_in}
 
 -- a fault that isn't a lack of memory was counted
@@ -25,7 +26,7 @@ fault_rose fault.KeeperFault before after counts wanted = omega (arith, counts)
 fault_rose fault.Memory before after counts wanted = cc
 
 module _ (worker : ℕ) (old new : BookSeen) (asked : Request) (front : ℕ) (at_end : front ≡ length old.events)
-    (kept : KeepsInstead old.keeper.records new.keeper.records new.events) where
+    (kept : KeepsInstead old.keeper.records new.keeper.records new.events) (begun : KeepsBeginning old.keeper new.keeper) where
   -- the call that a request made
   pub called : (outcome : Result Reply BookError) → IfOk outcome (IsReplied old.events new.events worker asked) → OnErr outcome (new.events ≡ old.events)
       → CountsFailure (is_keeper_fault outcome) old.keeper.faults new.keeper.faults
@@ -36,7 +37,7 @@ module _ (worker : ℕ) (old new : BookSeen) (asked : Request) (front : ℕ) (at
     refl,
     refl,
     refl,
-    record { at_end = at_end; grows = replied.1; ended = replied.2; kept = kept; count_before = refl; count_after = refl; counts = counts },
+    record { at_end = at_end; grows = replied.1; ended = replied.2; kept = kept; begun = begun; count_before = refl; count_after = refl; counts = counts },
   )
   called (Err cause) replied refused counts = (
     record { worker = worker; number = 0; front = front; faults_before = old.keeper.faults; faults_after = new.keeper.faults; asked = asked; outcome = Faulted cause; added = [] },
@@ -49,6 +50,7 @@ module _ (worker : ℕ) (old new : BookSeen) (asked : Request) (front : ℕ) (at
       grows = refused ∙ sym (append-nil old.events);
       ended = (refl, fault_rose cause old.keeper.faults new.keeper.faults counts);
       kept = kept;
+      begun = begun;
       count_before = refl;
       count_after = refl;
       counts = counts;
@@ -86,7 +88,7 @@ pub goes_on : AnswersKeepLegality → (old new : BookSeen) (calls : List PoolCal
     → Acts CallsBook old calls new → GoesOn old calls new
 goes_on keep old new [] acts =
     rw acts
-    (record { grows = sym (append-nil old.events); turns = tt; kept = λ keeps. pieces_none old.keeper.records old.events keeps; legal = λ legal. legal })
+    (record { grows = sym (append-nil old.events); turns = tt; kept = λ keeps. pieces_none old.keeper.records old.events keeps; begun = refl; legal = λ legal. legal })
 goes_on keep old new (call ∷ calls) acts =
     let middle = acts.0 in
     let first = acts.1 in
@@ -97,5 +99,6 @@ goes_on keep old new (call ∷ calls) acts =
       kept = λ keeps.
           pieces_on old.keeper.records middle.keeper.records new.keeper.records middle.events new.events first.kept
           (rest.kept (pieces_keep old.keeper.records middle.keeper.records middle.events first.kept));
+      begun = rest.begun ∙ first.begun;
       legal = λ legal. rest.legal (rw first.grows (legal_on keep old.events call call.outcome first.ended legal));
     }

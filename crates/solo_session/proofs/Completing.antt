@@ -1,5 +1,5 @@
 -- A session over a book of its own ends well where no count rose and no limit was reached.
-use Rattle.std.proofs.Common.{◌≡◌, ℕ, ◌<◌, ◌||◌, true, false, List, [], ◌∷◌, ◌++◌, Some, refl, ap, subst, ◌∙◌, arith}
+use Rattle.std.proofs.Common.{◌≡◌, ℕ, ◌<◌, ◌||◌, Bool, true, false, List, [], ◌∷◌, ◌++◌, Some, refl, ap, subst, ◌∙◌, arith}
 use Rattle.std.specs.List.{AllByRecursion}
 use Rattle.pool_base.specs.Counts.{Rose}
 use Rattle.pool_base.specs.Calls.{IsOutcome, Outcome, Replied, Faulted}
@@ -77,10 +77,10 @@ over_well {manner = manner} {from = from} {old = old} {new = new} {reason = reas
 fresh_has_room : (rules : Rules) → enters (past_of (event.Start rules ∷ [])) < most_enters
 fresh_has_room rules = omega arith
 
-pub serves_session : {rules : Rules} {idle_turns : ℕ} {old new : Outsides} {reason : SessionEnd} (history : List Event) → 0 < idle_turns
-    → IsSoloSession rules idle_turns old new reason history
-    → ((turns : List Turn) → old.source.left ≡ Some turns → IsGoodInput (solo_manner rules idle_turns) turns → IsGoodEnd reason)
-    → ServesSession rules idle_turns old new (solo.Over reason)
+pub serves_session : {rules : Rules} {declares : Bool} {idle_turns : ℕ} {old new : Outsides} {reason : SessionEnd} (history : List Event) → 0 < idle_turns
+    → IsSoloSession rules declares idle_turns old new reason history
+    → ((turns : List Turn) → old.source.left ≡ Some turns → IsGoodInput (solo_manner rules declares idle_turns) turns → IsGoodEnd reason)
+    → ServesSession rules declares idle_turns old new (solo.Over reason)
 serves_session {rules = rules} history waits session good = record { did = (history, session); complete = over_well waits session good (fresh_has_room rules) }
 
 pub serves_book : {manner : Manner} {from : List Event} {old new : Outsides} {reason : SessionEnd} {history : List Event} → 0 < manner.idle_turns
@@ -90,9 +90,9 @@ pub serves_book : {manner : Manner} {from : List Event} {old new : Outsides} {re
 serves_book waits session good = record { did = session; complete = over_well waits session good }
 
 -- a session over a book of these rules, of which nobody has asked anything yet
-pub on_fresh : {rules : Rules} {idle_turns : ℕ} {from : List Event} {old new : Outsides} {reason : SessionEnd} {history : List Event} → from ≡ event.Start rules ∷ []
-    → ServesBook (solo_manner rules idle_turns) from old new reason history
-    → IsSoloSession rules idle_turns old new reason history × OnGoodInput (solo_manner rules idle_turns) old new (IsWellEnded reason)
-on_fresh {rules = rules} {idle_turns = idle_turns} {old = old} {new = new} {reason = reason} {history = history} is serves =
-    let fresh = subst (λ (h : List Event). ServesBook (solo_manner rules idle_turns) h old new reason history) is serves in
+pub on_fresh : {rules : Rules} {declares : Bool} {idle_turns : ℕ} {from : List Event} {old new : Outsides} {reason : SessionEnd} {history : List Event} → from ≡ event.Start rules ∷ []
+    → ServesBook (solo_manner rules declares idle_turns) from old new reason history
+    → IsSoloSession rules declares idle_turns old new reason history × OnGoodInput (solo_manner rules declares idle_turns) old new (IsWellEnded reason)
+on_fresh {rules = rules} {declares = declares} {idle_turns = idle_turns} {old = old} {new = new} {reason = reason} {history = history} is serves =
+    let fresh = subst (λ (h : List Event). ServesBook (solo_manner rules declares idle_turns) h old new reason history) is serves in
     (fresh.did, fresh.complete (fresh_has_room rules))

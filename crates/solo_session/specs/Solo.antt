@@ -15,6 +15,7 @@ use Rattle.pool_history.specs.Refusing.{most_enters}
 use Rattle.pool_history.specs.Sessions.{enters, past_of}
 use Rattle.ledger_laws.specs.Keeping.{IsKept}
 use Rattle.share_ledger.specs.Books.{KeepsInstead}
+use Rattle.share_ledger.specs.Recovery.{KeepsBeginning}
 use Rattle.session_steps.specs.declared.ends.SessionEnd.{SessionEnd}
 use Rattle.session_steps.specs.declared.manner.Manner.{Manner}
 use Rattle.session_steps.specs.States.{State, Over, new_state}
@@ -33,17 +34,18 @@ pub record Outsides : Type 0 where
   pub sink : SinkSeen
   pub keeper : KeeperSeen
 
--- a session of both roles, whose miner may or may not roll the version
-abbrev pub manner_of : Bool → ℕ → Manner
-manner_of rolling idle_turns = record {
+-- a session of both roles, whose miner may or may not roll the version and declare jobs
+abbrev pub manner_of : Bool → Bool → ℕ → Manner
+manner_of rolling declares idle_turns = record {
   role = role.Solo;
   rolling = rolling;
+  declares = declares;
   idle_turns = idle_turns;
 }
 
 -- the same by these rules
-abbrev pub solo_manner : Rules → ℕ → Manner
-solo_manner rules idle_turns = manner_of rules.version_rolling idle_turns
+abbrev pub solo_manner : Rules → Bool → ℕ → Manner
+solo_manner rules declares idle_turns = manner_of rules.version_rolling declares idle_turns
 
 -- the number of the one worker
 abbrev pub sole_worker : ℕ
@@ -61,7 +63,7 @@ CountsCalls before (call ∷ calls) now =
 -- Steps that begin a session of both roles, come to this end and leave this history. They took what
 -- the source brought and put what the sink got; their calls stand each at the whole history before
 -- it, are answered by that history, and are all that followed on the one that was there. What is left
--- is legal and has records, and the keeper's are its ledger.
+-- is legal and has records, and the keeper's are its ledger; the keeper's first moment is the same.
 pub record IsSessionOn (manner : Manner) (from : List Event) (old new : Outsides)
     (reason : SessionEnd) (history : List Event) : Type 0 where
   pub steps : List SessionStep
@@ -75,14 +77,15 @@ pub record IsSessionOn (manner : Manner) (from : List Event) (old new : Outsides
   pub turns : StandInTurn from (calls_in steps)
   pub kept : IsKept history
   pub ledger : KeepsInstead old.keeper.records new.keeper.records history
+  pub begun : KeepsBeginning old.keeper new.keeper
   pub reads : CountsFailure (is_read_end reason) old.source.faults new.source.faults
   pub writes : CountsFailure (is_write_end reason) old.sink.faults new.sink.faults
   pub counts : CountsCalls old.keeper.faults (calls_in steps) new.keeper.faults
 
 -- the same over a history of which nobody has asked anything yet
-abbrev pub IsSoloSession : Rules → ℕ → Outsides → Outsides → SessionEnd → List Event → Type 0
-IsSoloSession rules idle_turns old new reason history =
-    IsSessionOn (solo_manner rules idle_turns) (event.Start rules ∷ []) old new reason history
+abbrev pub IsSoloSession : Rules → Bool → ℕ → Outsides → Outsides → SessionEnd → List Event → Type 0
+IsSoloSession rules declares idle_turns old new reason history =
+    IsSessionOn (solo_manner rules declares idle_turns) (event.Start rules ∷ []) old new reason history
 
 -- the Start wasn't kept: nothing was taken, put or kept
 pub record IsUnbegun (old new : Outsides) (cause : BookError) : Type 0 where
@@ -92,10 +95,10 @@ pub record IsUnbegun (old new : Outsides) (cause : BookError) : Type 0 where
   pub counts : CountsFailure (blames_keeper cause) old.keeper.faults new.keeper.faults
 
 -- what was done, by how it ended
-abbrev pub IsServed : Rules → ℕ → Outsides → Outsides → SoloEnd → Type 0
-IsServed rules idle_turns old new (solo.Unbegun cause) = IsUnbegun old new cause
-IsServed rules idle_turns old new (solo.Over reason) =
-    (history : List Event) × IsSoloSession rules idle_turns old new reason history
+abbrev pub IsServed : Rules → Bool → ℕ → Outsides → Outsides → SoloEnd → Type 0
+IsServed rules declares idle_turns old new (solo.Unbegun cause) = IsUnbegun old new cause
+IsServed rules declares idle_turns old new (solo.Over reason) =
+    (history : List Event) × IsSoloSession rules declares idle_turns old new reason history
 
 -- all was served, or memory ran out
 abbrev pub IsServedWell : SoloEnd → Type 0
@@ -119,15 +122,15 @@ OnGoodInput manner old new P =
 
 -- good input is served to its end, or memory ran out, where nothing else failed and no limit was
 -- reached
-abbrev pub ServesGoodInput : Rules → ℕ → Outsides → Outsides → SoloEnd → Type 0
-ServesGoodInput rules idle_turns old new end =
-    OnGoodInput (solo_manner rules idle_turns) old new (IsServedWell end)
+abbrev pub ServesGoodInput : Rules → Bool → ℕ → Outsides → Outsides → SoloEnd → Type 0
+ServesGoodInput rules declares idle_turns old new end =
+    OnGoodInput (solo_manner rules declares idle_turns) old new (IsServedWell end)
 
 -- a session over a book of its own, by how it ended; good input is served well
-pub record ServesSession (rules : Rules) (idle_turns : ℕ) (old new : Outsides) (end : SoloEnd) :
-    Type 0 where
-  pub did : IsServed rules idle_turns old new end
-  pub complete : ServesGoodInput rules idle_turns old new end
+pub record ServesSession (rules : Rules) (declares : Bool) (idle_turns : ℕ) (old new : Outsides)
+    (end : SoloEnd) : Type 0 where
+  pub did : IsServed rules declares idle_turns old new end
+  pub complete : ServesGoodInput rules declares idle_turns old new end
 
 -- the input isn't to blame
 abbrev pub BlamesNoInput : SoloEnd → Type 0

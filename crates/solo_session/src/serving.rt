@@ -36,20 +36,21 @@ pub struct Solo<S: Source, T: Sink, K: Keeper> {
 }
 
 /// Serves one session of both roles, by a history that begins with these rules and is kept by the
-/// keeper.
+/// keeper. Declarations are taken or not.
 pub fn serve_solo<S: Source, T: Sink, K: Keeper>(
     alloc: Global,
     rules: Rules,
     keeper: K,
     source: S,
     sink: T,
+    declares: bool,
     limits: Limits,
 ) -> Solo<S, T, K>
     requires rules { IsTrue (are_in_range rules) }
     requires unused { IsUnused (K.seen keeper).records }
     requires recovers { IsRecoverable (K.seen keeper) (K.may_find keeper) [] }
     requires waits { 0 < limits.idle_turns }
-    ensures served { ServesSession rules limits.idle_turns (record {
+    ensures served { ServesSession rules declares limits.idle_turns (record {
       source = S.seen source;
       sink = T.seen sink;
       keeper = K.seen keeper;
@@ -61,7 +62,7 @@ pub fn serve_solo<S: Source, T: Sink, K: Keeper>(
 
     // Input that is to blame for nothing isn't blamed.
     ensures good { (told : List Turn) → (S.seen source).left ≡ Some told
-        → IsGoodInput (solo_manner rules limits.idle_turns) told → BlamesNoInput result.end }
+        → IsGoodInput (solo_manner rules declares limits.idle_turns) told → BlamesNoInput result.end }
 {
     let rolling = rules.version_rolling;
     let book = match Book::new(alloc, rules, keeper) {
@@ -80,7 +81,7 @@ pub fn serve_solo<S: Source, T: Sink, K: Keeper>(
         sink,
         book,
         end,
-    } = serve_book(alloc, book, source, sink, rolling, limits);
+    } = serve_book(alloc, book, source, sink, rolling, declares, limits);
     let (keeper, _history) = book.into_parts();
     Solo {
         source,
@@ -99,17 +100,19 @@ pub struct ServedBook<S: Source, T: Sink, K: Keeper> {
 }
 
 /// Serves one session of both roles over a book, and hands the book back with the session's history. A
-/// miner's bits of the version count where `rolling` says so.
+/// miner's bits of the version count where `rolling` says so, and its declarations are taken where
+/// `declares` does.
 pub fn serve_book<S: Source, T: Sink, K: Keeper>(
     alloc: Global,
     book: Book<K>,
     source: S,
     sink: T,
     rolling: bool,
+    declares: bool,
     limits: Limits,
 ) -> ServedBook<S, T, K>
     requires waits { 0 < limits.idle_turns }
-    ensures served { ServesBook (manner_of rolling limits.idle_turns) book.events (record {
+    ensures served { ServesBook (manner_of rolling declares limits.idle_turns) book.events (record {
       source = S.seen source;
       sink = T.seen sink;
       keeper = book.keeper;
@@ -121,7 +124,7 @@ pub fn serve_book<S: Source, T: Sink, K: Keeper>(
 
     // Input that is to blame for nothing isn't blamed.
     ensures good { (told : List Turn) → (S.seen source).left ≡ Some told
-        → IsGoodInput (manner_of rolling limits.idle_turns) told → IsGoodEnd result.end }
+        → IsGoodInput (manner_of rolling declares limits.idle_turns) told → IsGoodEnd result.end }
 {
     book.history_is_kept();
     let mut streams = Streams { source, sink };
@@ -130,6 +133,7 @@ pub fn serve_book<S: Source, T: Sink, K: Keeper>(
     let manner = Manner {
         role: Role::Solo,
         rolling,
+        declares,
         idle_turns: limits.idle_turns,
     };
     let end = converse(alloc, &mut streams, &mut sole, manner);

@@ -24,6 +24,7 @@ returns-clause-served g c =
       turns = goes.turns;
       kept = c.history_is_kept-2.ensures.history;
       ledger = goes.kept c.history_is_kept.ensures.ledger;
+      begun = goes.begun;
       reads = c.converse-end.ensures.reads;
       writes = c.converse-end.ensures.writes;
       counts = counts_calls begun sole.book calls acts;

@@ -1,4 +1,4 @@
-use Rattle.std.proofs.Common.{refl, subst}
+use Rattle.std.proofs.Common.{◌∙◌, refl, subst}
 use Rattle.session_steps.specs.Steps.{calls_in}
 use Rattle.solo_session.specs.Solo.{CountsCalls}
 use Rattle.solo_session.proofs.Chained.{ledger_on}
@@ -41,6 +41,7 @@ returns-clause-served g c =
       ledger = rw c.into_parts-keeper.ensures.keeper
           (ledger_on (g.K.Keeper.seen c.args.keeper).records c.in-Ok.book.keeper.records c.serve_book-source.result.book.keeper.records c.in-Ok.book.events c.serve_book-source.result.book.events
           c.in-Ok.ensures.kept (λ keeps. session.ledger));
+      begun = rw c.into_parts-keeper.ensures.keeper (session.begun ∙ c.in-Ok.ensures.begun);
       counts = rw c.into_parts-keeper.ensures.keeper
           (subst (λ n. CountsCalls n (calls_in session.steps) c.serve_book-source.result.book.keeper.faults) c.in-Ok.ensures.counts session.counts);
     }) c.serve_book-source.ensures.good
