@@ -1,0 +1,4 @@
+pub mod Moves
+pub mod Answers
+pub mod Paths
+pub mod Laws
