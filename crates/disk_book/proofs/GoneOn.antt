@@ -1,11 +1,9 @@
 -- What is found after a crash is a history that goes on.
-use Rattle.std.proofs.Common.{◌≡◌, ◌⊎◌, inl, inr, ℕ, ◌+◌, ◌≤◌, Some, Option, List, [], ◌∷◌, ◌++◌, length, take, drop, refl, ap, subst, sym, ◌∙◌, arith, append_assoc, append-nil, length-append}
+use Rattle.std.proofs.Common.{◌≡◌, ◌⊎◌, inl, inr, ℕ, Some, Option, List, [], ◌∷◌, ◌++◌, take, drop, refl, ap, subst, sym, ◌∙◌, arith, append_assoc, append-nil, length-append}
 use Rattle.std.proofs.lemmas.List.{length-take-le, take-append-drop}
 use Rattle.std.specs.List.{AllByRecursion, flat_map}
-use Rattle.disk_io.specs.Calls.{DiskSeen}
-use Rattle.disk_io.specs.Disks.{opened_disk}
-use Rattle.disk_io.specs.Moments.{MayLeave, Moment}
-use Rattle.ledger_disk.specs.Crashes.{FindsNow, MayFind, stored_entries}
+use Rattle.disk_io.specs.Moments.{Moment}
+use Rattle.ledger_disk.specs.Crashes.{FindsNow, MayFind}
 use Rattle.ledger_disk.specs.Entries.{Opens}
 use Rattle.pool_base.specs.Lists.{Begins}
 use Rattle.pool_history.specs.declared.events.Event.{Event}
@@ -15,10 +13,9 @@ use Rattle.pool_history.specs.declared.settings.Rules.{Rules}
 use Rattle.ledger_laws.specs.OneLedger.{LedgersAreOfOneHistory}
 use Rattle.ledger_laws.specs.WellFormed.{CanBeKept}
 use Rattle.ledger_resume.specs.Histories.{IsHistoryOf}
-use Rattle.share_ledger.specs.Recovery.{LeavesFront, Recovers, pieces_of}
-use Rattle.share_ledger.specs.Books.{BookSeen}
-use Rattle.disk_book.specs.Books.{GoesOnFromRecords, IsBegun, IsReadyBook, LeavesFronts}
-use Rattle.disk_book.specs.Laws.{AreGoneOnWith, CrashesAreGoneOnWith, LeftBy, NextRunsGoOn}
+use Rattle.share_ledger.specs.Recovery.{LeavesFront, pieces_of}
+use Rattle.disk_book.specs.Books.{GoesOnFromRecords, IsBegun, LeavesFronts}
+use Rattle.disk_book.specs.Laws.{AreGoneOnWith, CrashesAreGoneOnWith, NextRunsGoOn}
 use Rattle.disk_book.specs.declared.leaving.TheConstants.{WORKERS}
 use Rattle.disk_book.proofs.Leaves.{leave_begins}
 use Rattle.disk_book.proofs.StartOf.{some_record}
@@ -76,38 +73,40 @@ module _ (prefixes : PrefixesAreLegal) (start : LegalHistoriesStart) where
       of_front history count kept found (recovers.fronts count found may)
 
 -- what a crash at a moment leaves is found at the end of the log
-may_at : (later until : List Moment) (count : ℕ) (found : Option (List (List ℕ))) → FindsNow until count found → MayFind (later ++ until) count found
+pub may_at : (later until : List Moment) (count : ℕ) (found : Option (List (List ℕ))) → FindsNow until count found → MayFind (later ++ until) count found
 may_at [] [] count found now = now
 may_at [] (moment ∷ older) count found now = inl now
 may_at (moment ∷ later) until count found now = inr (may_at later until count found now)
 
-begins_on : (a b c : List Event) → Begins a b → Begins b c → Begins a c
+pub begins_on : (a b c : List Event) → Begins a b → Begins b c → Begins a c
 begins_on a b c first then = (first.0 ++ then.0, sym (append_assoc a first.0 then.0) ∙ ap (λ (l : List Event). l ++ then.0) first.1 ∙ then.1)
 
-none_begins : (a b past : List Event) → Begins a past → past ≡ [] → Begins a b
+pub none_begins : (a b past : List Event) → Begins a past → past ≡ [] → Begins a b
 none_begins [] b past begins none = (b, refl)
 none_begins (e ∷ a) b past begins none = absurd (empty (begins.1 ∙ none)) where
   empty : ◌≡◌ {A = List Event} (e ∷ (a ++ begins.0)) [] → ⊥
   empty same = cc
 
-some_is : (a b : List (List ℕ)) → Some a ≡ Some b → a ≡ b
+pub some_is : (a b : List (List ℕ)) → Some a ≡ Some b → a ≡ b
 some_is a b same = cc
 
 module _ (gone : CrashesAreGoneOnWith) (one : LedgersAreOfOneHistory) where
   same_history : (records : List (List ℕ)) (past other : List Event) → IsHistoryOf records past → IsHistoryOf records other → past ≡ other
   same_history records past other is also = one past other is.kept.has_ledger also.kept.has_ledger (ap (λ (rs : List (List ℕ)). flat_map (λ (piece : List ℕ). piece) rs) (sym is.pieces ∙ also.pieces))
 
-  made_on : (rules : Rules) (records : List (List ℕ)) (history events : List Event) (count : ℕ) (found : AreGoneOnWith history count records)
-      → IsBegun rules records events ⊎ GoesOnFromRecords rules records events → ((records ≡ []) × (found.past ≡ [])) ⊎ IsHistoryOf records found.past
-      → Begins (take count history) events
-  made_on rules records history events count found (inl begun) (inl none) = none_begins (take count history) events found.past found.answered none.1
-  made_on rules records history events count found (inl begun) (inr is) =
-      absurd (some_record found.past (subst (λ (rs : List (List ℕ)). IsHistoryOf rs found.past) begun.unused is))
-  made_on rules records history events count found (inr on) (inl none) =
-      absurd (some_record on.past (subst (λ (rs : List (List ℕ)). IsHistoryOf rs on.past) none.0 on.of_pool.history))
-  made_on rules records history events count found (inr on) (inr is) =
-      let same = same_history records found.past on.past is on.of_pool.history in
-      begins_on (take count history) on.past events (subst (λ (h : List Event). Begins (take count history) h) same found.answered) (leave_begins WORKERS on.past events on.left)
+  pub goes_on_from : (records : List (List ℕ)) (front past other : List Event) → Begins front past
+      → ((records ≡ []) × (past ≡ [])) ⊎ IsHistoryOf records past → IsHistoryOf records other → Begins front other
+  goes_on_from records front past other begins (inl none) is = none_begins front other past begins none.1
+  goes_on_from records front past other begins (inr of_these) is =
+      subst (λ (h : List Event). Begins front h) (same_history records past other of_these is) begins
+
+  pub made_on : (rules : Rules) (records : List (List ℕ)) (front past events : List Event) → Begins front past
+      → ((records ≡ []) × (past ≡ [])) ⊎ IsHistoryOf records past → IsBegun rules records events ⊎ GoesOnFromRecords rules records events → Begins front events
+  made_on rules records front past events begins (inl none) (inl begun) = none_begins front events past begins none.1
+  made_on rules records front past events begins (inr is) (inl begun) =
+      absurd (some_record past (subst (λ (rs : List (List ℕ)). IsHistoryOf rs past) begun.unused is))
+  made_on rules records front past events begins found (inr on) =
+      begins_on front on.past events (goes_on_from records front past on.past begins found on.of_pool.history) (leave_begins WORKERS on.past events on.left)
 
   pub next_run : NextRunsGoOn
   next_run disk log history count left told leaves kept crash rules book ready =
@@ -118,4 +117,4 @@ module _ (gone : CrashesAreGoneOnWith) (one : LedgersAreOfOneHistory) where
       (may_at crash.later crash.until count (Some records) (left, crash.leaves, opens, crash.stored)) in
       let found = gone disk log history count (Some records) told leaves kept may in
       let of_these = subst (λ (rs : List (List ℕ)). AreGoneOnWith history count rs) (sym (some_is records found.0 found.1)) found.2 in
-      made_on rules records history book.events count of_these ready.3.made of_these.found
+      made_on rules records (take count history) of_these.past book.events of_these.answered of_these.found ready.3.made

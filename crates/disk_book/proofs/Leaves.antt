@@ -1,5 +1,5 @@
 -- Workers that leave, one after the other.
-use Rattle.std.proofs.Common.{◌≡◌, inl, inr, ℕ, ◌+◌, zero, suc, Bool, List, [], ◌++◌, Option, None, Some, Result, Ok, Err, IfErr, refl, ap, subst, sym, ◌∙◌, add-one, append_assoc, append-nil}
+use Rattle.std.proofs.Common.{◌≡◌, inr, ℕ, ◌+◌, zero, suc, List, [], ◌++◌, Option, None, Some, Result, Ok, Err, IfErr, refl, ap, subst, sym, ◌∙◌, add-one, append_assoc, append-nil}
 use Rattle.pool_base.specs.Lists.{Begins}
 use Rattle.pool_io.specs.Outside.{CountsFailure}
 use Rattle.pool_io.specs.Seen.{KeeperSeen}
@@ -8,6 +8,7 @@ use Rattle.ledger_disk.specs.Crashes.{entries_told}
 use Rattle.pool_history.specs.declared.events.Event.{Event}
 use Rattle.pool_history.specs.declared.settings.Rules.{Rules}
 use Rattle.share_ledger.specs.Books.{BookSeen, KeepsInstead, KeepsLedger}
+use Rattle.share_ledger.specs.Recovery.{KeepsBeginning}
 use Rattle.disk_book.specs.declared.cause.NoBook.{NoBook}
 use Rattle.disk_book.specs.Books.{AreOfPool, IsNotMadeOf, HasUnendedSession, keeper_on}
 use Rattle.disk_book.specs.Causes.{is_disk_fault}
@@ -53,6 +54,7 @@ not_left seen rules ledger records book (Err back) of_pool same stands = inr (in
   left = stands.left;
   is_kept = stands.is_kept;
   kept = subst (λ (k : KeeperSeen). KeepsInstead k.records (entries_told (seen back.0)) stands.events) same stands.kept;
+  begun = subst (λ (k : KeeperSeen). KeepsBeginning k (keeper_on (seen back.0))) same stands.begun;
   leaves = stands.leaves;
   own = stands.own;
   counts = subst (λ (k : KeeperSeen). CountsFailure (is_disk_fault back.1) k.faults (seen back.0).faults) same stands.counts;

@@ -1,4 +1,5 @@
 pub mod GoneOn
+pub mod Lasting
 pub mod Leaves
 pub mod Opened
 pub mod StartOf

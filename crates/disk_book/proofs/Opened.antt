@@ -1,18 +1,16 @@
 -- What is known of a ledger on a disk that was just opened.
-use Rattle.std.proofs.Common.{◌≡◌, ◌⊎◌, inl, inr, ⊎_elim, ℕ, None, Some, Option, List, [], ◌∷◌, refl, ap, subst, sym, ◌∙◌}
-use Rattle.std.specs.Prelude.{IfSome}
+use Rattle.std.proofs.Common.{◌≡◌, ⊎_elim, ℕ, None, Some, Option, List, [], refl, ap, subst, sym, ◌∙◌}
 use Rattle.std.specs.Option.{option_map}
 use Rattle.pool_io.specs.Crashes.{IsSettledWith}
 use Rattle.disk_io.specs.Calls.{DiskSeen, fresh_disk}
-use Rattle.disk_io.specs.Disks.{opened_disk}
-use Rattle.disk_io.specs.Moments.{Moment, MayLeave, last_content, with_call}
+use Rattle.disk_io.specs.Moments.{Moment, with_call}
 use Rattle.disk_io.specs.declared.disk.Doing.TheVariants.{Synced}
 use Rattle.ledger_disk.specs.Crashes.{IsSettled, MayBeFound, counts_told, entries_told}
 use Rattle.ledger_resume.specs.Refusals.{TellsJust}
 use Rattle.disk_book.specs.Books.{IsJustOpened}
 
 -- nothing is pending on it
-settled_fresh : (content : List ℕ) → IsSettled (with_call Synced content [])
+pub settled_fresh : (content : List ℕ) → IsSettled (with_call Synced content [])
 settled_fresh content left may = ⊎_elim (λ is. is) (λ torn. absurd torn.2) may
 
 some_is : {A : Type 0} (a b : A) → Some a ≡ Some b → a ≡ b

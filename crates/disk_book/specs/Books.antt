@@ -8,7 +8,7 @@ use Rattle.pool_io.specs.Seen.{KeeperSeen}
 use Rattle.disk_io.specs.Calls.{DiskSeen, WhereTold}
 use Rattle.disk_io.specs.Disks.{opened_disk}
 use Rattle.disk_io.specs.Moments.{last_content}
-use Rattle.ledger_disk.specs.Crashes.{FindsJust, MayBeFound, MayFind, counts_told, entries_told}
+use Rattle.ledger_disk.specs.Crashes.{FindsJust, MayBeFound, MayFind, Throughout, counts_told, entries_told, stored_entries}
 use Rattle.ledger_disk.specs.Entries.{IsForeign, Opens, entries_on}
 use Rattle.pool_history.specs.declared.events.Event.{Event}
 use Rattle.pool_history.specs.declared.events.Event.TheVariants as event
@@ -16,7 +16,7 @@ use Rattle.pool_history.specs.declared.settings.Rules.{Rules}
 use Rattle.ledger_laws.specs.Keeping.{IsKept}
 use Rattle.ledger_resume.specs.Histories.{IsHistoryOf}
 use Rattle.share_ledger.specs.Books.{BookSeen, KeepsInstead}
-use Rattle.share_ledger.specs.Recovery.{IsRecoverable}
+use Rattle.share_ledger.specs.Recovery.{IsRecoverable, KeepsBeginning}
 use Rattle.disk_book.specs.declared.cause.NoBook.{NoBook}
 use Rattle.disk_book.specs.declared.leaving.TheConstants.{WORKERS}
 use Rattle.disk_book.specs.Causes.{is_disk_fault, is_wrong}
@@ -45,12 +45,19 @@ abbrev pub LeavesJustFound : (old new : DiskSeen) → Type 0
 LeavesJustFound old new =
     WhereTold old.log (λ log. FindsJust (entries_on (last_content log)) (MayFind log) (MayBeFound new))
 
+-- and at each moment since then just these were there for good
+abbrev pub StoresJustFound : (old new : DiskSeen) → Type 0
+StoresJustFound old new =
+    WhereTold old.log
+    (λ log. Throughout (λ now. stored_entries now ≡ entries_on (last_content log)) log new.log)
+
 -- the ledger on a disk was opened: it holds these records, and a crash at any moment leaves just them
 pub record IsOpenedLedger (disk ledger : DiskSeen) (records : List (List ℕ)) : Type 0 where
   pub holds : WhereTold disk.log (λ log. Opens (last_content log) (Some records))
   pub told : entries_told ledger ≡ option_map (λ log. records) disk.log
   pub settled : IsSettledWith (counts_told ledger) (MayBeFound ledger) records
   pub crash : LeavesJustFound disk ledger
+  pub during : StoresJustFound disk ledger
   pub unfailed : ledger.faults ≡ disk.faults
 
 -- It wasn't: the disk is foreign, it failed, or memory ran out. A foreign one is as it was.
@@ -58,6 +65,7 @@ pub record IsUnopened (disk back : DiskSeen) (cause : NoBook) : Type 0 where
   pub foreign : is_wrong cause ≡ true → WhereTold disk.log (λ log. IsForeign (last_content log))
   pub untouched : WhereTold disk.log (λ log. IsForeign (last_content log) → back.log ≡ Some log)
   pub crash : LeavesJustFound disk back
+  pub during : StoresJustFound disk back
   pub counts : CountsFailure (is_disk_fault cause) disk.faults back.faults
 
 -- the records are those of a history that begins with the Start of these rules
@@ -80,12 +88,14 @@ pub record GoesOnFromRecords (rules : Rules) (records : List (List ℕ)) (events
   pub of_pool : AreOfPool rules records past
   pub left : LeaveUpTo WORKERS past events
 
--- a book over an opened ledger with these records, all of whose appends were answered
+-- a book over an opened ledger with these records, all of whose appends were answered; its keeper's first
+-- moment is the ledger's
 pub record IsMadeOf (rules : Rules) (ledger : DiskSeen) (records : List (List ℕ)) (book : BookSeen) :
     Type 0 where
   pub made : IsBegun rules records book.events ⊎ GoesOnFromRecords rules records book.events
   pub is_kept : IsKept book.events
   pub kept : KeepsInstead (entries_told ledger) book.keeper.records book.events
+  pub begun : KeepsBeginning (keeper_on ledger) book.keeper
   pub unfailed : book.keeper.faults ≡ ledger.faults
 
 -- a book of these rules is ready on a disk that was opened
@@ -123,6 +133,7 @@ pub record HasNotLeft (rules : Rules) (records : List (List ℕ)) (ledger disk :
   pub left : LeaveUpTo worker past events
   pub is_kept : IsKept events
   pub kept : KeepsInstead (entries_told ledger) (entries_told disk) events
+  pub begun : KeepsBeginning (keeper_on ledger) (keeper_on disk)
   pub leaves : LeavesFronts disk events
   pub own : is_wrong cause ≡ false
   pub counts : CountsFailure (is_disk_fault cause) ledger.faults disk.faults
@@ -132,6 +143,7 @@ pub record HasEndedSessions (old new : BookSeen) : Type 0 where
   pub left : LeaveUpTo WORKERS old.events new.events
   pub is_kept : IsKept new.events
   pub kept : KeepsInstead old.keeper.records new.keeper.records new.events
+  pub begun : KeepsBeginning old.keeper new.keeper
   pub unfailed : new.keeper.faults ≡ old.keeper.faults
 
 -- or one wasn't
@@ -142,6 +154,7 @@ pub record HasUnendedSession (old : BookSeen) (disk : DiskSeen) (cause : NoBook)
   pub left : LeaveUpTo worker old.events events
   pub is_kept : IsKept events
   pub kept : KeepsInstead old.keeper.records (entries_told disk) events
+  pub begun : KeepsBeginning old.keeper (keeper_on disk)
   pub leaves : LeavesFronts disk events
   pub own : is_wrong cause ≡ false
   pub counts : CountsFailure (is_disk_fault cause) old.keeper.faults disk.faults

@@ -3,6 +3,7 @@
 ghost use Rattle.std.specs.Prelude.{◌≡◌, OnErr, OnOk};
 ghost use Rattle.pool_io.specs.Outside.{CountsFailure};
 ghost use Rattle.share_ledger.specs.Books.{KeepsInstead, is_keeper_fault};
+ghost use Rattle.share_ledger.specs.Recovery.{KeepsBeginning};
 ghost use Rattle.disk_book.specs.Leaving.{IsAskedToLeave, LeaveInTurn};
 
 use pool_history::{BookError, Request};
@@ -17,6 +18,7 @@ pub const WORKERS: u32 = 65;
 pub(crate) fn end_sessions<K: Keeper>(book: &mut Book<K>) -> Result<(), BookError>
     ensures left { LeaveInTurn WORKERS book.old.events book.new.events result }
     ensures kept { KeepsInstead book.old.keeper.records book.new.keeper.records book.new.events }
+    ensures begun { KeepsBeginning book.old.keeper book.new.keeper }
     ensures counts { CountsFailure (is_keeper_fault result) book.old.keeper.faults
         book.new.keeper.faults }
 {
@@ -35,6 +37,7 @@ fn ask_to_leave<K: Keeper>(book: &mut Book<K>, worker: u32) -> Result<(), BookEr
     ensures left { OnOk result (IsAskedToLeave worker book.old.events book.new.events) }
     ensures refused { OnErr result (book.new.events ≡ book.old.events) }
     ensures kept { KeepsInstead book.old.keeper.records book.new.keeper.records book.new.events }
+    ensures begun { KeepsBeginning book.old.keeper book.new.keeper }
     ensures counts { CountsFailure (is_keeper_fault result) book.old.keeper.faults
         book.new.keeper.faults }
 {

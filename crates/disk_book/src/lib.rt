@@ -9,5 +9,8 @@ mod ready;
 mod starting;
 
 pub use cause::NoBook;
-pub use laws::{crashes_are_gone_on_with, next_runs_go_on};
+pub use laws::{
+    crashes_are_gone_on_with, next_runs_go_on, nothing_answered_is_lost,
+    own_ledgers_are_not_refused,
+};
 pub use ready::{open_ledger, ready_book};

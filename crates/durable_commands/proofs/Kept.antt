@@ -1,6 +1,6 @@
 -- What a book's ledger is on its disk, and disks that were given.
-use Rattle.std.proofs.Common.{◌≡◌, ℕ, List, [], ◌∷◌, Option, Ok, refl, ap, subst, sym, ◌∙◌}
-use Rattle.pool_io.specs.Lending.{Lending, lent_one}
+use Rattle.std.proofs.Common.{◌≡◌, ℕ, List, ◌∷◌, Option, refl, ap, subst, sym, ◌∙◌}
+use Rattle.pool_io.specs.Lending.{Lending}
 use Rattle.pool_io.specs.Seen.{KeeperSeen, SinkSeen, SourceSeen}
 use Rattle.disk_io.specs.Calls.{DiskSeen}
 use Rattle.disk_io.specs.Disks.{DisksSeen}

@@ -1,23 +1,22 @@
 -- Each status of `durable serve` has its reason.
-use Rattle.std.proofs.Common.{◌≡◌, ◌⊎◌, ℕ, ◌<◌, true, false, List, Option, Some, Result, Ok, Err, refl, sym, ap, subst, ◌∙◌, arith, inl, inr}
+use Rattle.std.proofs.Common.{◌≡◌, ◌⊎◌, ℕ, ◌<◌, true, false, List, Result, Ok, Err, refl, sym, ap, subst, ◌∙◌, arith, inl, inr}
 use Rattle.pool_base.specs.Counts.{Rose}
 use Rattle.pool_io.specs.declared.host.HostError.{HostError}
 use Rattle.pool_io.specs.declared.host.HostError.TheVariants as host
 use Rattle.pool_io.specs.Hosts.{CameBack, HostSeen}
-use Rattle.pool_io.specs.Lending.{Lending, lent_one, with_back}
+use Rattle.pool_io.specs.Lending.{Lending, with_back}
 use Rattle.pool_io.specs.Outside.{CountsFailure, is_failed_gift}
 use Rattle.pool_io.specs.Seen.{KeeperSeen}
 use Rattle.disk_io.specs.Calls.{DiskSeen}
-use Rattle.disk_io.specs.Disks.{DisksSeen, opened_disk}
+use Rattle.disk_io.specs.Disks.{DisksSeen}
 use Rattle.pool_history.specs.declared.settings.Rules.{Rules}
 use Rattle.pool_network.specs.Worlds.{WorldSeen}
 use Rattle.pool_settings.specs.declared.opening.NoSettings.{NoSettings}
 use Rattle.pool_settings.specs.declared.settings.Settings.{Settings}
-use Rattle.pool_settings.specs.Opened.{OpensSettings, status_of_no_settings}
+use Rattle.pool_settings.specs.Opened.{OpensSettings}
 use Rattle.share_ledger.specs.Books.{BookSeen}
 use Rattle.stream_commands.specs.Statuses.{status_of_refusal}
 use Rattle.stream_commands.specs.declared.status.Status.{Status}
-use Rattle.stream_commands.specs.declared.status.Status.TheVariants as status
 use Rattle.serve_command.specs.Row.{HasFailureBy, HasReasonBy, places_by, service_by}
 use Rattle.serve_command.specs.Serving.{ReachedSeen, Served, ServesOnNetwork, Unserved}
 use Rattle.serve_command.specs.Words.{report_text}
@@ -25,9 +24,9 @@ use Rattle.serve_command.proofs.Given.{came_back}
 use Rattle.serve_command.proofs.Reasons.{behind, printed_or, served_with, unserved, without}
 use Rattle.disk_book.specs.declared.cause.NoBook.{NoBook}
 use Rattle.disk_book.specs.declared.cause.NoBook.TheVariants as cause
-use Rattle.disk_book.specs.Books.{HasNoBook, IsNotMadeOf, keeper_on}
+use Rattle.disk_book.specs.Books.{HasNoBook, IsNotMadeOf}
 use Rattle.durable_commands.specs.Given.{IsDiskGiven, with_disk_back}
-use Rattle.durable_commands.specs.Serving.{DurableServeRow, FinishesOnDisk, GivesBookBack, HasFailedDisk, HasDiskReason, HasWrongDisk, IsUnservable, ServesDiskAfterSettings, ServesDiskByNames, ServesNetworkOnDisk, ServesWithDisk}
+use Rattle.durable_commands.specs.Serving.{DurableServeRow, FinishesOnDisk, GivesBookBack, HasFailedDisk, HasDiskReason, HasWrongDisk, ServesDiskAfterSettings, ServesDiskByNames, ServesNetworkOnDisk, ServesWithDisk}
 use Rattle.durable_commands.specs.Statuses.{status_of_no_book}
 use Rattle.durable_commands.specs.Surroundings.{Surroundings, world_in}
 

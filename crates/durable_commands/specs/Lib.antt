@@ -5,3 +5,4 @@ pub mod Statuses
 pub mod Soloing
 pub mod Serving
 pub mod Auditing
+pub mod Runs

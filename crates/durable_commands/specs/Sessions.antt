@@ -1,5 +1,5 @@
 -- One session of both roles over a book on a disk (this project's own).
-use Rattle.std.specs.Prelude.{ℕ, ◌≡◌, List}
+use Rattle.std.specs.Prelude.{ℕ, ◌≡◌, false, List}
 use Rattle.pool_io.specs.Seen.{SinkSeen, SourceSeen}
 use Rattle.disk_io.specs.Calls.{DiskSeen}
 use Rattle.pool_history.specs.declared.events.Event.{Event}
@@ -26,7 +26,7 @@ pub record ServedOnDisk (rules : Rules) (idle_turns : ℕ) (old new : DiskOutsid
   pub ready : BookSeen
   pub is_ready : IsReadyBook rules old.disk ready
   pub history : List Event
-  pub serves : ServesBook (solo_manner rules idle_turns) ready.events
+  pub serves : ServesBook (solo_manner rules false idle_turns) ready.events
       (record { source = old.source; sink = old.sink; keeper = ready.keeper })
       (record { source = new.source; sink = new.sink; keeper = keeper_on new.disk }) reason history
   pub recovers : LeavesFronts new.disk history

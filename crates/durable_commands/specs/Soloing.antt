@@ -1,5 +1,5 @@
 -- What `durable solo SETTINGS LEDGER` owes at each status (this project's own).
-use Rattle.std.specs.Prelude.{ℕ, ◌≡◌, ◌⊎◌, List, Some, Result, Ok, Err}
+use Rattle.std.specs.Prelude.{ℕ, ◌≡◌, ◌⊎◌, false, List, Some, Result, Ok, Err}
 use Rattle.pool_io.specs.declared.host.HostError.{HostError}
 use Rattle.pool_io.specs.declared.opening.Opening.TheVariants as opening
 use Rattle.pool_io.specs.declared.turn.Turn.{Turn}
@@ -41,7 +41,7 @@ pub record ServedWithStreams (settings : Settings) (disk : DiskSeen) (old new : 
   pub served : ServesOnDisk settings.rules settings.limits.idle_turns given back end
   -- input that is to blame for nothing isn't blamed
   pub good : (turns : List Turn) → given.source.left ≡ Some turns
-      → IsGoodInput (solo_manner settings.rules settings.limits.idle_turns) turns → BlamesNoInput end
+      → IsGoodInput (solo_manner settings.rules false settings.limits.idle_turns) turns → BlamesNoInput end
   pub sources : CameBack old.host.streams.sources new.host.streams.sources back.source
   pub sinks : CameBack old.host.streams.sinks new.host.streams.sinks back.sink
   pub input : new.host.streams.input ≡ nothing_left old.host.streams.input

@@ -4,12 +4,14 @@
 #![tactic(auto)]
 
 mod audit;
+mod laws;
 mod serve;
 mod session;
 mod solo;
 mod status;
 
 pub use audit::audit_on_disk;
+pub use laws::commands_are_runs;
 pub use serve::serve_on_disk;
 pub use session::{DiskEnd, ServedDisk, serve_disk};
 pub use solo::solo_on_disk;

@@ -1,6 +1,6 @@
 //! One session of both roles over a book on a disk.
 
-ghost use Rattle.std.specs.Prelude.{◌≡◌, ◌<◌, IsTrue, List, Some};
+ghost use Rattle.std.specs.Prelude.{◌≡◌, ◌<◌, IsTrue, List, Some, false};
 ghost use Rattle.pool_io.specs.declared.turn.Turn.{Turn};
 ghost use Rattle.pool_history.specs.Accounts.{are_in_range};
 ghost use Rattle.session_loop.specs.Good.{IsGoodInput};
@@ -58,7 +58,7 @@ pub fn serve_disk<S: Source, T: Sink, D: Disk>(
 
     // Input that is to blame for nothing isn't blamed.
     ensures good { (told : List Turn) → (S.seen source).left ≡ Some told
-        → IsGoodInput (solo_manner rules limits.idle_turns) told → BlamesNoInput result.end }
+        → IsGoodInput (solo_manner rules false limits.idle_turns) told → BlamesNoInput result.end }
 {
     let rolling = rules.version_rolling;
     match ready_book(alloc, rules, disk) {
@@ -68,7 +68,7 @@ pub fn serve_disk<S: Source, T: Sink, D: Disk>(
                 sink,
                 book,
                 end,
-            } = serve_book(alloc, book, source, sink, rolling, limits);
+            } = serve_book(alloc, book, source, sink, rolling, false, limits);
             let (ledger, _history) = book.into_parts();
             ServedDisk {
                 source,

@@ -1,4 +1,4 @@
-use Rattle.std.proofs.Common.{◌+◌, ◌-◌, arith, inl, refl, subst}
+use Rattle.std.proofs.Common.{arith, inl, refl, subst}
 use Rattle.pool_io.specs.Seen.{SinkSeen}
 use Rattle.durable_commands.specs.Auditing.{AuditsDisk}
 use Rattle.durable_commands.proofs.audit.audit_to_output.Goals as goal

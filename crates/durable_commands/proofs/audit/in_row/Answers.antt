@@ -1,4 +1,4 @@
-use Rattle.std.proofs.Common.{◌++◌, ap, sym, take, ◌∙◌, arith}
+use Rattle.std.proofs.Common.{◌++◌, ap, sym, take, ◌∙◌}
 use Rattle.std.proofs.lemmas.List.{take_all}
 use Rattle.ledger_audit.specs.Judging.{in_a_row}
 use Rattle.ledger_audit.proofs.Judged.{row_more}

@@ -1,3 +1,4 @@
+use Rattle.std.proofs.Common.{false}
 use Rattle.solo_session.specs.Solo.{solo_manner}
 use Rattle.durable_commands.proofs.Kept.{fronts_on, serves_on}
 use Rattle.durable_commands.proofs.session.serve_disk.Goals as goal
@@ -12,7 +13,7 @@ returns-in-Ok-clause-served g c =
       ready = c.in-Ok.book;
       is_ready = c.in-Ok.ensures.ready;
       history = events;
-      serves = serves_on (solo_manner c.args.rules c.args.limits.idle_turns) c.in-Ok.book.events events
+      serves = serves_on (solo_manner c.args.rules false c.args.limits.idle_turns) c.in-Ok.book.events events
           (record { source = g.S.Source.seen c.args.source; sink = g.T.Sink.seen c.args.sink; keeper = c.in-Ok.book.keeper })
           (g.S.Source.seen served.source) (g.T.Sink.seen served.sink) served.book.keeper ledger disk served.end c.into_parts-ledger.ensures.keeper c.into_disk.ensures
           c.serve_book-source.ensures.served;

@@ -1,4 +1,4 @@
-use Rattle.std.proofs.Common.{[], ◌+◌, ◌-◌, arith, inl, refl}
+use Rattle.std.proofs.Common.{arith, inl, refl}
 use Rattle.durable_commands.proofs.solo.serve_session.Goals as goal
 
 pub returns-clause-row : goal.returns-clause-row
