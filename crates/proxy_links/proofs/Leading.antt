@@ -1,5 +1,5 @@
 -- Deeds go on by one more.
-use Rattle.std.proofs.Common.{◌≡◌, ℕ, ◌+◌, Bool, true, false, Option, None, Some, Ok, Err, List, [], ◌∷◌, ◌++◌, length, refl, sym, ap, subst, ◌∙◌, append_assoc, append-nil}
+use Rattle.std.proofs.Common.{◌≡◌, ℕ, ◌+◌, true, false, Option, None, Some, Ok, Err, List, [], ◌∷◌, ◌++◌, length, refl, sym, ap, subst, ◌∙◌, append_assoc, append-nil}
 use Rattle.pool_io.specs.Outside.{AddsBytes, CountsFailure}
 use Rattle.pool_io.specs.Seen.{SinkSeen}
 use Rattle.line_reader.specs.Holding.{HoldsLongLine, IsHeldLine}
@@ -10,7 +10,7 @@ use Rattle.proxy_rules.specs.declared.requests.ProxyReply.TheVariants as reply
 use Rattle.proxy_rules.specs.declared.requests.ProxyRequest.TheVariants as request
 use Rattle.session_steps.specs.declared.ends.SessionEnd.TheVariants as end
 use Rattle.proxy_links.specs.Calls.{ActsEach, MakesCall, ProxyCall}
-use Rattle.proxy_links.specs.Links.{CutsItem, Deed, DoesDeed, EndsSo, Leads, LeadsOn, Lines, LinkState, Lacked, Overran, Polled, PutsNews, Stop, Told, Tongue, Unpolled, Unput, Untold, bytes_at, bytes_in, calls_at, calls_in, is_write_over, link_at, request_for}
+use Rattle.proxy_links.specs.Links.{CutsItem, Deed, EndsSo, Leads, LeadsOn, Lines, LinkState, Lacked, Overran, Polled, PutsNews, Stop, Told, Tongue, Unpolled, Unput, Untold, bytes_at, bytes_in, calls_at, calls_in, is_write_over, link_at, request_for}
 
 calls_both : (xs ys : List Deed) → calls_in (xs ++ ys) ≡ calls_in xs ++ calls_in ys
 calls_both [] ys = refl

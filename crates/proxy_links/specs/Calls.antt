@@ -1,8 +1,7 @@
 -- The calls of a proxy (this project's own).
-use Rattle.std.specs.Prelude.{◌≡◌, ℕ, Bool, true, Result, Ok, Err, List, [], ◌∷◌}
+use Rattle.std.specs.Prelude.{◌≡◌, Bool, true, Result, Ok, List, [], ◌∷◌}
 use Rattle.std.specs.declared.alloc.AllocError.{AllocError}
 use Rattle.pool_base.specs.Calls.{Call, Faulted, GoodCalls, Replied}
-use Rattle.desk.specs.Passes.{Progress}
 use Rattle.desk.specs.Plays.{outcome_of}
 use Rattle.proxy_rules.specs.declared.events.ProxyEvent.{ProxyEvent}
 use Rattle.proxy_rules.specs.declared.requests.ProxyReply.{ProxyReply}

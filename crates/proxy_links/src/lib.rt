@@ -6,5 +6,7 @@
 mod asking;
 mod miner;
 mod news;
+mod serving;
 
 pub use asking::ProxyAsking;
+pub use serving::serve_miner;

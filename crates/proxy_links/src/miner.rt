@@ -8,8 +8,10 @@ ghost use Rattle.proxy_links.specs.Links.{LeadsOn, Lines, link_at};
 use crate::asking::ProxyAsking;
 use crate::news::tell_news;
 use line_reader::{LineReader, LineTooLong};
+use link_hearing::TurnHearer;
 use pool_network::Link;
 use proxy_rules::ProxyRequest;
+use session_loop::input_end;
 use session_steps::SessionEnd;
 use std::alloc::Global;
 use sv2_types::Blob;
@@ -98,5 +100,31 @@ impl<A: ProxyAsking> MinerLink<'_, A> {
             self.line(link)?;
         }
         Ok(())
+    }
+}
+
+impl<A: ProxyAsking> TurnHearer for MinerLink<'_, A> {
+    ghost use Rattle.std.specs.Prelude.{◌≡◌};
+    ghost use Rattle.line_reader.specs.Lines.{IsLineText};
+    ghost use Rattle.proxy_links.specs.Serving.{HearsMiner, stand_at};
+
+    ghost sound = { λ miner. A.ready miner.asking.now };
+
+    ghost ready = { λ miner. IsLineText miner.reader };
+
+    ghost hears = { λ old sink told over new sink_after. (new.asking.ghost_name ≡ old.asking.ghost_name)
+        × HearsMiner A.does (stand_at old.reader old.cursor old.asking.now) sink told over
+        (stand_at new.reader new.cursor new.asking.now) sink_after };
+
+    fn piece<L: Link>(&mut self, piece: &[u8], link: &mut L) -> Result<(), SessionEnd> {
+        self.lines(piece, link)
+    }
+
+    fn idle<L: Link>(&mut self, link: &mut L) -> Result<(), SessionEnd> {
+        tell_news(self.asking, &mut self.cursor, link)
+    }
+
+    fn input_end(&mut self) -> SessionEnd {
+        input_end(self.reader.held())
     }
 }

@@ -1,4 +1,4 @@
-use Rattle.std.proofs.Common.{◌≡◌, [], ◌++◌, refl, sym, subst, false, None, Some}
+use Rattle.std.proofs.Common.{◌++◌, refl, sym, subst, false, None, Some}
 use Rattle.std.proofs.lemmas.Result.{err_from_is_err_and}
 use Rattle.proxy_links.specs.Links.{LeadsOn, Lines, link_at}
 use Rattle.proxy_links.proofs.Leading.{leads_any, leads_none, line_told, overran}
