@@ -10,27 +10,29 @@ use Rattle.proxy_rules.specs.declared.requests.ProxyReply.TheVariants as reply
 use Rattle.proxy_rules.specs.declared.requests.ProxyRequest.TheVariants as request
 use Rattle.session_steps.specs.declared.ends.SessionEnd.TheVariants as end
 use Rattle.proxy_links.specs.Calls.{ActsEach, MakesCall, ProxyCall}
-use Rattle.proxy_links.specs.Links.{CutsItem, Deed, EndsSo, Leads, LeadsOn, Lines, LinkState, Lacked, Overran, Polled, PutsNews, Stop, Told, Tongue, Unpolled, Unput, Untold, bytes_at, bytes_in, calls_at, calls_in, is_write_over, link_at, request_for}
+use Rattle.proxy_links.specs.Links.{CutsItem, Deed, EndsSo, Leads, LeadsOn, Lines, LinkState, Lacked, Overran, Passed, Polled, PollsOwed, PutsNews, Stop, Told, Tongue, Unpolled, Unput, Untold, bytes_at, bytes_in, calls_at, calls_in, is_write_over, link_at, request_for}
 
-calls_both : (xs ys : List Deed) → calls_in (xs ++ ys) ≡ calls_in xs ++ calls_in ys
+pub calls_both : (xs ys : List Deed) → calls_in (xs ++ ys) ≡ calls_in xs ++ calls_in ys
 calls_both [] ys = refl
 calls_both (Told item call ∷ xs) ys = ap (λ (l : List ProxyCall). call ∷ l) (calls_both xs ys)
+calls_both (Passed item ∷ xs) ys = calls_both xs ys
 calls_both (Polled bytes call ∷ xs) ys = ap (λ (l : List ProxyCall). call ∷ l) (calls_both xs ys)
 
-bytes_both : (xs ys : List Deed) → bytes_in (xs ++ ys) ≡ bytes_in xs ++ bytes_in ys
+pub bytes_both : (xs ys : List Deed) → bytes_in (xs ++ ys) ≡ bytes_in xs ++ bytes_in ys
 bytes_both [] ys = refl
 bytes_both (Told item call ∷ xs) ys = bytes_both xs ys
+bytes_both (Passed item ∷ xs) ys = bytes_both xs ys
 bytes_both (Polled bytes call ∷ xs) ys = ap (λ (l : List ℕ). bytes ++ l) (bytes_both xs ys) ∙ sym (append_assoc bytes (bytes_in xs) (bytes_in ys))
 
-leads_both : (tongue : Tongue) (a b c : LinkState) (xs ys : List Deed) → Leads tongue a xs b → Leads tongue b ys c → Leads tongue a (xs ++ ys) c
+pub leads_both : (tongue : Tongue) (a b c : LinkState) (xs ys : List Deed) → Leads tongue a xs b → Leads tongue b ys c → Leads tongue a (xs ++ ys) c
 leads_both tongue a b c [] ys first then = subst (λ (s : LinkState). Leads tongue s ys c) first then
 leads_both tongue a b c (x ∷ xs) ys first then = (first.0, first.1, leads_both tongue first.0 b c xs ys first.2 then)
 
-acts_both : {A : Type 0} (does : A → ProxyCall → A → Type 0) (a b c : A) (xs ys : List ProxyCall) → ActsEach does a xs b → ActsEach does b ys c → ActsEach does a (xs ++ ys) c
+pub acts_both : {A : Type 0} (does : A → ProxyCall → A → Type 0) (a b c : A) (xs ys : List ProxyCall) → ActsEach does a xs b → ActsEach does b ys c → ActsEach does a (xs ++ ys) c
 acts_both {A} does a b c [] ys first then = subst (λ (s : A). ActsEach does s ys c) first then
 acts_both does a b c (x ∷ xs) ys first then = (first.0, first.1, acts_both does first.0 b c xs ys first.2 then)
 
-adds_both : (a b c : Option (List ℕ)) (xs ys : List ℕ) → AddsBytes a b xs → AddsBytes b c ys → AddsBytes a c (xs ++ ys)
+pub adds_both : (a b c : Option (List ℕ)) (xs ys : List ℕ) → AddsBytes a b xs → AddsBytes b c ys → AddsBytes a c (xs ++ ys)
 adds_both None b c xs ys first then = tt
 adds_both (Some held) b c xs ys first then =
     let more = rw first at then in
@@ -38,12 +40,12 @@ adds_both (Some held) b c xs ys first then =
 
 module _ {A : Type 0} (tongue : Tongue) (does : A → ProxyCall → A → Type 0) where
   -- deeds behind which it goes on
-  stop_none : (last : LinkState) (stop : Option Stop) (new : LinkState) → EndsSo tongue last stop None new → (stop ≡ None) × (new ≡ last)
+  pub stop_none : (last : LinkState) (stop : Option Stop) (new : LinkState) → EndsSo tongue last stop None new → (stop ≡ None) × (new ≡ last)
   stop_none last None new ends = (refl, ends)
   stop_none last (Some stop) new ends = absurd ends
 
   -- deeds, and then more
-  pub leads_on : (over : Option SessionEnd) (s t u : LinkState) (a b c : A) (k l m : SinkSeen) → LeadsOn tongue does s a k None t b l → LeadsOn tongue does t b l over u c m
+  unfoldable pub leads_on : (over : Option SessionEnd) (s t u : LinkState) (a b c : A) (k l m : SinkSeen) → LeadsOn tongue does s a k None t b l → LeadsOn tongue does t b l over u c m
       → LeadsOn tongue does s a k over u c m
   leads_on over s t u a b c k l m first then =
       let none = stop_none first.last first.stop t first.ends in
@@ -70,56 +72,65 @@ module _ {A : Type 0} (tongue : Tongue) (does : A → ProxyCall → A → Type 0
       }
 
 -- nothing was put
-adds_none : (held : Option (List ℕ)) → AddsBytes held held []
+pub adds_none : (held : Option (List ℕ)) → AddsBytes held held []
 adds_none None = tt
 adds_none (Some held) = ap (λ (l : List ℕ). Some l) (sym (append-nil held))
 
 module _ {A : Type 0} (tongue : Tongue) (does : A → ProxyCall → A → Type 0) where
   -- a poll was asked and failed
   pub polled_not : (unmet : List ℕ) (cursor cursor' : ℕ) (asking asking' : A) (k : SinkSeen) (fault : AllocError) → MakesCall does asking (request.Poll cursor) (Err fault) asking'
-      → LeadsOn tongue does (link_at unmet cursor true) asking k (Some end.Memory) (link_at unmet cursor' false) asking' k
-  polled_not unmet cursor cursor' asking asking' k fault made = record {
-    deeds = [];
-    last = link_at unmet cursor true;
-    stop = Some (Unpolled made.call);
-    leads = refl;
-    ends = (refl, (fault, made.asked_is, made.outcome_is), refl);
-    acts = (asking', made.done, refl);
-    put = adds_none k.held;
-    counts = refl;
-  }
+      → PollsOwed tongue does unmet cursor asking k (Some end.Memory) cursor' asking' k
+  polled_not unmet cursor cursor' asking asking' k fault made = (
+    record {
+      deeds = [];
+      last = link_at unmet cursor true;
+      stop = Some (Unpolled made.call);
+      leads = refl;
+      ends = (refl, (fault, made.asked_is, made.outcome_is), refl);
+      acts = (asking', made.done, refl);
+      put = adds_none k.held;
+      counts = refl;
+    },
+    tt,
+  )
 
   -- a poll was answered, and what is new put
   pub polled : (unmet : List ℕ) (cursor cursor' : ℕ) (asking asking' : A) (k l : SinkSeen) (news : List ℕ) (over : Option SessionEnd)
       → MakesCall does asking (request.Poll cursor) (Ok (reply.Bytes news)) asking' → PutsNews cursor news k over cursor' l
-      → LeadsOn tongue does (link_at unmet cursor true) asking k over (link_at unmet cursor' false) asking' l
-  polled unmet cursor cursor' asking asking' k l news None made puts = record {
-    deeds = Polled news made.call ∷ [];
-    last = link_at unmet (cursor + length news) false;
-    stop = None;
-    leads = (link_at unmet (cursor + length news) false, (refl, (made.asked_is, made.outcome_is), refl), refl);
-    ends = ap (λ n. link_at unmet n false) puts.0;
-    acts = (asking', made.done, refl);
-    put = subst (λ (bs : List ℕ). AddsBytes k.held l.held bs) (sym (append-nil (news ++ []))) (subst (λ (bs : List ℕ). AddsBytes k.held l.held bs) (sym (append-nil news)) puts.1);
-    counts = puts.2;
-  }
-  polled unmet cursor cursor' asking asking' k l news (Some reason) made puts = record {
-    deeds = [];
-    last = link_at unmet cursor true;
-    stop = Some (Unput puts.0 made.call);
-    leads = refl;
-    ends = (news, refl, (made.asked_is, made.outcome_is), puts.1, puts.3);
-    acts = (asking', made.done, refl);
-    put = puts.2;
-    counts = puts.4;
-  }
+      → PollsOwed tongue does unmet cursor asking k over cursor' asking' l
+  polled unmet cursor cursor' asking asking' k l news None made puts = (
+    record {
+      deeds = Polled news made.call ∷ [];
+      last = link_at unmet (cursor + length news) false;
+      stop = None;
+      leads = (link_at unmet (cursor + length news) false, (refl, (made.asked_is, made.outcome_is), refl), refl);
+      ends = ap (λ n. link_at unmet n false) puts.0;
+      acts = (asking', made.done, refl);
+      put = subst (λ (bs : List ℕ). AddsBytes k.held l.held bs) (sym (append-nil (news ++ []))) (subst (λ (bs : List ℕ). AddsBytes k.held l.held bs) (sym (append-nil news)) puts.1);
+      counts = puts.2;
+    },
+    tt,
+  )
+  polled unmet cursor cursor' asking asking' k l news (Some reason) made puts = (
+    record {
+      deeds = [];
+      last = link_at unmet cursor true;
+      stop = Some (Unput puts.0 made.call);
+      leads = refl;
+      ends = (news, refl, (made.asked_is, made.outcome_is), puts.1, puts.3);
+      acts = (asking', made.done, refl);
+      put = puts.2;
+      counts = puts.4;
+    },
+    tt,
+  )
 
   -- there was no memory for an item
-  pub lacked : (old new : LinkState) (asking : A) (k : SinkSeen) → LeadsOn tongue does old asking k (Some end.Memory) new asking k
+  unfoldable pub lacked : (old new : LinkState) (asking : A) (k : SinkSeen) → LeadsOn tongue does old asking k (Some end.Memory) new asking k
   lacked old new asking k = record { deeds = []; last = old; stop = Some Lacked; leads = refl; ends = refl; acts = refl; put = adds_none k.held; counts = refl }
 
   -- an item was asked for and failed
-  pub told_not : (bytes item rest : List ℕ) (cursor : ℕ) (new : LinkState) (asking asking' : A) (k : SinkSeen) (fault : AllocError) → CutsItem tongue bytes item rest
+  unfoldable pub told_not : (bytes item rest : List ℕ) (cursor : ℕ) (new : LinkState) (asking asking' : A) (k : SinkSeen) (fault : AllocError) → CutsItem tongue bytes item rest
       → MakesCall does asking (request_for tongue item) (Err fault) asking' → LeadsOn tongue does (link_at bytes cursor false) asking k (Some end.Memory) new asking' k
   told_not bytes item rest cursor new asking asking' k fault cut made = record {
     deeds = [];
@@ -133,7 +144,7 @@ module _ {A : Type 0} (tongue : Tongue) (does : A → ProxyCall → A → Type 0
   }
 
   -- an item was asked for
-  pub told : (bytes item rest : List ℕ) (cursor : ℕ) (asking asking' : A) (k : SinkSeen) (answer : ProxyReply) → CutsItem tongue bytes item rest
+  unfoldable pub told : (bytes item rest : List ℕ) (cursor : ℕ) (asking asking' : A) (k : SinkSeen) (answer : ProxyReply) → CutsItem tongue bytes item rest
       → MakesCall does asking (request_for tongue item) (Ok answer) asking' → LeadsOn tongue does (link_at bytes cursor false) asking k None (link_at rest cursor true) asking' k
   told bytes item rest cursor asking asking' k answer cut made = record {
     deeds = Told item made.call ∷ [];
@@ -147,15 +158,15 @@ module _ {A : Type 0} (tongue : Tongue) (does : A → ProxyCall → A → Type 0
   }
 
   -- nothing was done
-  pub leads_none : (state : LinkState) (asking : A) (k : SinkSeen) → LeadsOn tongue does state asking k None state asking k
+  unfoldable pub leads_none : (state : LinkState) (asking : A) (k : SinkSeen) → LeadsOn tongue does state asking k None state asking k
   leads_none state asking k = record { deeds = []; last = state; stop = None; leads = refl; ends = refl; acts = refl; put = adds_none k.held; counts = refl }
 
   -- what is over doesn't say what is left
-  ends_any : (last new other : LinkState) (stop : Option Stop) (reason : SessionEnd) → EndsSo tongue last stop (Some reason) new → EndsSo tongue last stop (Some reason) other
+  pub ends_any : (last new other : LinkState) (stop : Option Stop) (reason : SessionEnd) → EndsSo tongue last stop (Some reason) new → EndsSo tongue last stop (Some reason) other
   ends_any last new other None reason ends = absurd ends
   ends_any last new other (Some stop) reason ends = ends
 
-  pub leads_any : {reason : SessionEnd} {old : LinkState} (new other : LinkState) {asking asking' : A} {k l : SinkSeen} → LeadsOn tongue does old asking k (Some reason) new asking' l
+  unfoldable pub leads_any : {reason : SessionEnd} {old : LinkState} (new other : LinkState) {asking asking' : A} {k l : SinkSeen} → LeadsOn tongue does old asking k (Some reason) new asking' l
       → LeadsOn tongue does old asking k (Some reason) other asking' l
   leads_any {reason = reason} new other leads = record {
     deeds = leads.deeds;

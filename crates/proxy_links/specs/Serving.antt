@@ -9,6 +9,7 @@ use Rattle.link_turns.specs.Waits.{new_waiting}
 use Rattle.link_hearing.specs.Hearing.{HearsAll, hearing_at}
 use Rattle.proxy_rules.specs.declared.requests.ProxyReply.{ProxyReply}
 use Rattle.proxy_rules.specs.declared.requests.ProxyReply.TheVariants as reply
+use Rattle.proxy_rules.specs.declared.requests.ProxyRequest.{ProxyRequest}
 use Rattle.proxy_rules.specs.declared.requests.ProxyRequest.TheVariants as request
 use Rattle.session_steps.specs.declared.ends.SessionEnd.{SessionEnd}
 use Rattle.session_steps.specs.declared.ends.SessionEnd.TheVariants as end
@@ -76,12 +77,12 @@ abbrev pub end_unleft : SessionEnd → SessionEnd
 end_unleft end.Done = end.Memory
 end_unleft reason = reason
 
-pub record LeavesAtEnd {A : Type 0} (does : A → ProxyCall → A → Type 0) (old : A)
-    (reason ended : SessionEnd) (new : A) : Type 0 where
+pub record LeavesAtEnd {A : Type 0} (does : A → ProxyCall → A → Type 0) (asked : ProxyRequest)
+    (old : A) (reason ended : SessionEnd) (new : A) : Type 0 where
   pub call : ProxyCall
   pub done : does old call new
-  pub ends : (Replies request.Leave call × (ended ≡ reason))
-      ⊎ (Fails request.Leave call × (ended ≡ end_unleft reason))
+  pub ends : (Replies asked call × (ended ≡ reason))
+      ⊎ (Fails asked call × (ended ≡ end_unleft reason))
 
 -- ---- a miner's link
 
@@ -122,7 +123,7 @@ pub record WasServed {A : Type 0} (does : A → ProxyCall → A → Type 0) (idl
   pub reason : SessionEnd
   pub heard : A
   pub hears : HearsMinerLink does idle_turns joined before reason heard after
-  pub leaves : LeavesAtEnd does heard reason ended new
+  pub leaves : LeavesAtEnd does request.Leave heard reason ended new
 
 -- it couldn't join, for want of memory: its link is as it came
 pub record WasNotJoined {A : Type 0} (does : A → ProxyCall → A → Type 0) (old : A)

@@ -6,7 +6,12 @@
 mod asking;
 mod miner;
 mod news;
+mod phase;
 mod serving;
+mod upstream;
+mod upstream_serving;
 
 pub use asking::ProxyAsking;
+pub use phase::UpPhase;
 pub use serving::serve_miner;
+pub use upstream_serving::{UpstreamEnd, serve_upstream};

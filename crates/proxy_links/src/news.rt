@@ -1,8 +1,8 @@
 //! What is new to a link, asked for and put.
 
-ghost use Rattle.std.specs.Prelude.{◌≡◌, ℕ, List, true, false};
+ghost use Rattle.std.specs.Prelude.{◌≡◌, ℕ, List, IfErr};
 ghost use Rattle.link_hearing.specs.Hearing.{end_of};
-ghost use Rattle.proxy_links.specs.Links.{LeadsOn, PutsNews, Tongue, link_at};
+ghost use Rattle.proxy_links.specs.Links.{IsPutEnd, PollsOwed, PutsNews, Tongue};
 
 use crate::asking::ProxyAsking;
 use pool_io::SinkFailed;
@@ -15,6 +15,7 @@ fn put_news<L: Link>(news: &[u8], cursor: &mut u64, link: &mut L) -> Result<(), 
     ensures source { (L.seen link.new).source ≡ (L.seen link.old).source }
     ensures puts { PutsNews cursor.old news.now (L.seen link.old).sink (end_of result) cursor.new
         (L.seen link.new).sink }
+    ensures ends { IfErr result IsPutEnd }
 {
     let Some(behind) = cursor.checked_add(news.len() as u64) else {
         return Err(SessionEnd::Memory);
@@ -38,9 +39,10 @@ pub(crate) fn tell_news<L: Link, A: ProxyAsking>(
     requires ready { A.ready asking.old }
     ensures ready { A.ready asking.new }
     ensures source { (L.seen link.new).source ≡ (L.seen link.old).source }
-    ensures leads { (tongue : Tongue) (unmet : List ℕ) → LeadsOn tongue A.does
-        (link_at unmet cursor.old true) asking.old (L.seen link.old).sink (end_of result)
-        (link_at unmet cursor.new false) asking.new (L.seen link.new).sink }
+    ensures polls { (tongue : Tongue) (unmet : List ℕ) → PollsOwed tongue A.does unmet cursor.old
+        asking.old (L.seen link.old).sink (end_of result) cursor.new asking.new
+        (L.seen link.new).sink }
+    ensures ends { IfErr result IsPutEnd }
 {
     let reply = match asking.ask(ProxyRequest::Poll(*cursor)) {
         Ok(reply) => reply,

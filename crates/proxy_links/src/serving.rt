@@ -38,13 +38,17 @@ fn unleft(end: SessionEnd) -> SessionEnd
     }
 }
 
-/// Leaves.
-fn leave<A: ProxyAsking>(asking: &mut A, end: SessionEnd) -> SessionEnd
+/// Asks the last request of a link: that its caller leaves, or that the upstream ended.
+pub(crate) fn leave<A: ProxyAsking>(
+    asking: &mut A,
+    request: ProxyRequest,
+    end: SessionEnd,
+) -> SessionEnd
     requires { A.ready asking.old }
     ensures ready { A.ready asking.new }
-    ensures leaves { LeavesAtEnd A.does asking.old end result asking.new }
+    ensures leaves { LeavesAtEnd A.does request asking.old end result asking.new }
 {
-    match asking.ask(ProxyRequest::Leave) {
+    match asking.ask(request) {
         Ok(_reply) => end,
         Err(_fault) => unleft(end),
     }
@@ -103,5 +107,5 @@ pub fn serve_miner<L: Link, A: ProxyAsking>(
         reader: _,
         cursor: _,
     } = miner;
-    leave(asking, end)
+    leave(asking, ProxyRequest::Leave, end)
 }

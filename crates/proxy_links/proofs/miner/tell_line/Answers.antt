@@ -24,4 +24,4 @@ returns-clause-leads g c = λ rest.
     (told Lines g.A.ProxyAsking.does (c.args.line.now ++ 10 ∷ rest) c.args.line.now rest c.args.cursor.now c.args.asking.now c.ask-asked.new.self (g.L.Link.seen c.args.link.now).sink c.in-Ok-asked._reply
     (c.requires.text, refl)
     (subst (λ line. MakesCall g.A.ProxyAsking.does c.args.asking.now (request.Line line) (Ok c.in-Ok-asked._reply) c.ask-asked.new.self) c.in-Ok.ensures c.in-Ok-asked.ensures.call))
-    (c.tell_news.ensures.leads Lines rest)
+    (c.tell_news.ensures.polls Lines rest).0

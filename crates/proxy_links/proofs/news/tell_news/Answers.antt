@@ -6,12 +6,12 @@ use Rattle.proxy_links.specs.Links.{PutsNews}
 use Rattle.proxy_links.proofs.Leading.{polled, polled_not}
 use Rattle.proxy_links.proofs.news.tell_news.Goals as goal
 
-pub returns-in-Err-clause-leads : goal.returns-in-Err-clause-leads
-returns-in-Err-clause-leads g c = λ tongue unmet.
+pub returns-in-Err-clause-polls : goal.returns-in-Err-clause-polls
+returns-in-Err-clause-polls g c = λ tongue unmet.
     polled_not tongue g.A.ProxyAsking.does unmet c.args.cursor.now c.args.cursor.now c.args.asking.now c.ask.new.self (g.L.Link.seen c.args.link.now).sink _ c.in-Err.ensures.call
 
-pub returns-clause-leads : goal.returns-clause-leads
-returns-clause-leads g c = λ tongue unmet.
+pub returns-clause-polls : goal.returns-clause-polls
+returns-clause-polls g c = λ tongue unmet.
     polled tongue g.A.ProxyAsking.does unmet c.args.cursor.now c.put_news.new.cursor c.args.asking.now c.ask.new.self (g.L.Link.seen c.args.link.now).sink (g.L.Link.seen c.put_news.new.link).sink
     c.in-Bytes.news (end_of c.put_news.result)
     (subst (λ answer. MakesCall g.A.ProxyAsking.does c.args.asking.now (request.Poll c.args.cursor.now) (Ok answer) c.ask.new.self) c.in-Bytes.is c.in-Ok.ensures.call)

@@ -22,7 +22,7 @@ returns-in-Ok-clause-hears g c =
       held = c.requires.new.0;
       source = c.tell_news.ensures.source;
       polled = subst (λ (n : ℕ). LeadsOn Lines g.A.ProxyAsking.does (link_at [] n true) c.args.self.now.asking.now (g.L.Link.seen c.args.link.now).sink None
-          (link_at [] c.tell_news.new.cursor false) c.tell_news.new.asking (g.L.Link.seen c.tell_news.new.link).sink) c.requires.new.1 (c.in-Ok.ensures.leads Lines []);
+          (link_at [] c.tell_news.new.cursor false) c.tell_news.new.asking (g.L.Link.seen c.tell_news.new.link).sink) c.requires.new.1 (c.in-Ok.ensures.polls Lines []).0;
       left = stand_at c.hear_turns.new.hearer.reader c.hear_turns.new.hearer.cursor c.hear_turns.new.hearer.asking.now;
       turns = subst
           (λ (w : Waiting). HearsAll (HearsMiner g.A.ProxyAsking.does)
@@ -36,5 +36,5 @@ returns-in-Err-clause-hears g c = inr (record {
   cursor = c.tell_news.new.cursor;
   source = c.tell_news.ensures.source;
   polled = subst (λ (n : ℕ). LeadsOn Lines g.A.ProxyAsking.does (link_at [] n true) c.args.self.now.asking.now (g.L.Link.seen c.args.link.now).sink (Some c.in-Err.end)
-      (link_at [] c.tell_news.new.cursor false) c.tell_news.new.asking (g.L.Link.seen c.tell_news.new.link).sink) c.requires.new.1 (c.in-Err.ensures.leads Lines []);
+      (link_at [] c.tell_news.new.cursor false) c.tell_news.new.asking (g.L.Link.seen c.tell_news.new.link).sink) c.requires.new.1 (c.in-Err.ensures.polls Lines []).0;
 })
