@@ -1,0 +1,4 @@
+pub mod Attended
+pub mod Calls
+pub mod Noted
+pub mod Reached

@@ -1,0 +1,3 @@
+pub mod Calling
+pub mod Visits
+pub mod Shifts
