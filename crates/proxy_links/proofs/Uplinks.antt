@@ -67,7 +67,7 @@ module _ {A : Type 0} (does : A → ProxyCall → A → Type 0) where
     leads = leads_on Frames does over s.link t.link u.link a b c k l m first.leads then.leads;
     phases = phases_both s.phase t.phase u.phase first.leads.deeds then.leads.deeds first.phases then.phases;
     unfit = then.unfit;
-    fit = then.fit;
+    bad = then.bad;
   }
 
   -- nothing was done
@@ -77,7 +77,7 @@ module _ {A : Type 0} (does : A → ProxyCall → A → Type 0) where
     leads = leads_none Frames does s.link a k;
     phases = refl;
     unfit = λ same. absurd (none_some end.BadSetup same);
-    fit = λ none. fit;
+    bad = λ unfit. absurd (fit unfit);
   }
 
   -- a poll was made
@@ -87,7 +87,7 @@ module _ {A : Type 0} (does : A → ProxyCall → A → Type 0) where
     leads = polls.0;
     phases = phases_none phase polls.0.deeds polls.1;
     unfit = λ same. absurd (no_setup same);
-    fit = λ none. fit;
+    bad = λ unfit. absurd (fit unfit);
   }
 
   -- a frame was passed over
@@ -106,13 +106,13 @@ module _ {A : Type 0} (does : A → ProxyCall → A → Type 0) where
     };
     phases = refl;
     unfit = λ same. absurd (none_some end.BadSetup same);
-    fit = λ none. fit;
+    bad = λ unfit. absurd (fit unfit);
   }
 
   -- one was no message
-  pub up_broke : (frame : FrameValue) (bytes rest : List ℕ) (cursor : ℕ) (new : LinkState) (phase : UpPhase) (a : A) (k : SinkSeen) → CutsFrame frame bytes rest → TakesNoMessage frame
+  pub up_broke : (frame : FrameValue) (bytes rest : List ℕ) (cursor : ℕ) (new : LinkState) (phase : UpPhase) (a : A) (k : SinkSeen) → CutsFrame frame bytes rest → TakesNoMessage frame → (phase ≡ Unfit → ⊥)
       → LeadsUp does (up_at bytes cursor false phase) a k (Some (end.BadMessage frame.kind)) (record { link = new; phase = phase }) a k
-  up_broke frame bytes rest cursor new phase a k cut takes = record {
+  up_broke frame bytes rest cursor new phase a k cut takes fit = record {
     leads = record {
       deeds = [];
       last = link_at bytes cursor false;
@@ -125,13 +125,13 @@ module _ {A : Type 0} (does : A → ProxyCall → A → Type 0) where
     };
     phases = refl;
     unfit = λ same. absurd (message_no_setup frame.kind same);
-    fit = λ none. absurd (some_none (end.BadMessage frame.kind) none);
+    bad = λ unfit. absurd (fit unfit);
   }
 
   -- too much came
-  pub up_overran : (len : ℕ) (bytes : List ℕ) (cursor : ℕ) (new : LinkState) (phase : UpPhase) (a : A) (k : SinkSeen) → BeginsOver most_payload len bytes
+  pub up_overran : (len : ℕ) (bytes : List ℕ) (cursor : ℕ) (new : LinkState) (phase : UpPhase) (a : A) (k : SinkSeen) → BeginsOver most_payload len bytes → (phase ≡ Unfit → ⊥)
       → LeadsUp does (up_at bytes cursor false phase) a k (Some (end.TooLong len)) (record { link = new; phase = phase }) a k
-  up_overran len bytes cursor new phase a k begins = record {
+  up_overran len bytes cursor new phase a k begins fit = record {
     leads = record {
       deeds = [];
       last = link_at bytes cursor false;
@@ -144,77 +144,74 @@ module _ {A : Type 0} (does : A → ProxyCall → A → Type 0) where
     };
     phases = refl;
     unfit = λ same. absurd (long_no_setup len same);
-    fit = λ none. absurd (some_none (end.TooLong len) none);
+    bad = λ unfit. absurd (fit unfit);
   }
 
   -- there was no memory
-  pub up_lacked : (old new : LinkState) (phase : UpPhase) (a : A) (k : SinkSeen) → LeadsUp does (record { link = old; phase = phase }) a k (Some end.Memory) (record { link = new; phase = phase }) a k
+  pub up_lacked : (old new : LinkState) (phase : UpPhase) (a : A) (k : SinkSeen) → (phase ≡ Unfit → ⊥) → LeadsUp does (record { link = old; phase = phase }) a k (Some end.Memory) (record { link = new; phase = phase }) a k
   unfolding lacked
-  up_lacked old new phase a k = record {
+  up_lacked old new phase a k fit = record {
     leads = lacked Frames does old new a k;
     phases = refl;
     unfit = λ same. absurd (memory_no_setup same);
-    fit = λ none. absurd (some_none end.Memory none);
+    bad = λ unfit. absurd (fit unfit);
   }
 
   -- no proxy can go on with what came
-  pub up_refused : (s : UpState) (t : LinkState) (new : LinkState) (phase : UpPhase) (a b : A) (k l : SinkSeen) (leads : LeadsOn Frames does s.link a k None t b l) → t.owes ≡ false
+  pub up_refused : (s : UpState) (t : LinkState) (new : LinkState) (phase : UpPhase) (a b : A) (k l : SinkSeen) (leads : LeadsOn Frames does s.link a k None t b l)
       → PhasesThrough s.phase leads.deeds phase → phase ≡ Unfit → LeadsUp does s a k (Some end.BadSetup) (record { link = new; phase = phase }) b l
   unfolding leads_on
-  up_refused s t new phase a b k l leads owes phases unfit = record {
+  up_refused s t new phase a b k l leads phases unfit = record {
     leads = leads_on Frames does (Some end.BadSetup) s.link t new a b b k l l leads (record {
       deeds = [];
       last = t;
       stop = Some Refused;
       leads = refl;
-      ends = (owes, refl);
+      ends = refl;
       acts = refl;
       put = adds_none l.held;
       counts = refl;
     });
     phases = subst (λ (xs : List Deed). PhasesThrough s.phase xs phase) (sym (append-nil leads.deeds)) phases;
     unfit = λ same. unfit;
-    fit = λ none. absurd (some_none end.BadSetup none);
+    bad = λ same. refl;
   }
 
   module _ (frame : FrameValue) (message : Message) (bytes rest : List ℕ) (cursor : ℕ) (phase : UpPhase) (a b : A) (k : SinkSeen) (cut : CutsFrame frame bytes rest) (takes : TakesFrame frame message)
     where
       -- a message was asked for and failed
-      pub up_told_not : (new : LinkState) (fault : AllocError) → MakesCall does a (request.Up (frame_bytes frame)) (Err fault) b
+      pub up_told_not : (phase ≡ Unfit → ⊥) → (new : LinkState) (fault : AllocError) → MakesCall does a (request.Up (frame_bytes frame)) (Err fault) b
           → LeadsUp does (up_at bytes cursor false phase) a k (Some end.Memory) (record { link = new; phase = phase }) b k
       unfolding told_not
-      up_told_not new fault made = record {
+      up_told_not fit new fault made = record {
         leads = told_not Frames does bytes (frame_bytes frame) rest cursor new a b k fault (frame, message, cut, takes, refl) made;
         phases = refl;
         unfit = λ same. absurd (memory_no_setup same);
-        fit = λ none. absurd (some_none end.Memory none);
+        bad = λ unfit. absurd (fit unfit);
       }
 
-      module _ (answer : ProxyReply) (made : MakesCall does a (request.Up (frame_bytes frame)) (Ok answer) b) (over : Option SessionEnd) (cursor' : ℕ) (c : A) (l : SinkSeen)
-          (polls : PollsOwed Frames does rest cursor b k over cursor' c l) where
+      module _ (answer : ProxyReply) (made : MakesCall does a (request.Up (frame_bytes frame)) (Ok answer) b) where
         asked : LeadsOn Frames does (link_at bytes cursor false) a k None (link_at rest cursor true) b k
         asked = told Frames does bytes (frame_bytes frame) rest cursor a b k answer (frame, message, cut, takes, refl) made
 
         -- it was asked for, and followed by a poll
-        pub up_told : (over ≡ Some end.BadSetup → ⊥) → (over ≡ None → next_phase phase message ≡ Unfit → ⊥)
-            → LeadsUp does (up_at bytes cursor false phase) a k over (up_at rest cursor' false (next_phase phase message)) c l
+        pub up_told : (over : Option SessionEnd) (cursor' : ℕ) (c : A) (l : SinkSeen) → PollsOwed Frames does rest cursor b k over cursor' c l → (over ≡ Some end.BadSetup → ⊥)
+            → (next_phase phase message ≡ Unfit → ⊥) → LeadsUp does (up_at bytes cursor false phase) a k over (up_at rest cursor' false (next_phase phase message)) c l
         unfolding leads_on told asked
-        up_told no_setup fit = record {
+        up_told over cursor' c l polls no_setup fit = record {
           leads = leads_on Frames does over (link_at bytes cursor false) (link_at rest cursor true) (link_at rest cursor' false) a b c k k l asked polls.0;
           phases = (message, record { frame = frame; bytes = refl; message_is = takes.message_is }, phases_none (next_phase phase message) polls.0.deeds polls.1);
           unfit = λ same. absurd (no_setup same);
-          fit = fit;
+          bad = λ unfit. absurd (fit unfit);
         }
 
         -- it was, and no proxy can go on with it
-        pub up_told_refused : (new : LinkState) (is : over ≡ None) → next_phase phase message ≡ Unfit
-            → LeadsUp does (up_at bytes cursor false phase) a k (Some end.BadSetup) (record { link = new; phase = next_phase phase message }) c l
-        unfolding leads_on told asked
-        up_told_refused new is unfit =
-            let polled = subst (λ (o : Option SessionEnd). PollsOwed Frames does rest cursor b k o cursor' c l) is polls in
-            up_refused (up_at bytes cursor false phase) (link_at rest cursor' false) new (next_phase phase message) a c k l
-            (leads_on Frames does None (link_at bytes cursor false) (link_at rest cursor true) (link_at rest cursor' false) a b c k k l asked polled.0) refl
-            (message, record { frame = frame; bytes = refl; message_is = takes.message_is }, phases_none (next_phase phase message) polled.0.deeds polled.1) unfit
+        pub up_told_refused : (new : LinkState) → next_phase phase message ≡ Unfit
+            → LeadsUp does (up_at bytes cursor false phase) a k (Some end.BadSetup) (record { link = new; phase = next_phase phase message }) b k
+        unfolding told asked
+        up_told_refused new unfit =
+            up_refused (up_at bytes cursor false phase) (link_at rest cursor true) new (next_phase phase message) a b k k asked
+            (message, record { frame = frame; bytes = refl; message_is = takes.message_is }, refl) unfit
 
   -- what is over doesn't say how the link is left
   pub up_any : {reason : SessionEnd} {s : UpState} (new other : LinkState) (phase : UpPhase) {a b : A} {k l : SinkSeen} → LeadsUp does s a k (Some reason) (record { link = new; phase = phase }) b l
@@ -224,7 +221,7 @@ module _ {A : Type 0} (does : A → ProxyCall → A → Type 0) where
     leads = leads_any Frames does new other leads.leads;
     phases = leads.phases;
     unfit = leads.unfit;
-    fit = leads.fit;
+    bad = leads.bad;
   }
 
   -- of the same bytes

@@ -134,7 +134,7 @@ IsPutEnd reason = (reason ≡ end.WriteFault) ⊎ (reason ≡ end.Memory)
 abbrev pub StopsBy : Tongue → LinkState → Stop → SessionEnd → Type 0
 StopsBy tongue last Overran reason = (last.owes ≡ false) × Overruns tongue last.unmet reason
 StopsBy tongue last Broke reason = (last.owes ≡ false) × BreaksItem tongue last.unmet reason
-StopsBy tongue last Refused reason = (last.owes ≡ false) × (reason ≡ end.BadSetup)
+StopsBy tongue last Refused reason = reason ≡ end.BadSetup
 StopsBy tongue last Lacked reason = reason ≡ end.Memory
 StopsBy tongue last (Untold item call) reason =
     (rest : List ℕ) × (last.owes ≡ false) × CutsItem tongue last.unmet item rest

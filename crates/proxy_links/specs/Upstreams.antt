@@ -43,15 +43,14 @@ pub record UpState : Type 0 where
 abbrev pub up_at : List ℕ → ℕ → Bool → UpPhase → UpState
 up_at unmet cursor owes phase = record { link = link_at unmet cursor owes; phase = phase }
 
--- deeds from one state to the other; BadSetup comes where the upstream is unfit, and it goes on only where
--- it isn't
+-- deeds from one state to the other; BadSetup comes exactly where the upstream is unfit
 pub record LeadsUp {A : Type 0} (does : A → ProxyCall → A → Type 0) (old : UpState) (asking : A)
     (sink : SinkSeen) (over : Option SessionEnd) (new : UpState) (asking' : A) (sink' : SinkSeen) :
     Type 0 where
   pub leads : LeadsOn Frames does old.link asking sink over new.link asking' sink'
   pub phases : PhasesThrough old.phase leads.deeds new.phase
   pub unfit : over ≡ Some end.BadSetup → new.phase ≡ Unfit
-  pub fit : over ≡ None → new.phase ≡ Unfit → ⊥
+  pub bad : new.phase ≡ Unfit → over ≡ Some end.BadSetup
 
 -- between two turns of the link
 pub record UpStand (A : Type 0) : Type 0 where

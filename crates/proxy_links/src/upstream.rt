@@ -1,6 +1,6 @@
 //! The upstream's frames.
 
-ghost use Rattle.std.specs.Prelude.{◌≡◌, ◌++◌, ◌<◌, ◌≤◌, ◌^◌, ℕ, List, false, length, IfErr, IfOk};
+ghost use Rattle.std.specs.Prelude.{◌≡◌, ◌++◌, ◌<◌, ◌≤◌, ◌^◌, ℕ, List, false, length, IfOk, OnOk};
 ghost use Rattle.sv2_frames.specs.Framing.{FrameFits, frame_of};
 ghost use Rattle.sv2_frames.specs.Holding.{IsCutWithin};
 ghost use Rattle.link_hearing.specs.Hearing.{end_of};
@@ -58,8 +58,8 @@ fn bytes_of(alloc: Global, frame: &Frame<'_>) -> Result<Blob, AllocError>
     Ok(Blob::from_vec(bytes))
 }
 
-/// Asks for a frame, if it is a message that is taken, and puts what is new then. Who came with what a
-/// proxy can't go on with is told no more.
+/// Asks for a frame, if it is a message that is taken, and puts what is new then; nothing more where no proxy
+/// can go on with it.
 fn tell_frame<L: Link, A: ProxyAsking>(
     alloc: Global,
     asking: &mut A,
@@ -74,6 +74,7 @@ fn tell_frame<L: Link, A: ProxyAsking>(
     requires fit { phase.old ≡ Unfit → ⊥ }
     ensures ready { A.ready asking.new }
     ensures source { (L.seen link.new).source ≡ (L.seen link.old).source }
+    ensures fit { OnOk result (phase.new ≡ Unfit → ⊥) }
     ensures leads { (rest : List ℕ) → LeadsUp A.does
         (up_at (frame_of frame.now.ext frame.now.kind frame.now.payload.now ++ rest) cursor.old
         false phase.old) asking.old (L.seen link.old).sink (end_of result)
@@ -93,11 +94,10 @@ fn tell_frame<L: Link, A: ProxyAsking>(
         return Err(SessionEnd::Memory);
     };
     *phase = phase.after(&message);
-    tell_news(asking, cursor, link)?;
     if phase.is_unfit() {
         return Err(SessionEnd::BadSetup);
     }
-    Ok(())
+    tell_news(asking, cursor, link)
 }
 
 /// Who hears the upstream's link: whom it asks, what came of a frame, up to which place the output was put,

@@ -19,7 +19,7 @@ returns-in_err-tell_frame-in-Ok-Some-clause-leads g c =
 pub returns-in-Err-clause-leads : goal.returns-in-Err-clause-leads
 returns-in-Err-clause-leads g c = λ rest.
     up_overran g.A.ProxyAsking.does c.in-Err.field-0.0 (c.args.self.now.splitter.held ++ rest) c.args.self.now.cursor (link_at (c.args.self.now.splitter.held ++ rest) c.args.self.now.cursor false)
-    c.args.self.now.phase c.args.self.now.asking.now (g.L.Link.seen c.args.link.now).sink (over_begins c.in-Err.field-0.0 c.args.self.now.splitter rest c.requires.limit c.in-Err.ensures.too_long)
+    c.args.self.now.phase c.args.self.now.asking.now (g.L.Link.seen c.args.link.now).sink (over_begins c.in-Err.field-0.0 c.args.self.now.splitter rest c.requires.limit c.in-Err.ensures.too_long) c.requires.fit
 
 pub returns-in-Ok-None-clause-leads : goal.returns-in-Ok-None-clause-leads
 returns-in-Ok-None-clause-leads g c = λ rest.
