@@ -90,7 +90,7 @@ module _ {A B : Type 0} (see : A → B) (does : A → ProxyCall → A → Type 0
     leads = leads_shown _ s.link t.link a b k l over h.leads;
     phases = h.phases;
     unfit = h.unfit;
-    fit = h.fit;
+    bad = h.bad;
   }
 
   up_shown : (old new : UpStand A) (k l : SinkSeen) (told : Turn) (over : Option SessionEnd) → HearsUpstream does old k told over new l
