@@ -1,0 +1,3 @@
+mod Crossing
+pub mod Rows
+pub mod Whole
