@@ -4,7 +4,7 @@
 # machine. The seconds are the processor's, so that other programs that run meanwhile count little.
 set -eu
 cd "$(dirname "$0")/.."
-count=${1:-10}
+count=${1:-40}
 work=$(mktemp -d)
 trap 'rm -rf "$work"' EXIT
 
