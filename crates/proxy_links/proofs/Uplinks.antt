@@ -1,5 +1,5 @@
 -- Deeds on the upstream's link, and how far it has come by them.
-use Rattle.std.proofs.Common.{◌≡◌, inl, inr, ℕ, ◌<◌, false, true, Option, None, Some, Result, Ok, Err, List, [], ◌∷◌, ◌++◌, IfErr, refl, sym, ap, subst, append-nil}
+use Rattle.std.proofs.Common.{◌≡◌, inl, inr, ℕ, ◌<◌, false, true, Option, None, Some, Result, Ok, Err, List, [], ◌∷◌, ◌++◌, IfErr, OnOk, refl, sym, ap, subst, append-nil, ◌∙◌}
 use Rattle.std.specs.declared.alloc.AllocError.{AllocError}
 use Rattle.pool_io.specs.Seen.{SinkSeen}
 use Rattle.sv2_frames.specs.Framing.{FrameValue, frame_bytes}
@@ -19,11 +19,16 @@ use Rattle.proxy_links.specs.Links.{AskForNone, Broke, Deed, Frames, IsPutEnd, L
 use Rattle.proxy_links.specs.Upstreams.{LeadsUp, PhasesThrough, UpState, up_at}
 use Rattle.proxy_links.proofs.Leading.{adds_none, lacked, leads_any, leads_none, leads_on, told, told_not}
 
-phases_both : (a b c : UpPhase) (xs ys : List Deed) → PhasesThrough a xs b → PhasesThrough b ys c → PhasesThrough a (xs ++ ys) c
-phases_both a b c [] ys first then = subst (λ (p : UpPhase). PhasesThrough p ys c) first then
-phases_both a b c (Told item call ∷ xs) ys first then = (first.0, first.1, phases_both (next_phase a first.0) b c xs ys first.2 then)
-phases_both a b c (Passed item ∷ xs) ys first then = phases_both a b c xs ys first then
-phases_both a b c (Polled bytes call ∷ xs) ys first then = phases_both a b c xs ys first then
+phases_both : (a b c : UpPhase) (xs ys : List Deed) → (b ≡ Unfit → ⊥) → PhasesThrough a xs b → PhasesThrough b ys c → PhasesThrough a (xs ++ ys) c
+phases_both a b c [] ys fit first then = subst (λ (p : UpPhase). PhasesThrough p ys c) first then
+phases_both a b c (Told item call ∷ xs) ys fit first then = (
+  first.0,
+  first.1,
+  λ unfit. absurd (fit (subst (λ (l : List Deed). PhasesThrough (next_phase a first.0) l b) (first.2 unfit) first.3 ∙ unfit)),
+  phases_both (next_phase a first.0) b c xs ys fit first.3 then,
+)
+phases_both a b c (Passed item ∷ xs) ys fit first then = phases_both a b c xs ys fit first then
+phases_both a b c (Polled bytes call ∷ xs) ys fit first then = phases_both a b c xs ys fit first then
 
 -- no item, no step
 phases_none : (a : UpPhase) (xs : List Deed) → AskForNone xs → PhasesThrough a xs a
@@ -50,6 +55,11 @@ message_no_setup kind same = cc
 long_no_setup : (len : ℕ) → ◌≡◌ {A = Option SessionEnd} (Some (end.TooLong len)) (Some end.BadSetup) → ⊥
 long_no_setup len same = cc
 
+-- what holds where it went on
+pub where_on : (result : Result (Unit {0}) SessionEnd) (P : Type 0) → OnOk result P → end_of result ≡ None → P
+where_on (Ok done) P holds same = holds
+where_on (Err reason) P holds same = absurd (some_none reason same)
+
 -- a put's end is no bad setup
 put_no_setup : (reason : SessionEnd) → IsPutEnd reason → Some reason ≡ Some end.BadSetup → ⊥
 put_no_setup reason (inl is) same = write_no_setup (subst (λ (r : SessionEnd). Some r ≡ Some end.BadSetup) is same)
@@ -65,7 +75,7 @@ module _ {A : Type 0} (does : A → ProxyCall → A → Type 0) where
   unfolding leads_on
   up_on over s t u a b c k l m first then = record {
     leads = leads_on Frames does over s.link t.link u.link a b c k l m first.leads then.leads;
-    phases = phases_both s.phase t.phase u.phase first.leads.deeds then.leads.deeds first.phases then.phases;
+    phases = phases_both s.phase t.phase u.phase first.leads.deeds then.leads.deeds (λ unfit. none_some end.BadSetup (first.bad unfit)) first.phases then.phases;
     unfit = then.unfit;
     bad = then.bad;
   }
@@ -159,15 +169,15 @@ module _ {A : Type 0} (does : A → ProxyCall → A → Type 0) where
 
   -- no proxy can go on with what came
   pub up_refused : (s : UpState) (t : LinkState) (new : LinkState) (phase : UpPhase) (a b : A) (k l : SinkSeen) (leads : LeadsOn Frames does s.link a k None t b l)
-      → PhasesThrough s.phase leads.deeds phase → phase ≡ Unfit → LeadsUp does s a k (Some end.BadSetup) (record { link = new; phase = phase }) b l
+      → t.owes ≡ true → PhasesThrough s.phase leads.deeds phase → phase ≡ Unfit → LeadsUp does s a k (Some end.BadSetup) (record { link = new; phase = phase }) b l
   unfolding leads_on
-  up_refused s t new phase a b k l leads phases unfit = record {
+  up_refused s t new phase a b k l leads owes phases unfit = record {
     leads = leads_on Frames does (Some end.BadSetup) s.link t new a b b k l l leads (record {
       deeds = [];
       last = t;
       stop = Some Refused;
       leads = refl;
-      ends = refl;
+      ends = (owes, refl);
       acts = refl;
       put = adds_none l.held;
       counts = refl;
@@ -200,7 +210,7 @@ module _ {A : Type 0} (does : A → ProxyCall → A → Type 0) where
         unfolding leads_on told asked
         up_told over cursor' c l polls no_setup fit = record {
           leads = leads_on Frames does over (link_at bytes cursor false) (link_at rest cursor true) (link_at rest cursor' false) a b c k k l asked polls.0;
-          phases = (message, record { frame = frame; bytes = refl; message_is = takes.message_is }, phases_none (next_phase phase message) polls.0.deeds polls.1);
+          phases = (message, record { frame = frame; bytes = refl; message_is = takes.message_is }, (λ unfit. absurd (fit unfit)), phases_none (next_phase phase message) polls.0.deeds polls.1);
           unfit = λ same. absurd (no_setup same);
           bad = λ unfit. absurd (fit unfit);
         }
@@ -210,8 +220,8 @@ module _ {A : Type 0} (does : A → ProxyCall → A → Type 0) where
             → LeadsUp does (up_at bytes cursor false phase) a k (Some end.BadSetup) (record { link = new; phase = next_phase phase message }) b k
         unfolding told asked
         up_told_refused new unfit =
-            up_refused (up_at bytes cursor false phase) (link_at rest cursor true) new (next_phase phase message) a b k k asked
-            (message, record { frame = frame; bytes = refl; message_is = takes.message_is }, refl) unfit
+            up_refused (up_at bytes cursor false phase) (link_at rest cursor true) new (next_phase phase message) a b k k asked refl
+            (message, record { frame = frame; bytes = refl; message_is = takes.message_is }, (λ same. refl), refl) unfit
 
   -- what is over doesn't say how the link is left
   pub up_any : {reason : SessionEnd} {s : UpState} (new other : LinkState) (phase : UpPhase) {a b : A} {k l : SinkSeen} → LeadsUp does s a k (Some reason) (record { link = new; phase = phase }) b l

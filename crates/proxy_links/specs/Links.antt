@@ -131,10 +131,15 @@ Leads tongue old (deed ∷ deeds) new =
 abbrev pub IsPutEnd : SessionEnd → Type 0
 IsPutEnd reason = (reason ≡ end.WriteFault) ⊎ (reason ≡ end.Memory)
 
+-- no proxy can go on with what came, which is the upstream's last frame
+abbrev pub RefusesSo : Tongue → LinkState → SessionEnd → Type 0
+RefusesSo Lines last reason = ⊥
+RefusesSo Frames last reason = (last.owes ≡ true) × (reason ≡ end.BadSetup)
+
 abbrev pub StopsBy : Tongue → LinkState → Stop → SessionEnd → Type 0
 StopsBy tongue last Overran reason = (last.owes ≡ false) × Overruns tongue last.unmet reason
 StopsBy tongue last Broke reason = (last.owes ≡ false) × BreaksItem tongue last.unmet reason
-StopsBy tongue last Refused reason = reason ≡ end.BadSetup
+StopsBy tongue last Refused reason = RefusesSo tongue last reason
 StopsBy tongue last Lacked reason = reason ≡ end.Memory
 StopsBy tongue last (Untold item call) reason =
     (rest : List ℕ) × (last.owes ≡ false) × CutsItem tongue last.unmet item rest

@@ -1,6 +1,7 @@
 -- What hearing a miner's link does, and a miner's link from its Join to its Leave (this project's own).
 use Rattle.std.specs.Prelude.{◌≡◌, ◌⊎◌, ℕ, ◌++◌, true, false, Option, None, Some, Result, Ok, Err, List, [], ◌∷◌}
 use Rattle.std.specs.declared.alloc.AllocError.{AllocError}
+use Rattle.line_reader.specs.Lines.{IsLineText}
 use Rattle.pool_io.specs.declared.turn.Turn.{Turn}
 use Rattle.pool_io.specs.declared.turn.Turn.TheVariants as turn
 use Rattle.pool_io.specs.Seen.{SinkSeen}
@@ -34,12 +35,12 @@ LeadsFrom does came old sink over new sink' =
     LeadsOn Lines does (link_at (old.held ++ came) old.cursor false) old.asking sink over
     (link_at new.held new.cursor false) new.asking sink'
 
--- bytes that came are cut into lines, each of which is asked for and followed by a poll; so is an Idle
--- turn; at the input's end nothing more is asked
+-- bytes that came are cut into lines, up to the front of one, which is held; each is asked for and followed
+-- by a poll; so is an Idle turn; at the input's end nothing more is asked
 abbrev pub HearsMiner : {A : Type 0} → (A → ProxyCall → A → Type 0) → MinerStand A → SinkSeen → Turn
     → Option SessionEnd → MinerStand A → SinkSeen → Type 0
 HearsMiner does old sink (turn.Piece bytes) over new sink' =
-    LeadsFrom does bytes old sink over new sink'
+    LeadsFrom does bytes old sink over new sink' × (over ≡ None → IsLineText new.held)
 HearsMiner does old sink turn.Idle over new sink' =
     LeadsOn Lines does (link_at old.held old.cursor true) old.asking sink over
     (link_at new.held new.cursor false) new.asking sink'

@@ -7,6 +7,7 @@ use Rattle.pool_network.specs.Seen.{LinkSeen}
 use Rattle.link_turns.specs.Waits.{new_waiting}
 use Rattle.link_hearing.specs.Hearing.{HearsAll, hearing_at}
 use Rattle.sv2_frames.specs.Framing.{FrameValue, frame_bytes}
+use Rattle.sv2_frames.specs.Holding.{IsCutWithin}
 use Rattle.sv2_messages.specs.Messages.{Message, MsgOf}
 use Rattle.sv2_messages.specs.Tables.{mining_table}
 use Rattle.proxy_rules.specs.declared.requests.ProxyRequest.TheVariants as request
@@ -16,8 +17,8 @@ use Rattle.session_steps.specs.States.{input_end}
 use Rattle.proxy_links.specs.declared.phase.UpPhase.{UpPhase}
 use Rattle.proxy_links.specs.declared.phase.UpPhase.TheVariants.{Unset, Unfit}
 use Rattle.proxy_links.specs.Calls.{ProxyCall}
-use Rattle.proxy_links.specs.Frames.{next_phase}
-use Rattle.proxy_links.specs.Links.{Deed, Frames, LeadsOn, LinkState, Passed, Polled, Told, link_at}
+use Rattle.proxy_links.specs.Frames.{most_payload, next_phase}
+use Rattle.proxy_links.specs.Links.{Deed, Frames, IsPutEnd, LeadsOn, LinkState, Passed, Polled, Told, link_at}
 use Rattle.proxy_links.specs.Serving.{LeavesAtEnd}
 
 -- an item is a frame with this message
@@ -26,11 +27,13 @@ pub record IsFrameOf (item : List ℕ) (message : Message) : Type 0 where
   pub bytes : item ≡ frame_bytes frame
   pub message_is : MsgOf mining_table frame.kind frame.payload message
 
--- the messages of the frames that were asked for lead from the one phase to the other
+-- the messages of the frames that were asked for lead from the one phase to the other; behind the one that
+-- shows that no proxy can go on nothing was done
 abbrev pub PhasesThrough : UpPhase → List Deed → UpPhase → Type 0
 PhasesThrough old [] new = new ≡ old
 PhasesThrough old (Told item call ∷ deeds) new =
     (message : Message) × IsFrameOf item message
+    × (next_phase old message ≡ Unfit → deeds ≡ [])
     × PhasesThrough (next_phase old message) deeds new
 PhasesThrough old (Passed item ∷ deeds) new = PhasesThrough old deeds new
 PhasesThrough old (Polled bytes call ∷ deeds) new = PhasesThrough old deeds new
@@ -63,13 +66,18 @@ abbrev pub up_stand : {A : Type 0} → List ℕ → ℕ → UpPhase → A → Up
 up_stand held cursor phase asking =
     record { held = held; cursor = cursor; phase = phase; asking = asking }
 
--- bytes that came are cut into frames, each of which is asked for where it is a message that is taken, and
--- followed by a poll; so is an Idle turn; at the input's end nothing more is asked
+-- no whole frame is held, and none that is too long begins
+abbrev pub HoldsNoFrame : List ℕ → Type 0
+HoldsNoFrame held = IsCutWithin (record { held = held; limit = most_payload })
+
+-- bytes that came are cut into frames up to a last one that isn't whole; each is asked for where it is a
+-- message that is taken, and followed by a poll; so is an Idle turn; at the input's end nothing more is asked
 abbrev pub HearsUpstream : {A : Type 0} → (A → ProxyCall → A → Type 0) → UpStand A → SinkSeen → Turn
     → Option SessionEnd → UpStand A → SinkSeen → Type 0
 HearsUpstream does old sink (turn.Piece bytes) over new sink' =
     LeadsUp does (up_at (old.held ++ bytes) old.cursor false old.phase) old.asking sink over
     (up_at new.held new.cursor false new.phase) new.asking sink'
+    × (over ≡ None → HoldsNoFrame new.held)
 HearsUpstream does old sink turn.Idle over new sink' =
     LeadsUp does (up_at old.held old.cursor true old.phase) old.asking sink over
     (up_at new.held new.cursor false new.phase) new.asking sink'
@@ -99,6 +107,7 @@ pub record HearsNoUpstream {A : Type 0} (does : A → ProxyCall → A → Type 0
   pub cursor : ℕ
   pub source : after.source ≡ before.source
   pub unset : phase ≡ Unset
+  pub put_end : IsPutEnd reason
   pub polled : LeadsOn Frames does (link_at [] 0 true) old before.sink (Some reason)
       (link_at [] cursor false) new after.sink
 

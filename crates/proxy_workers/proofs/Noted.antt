@@ -37,7 +37,7 @@ module _ {A B : Type 0} (see : A → B) (does : A → ProxyCall → A → Type 0
 
   miner_shown : (old new : MinerStand A) (k l : SinkSeen) (told : Turn) (over : Option SessionEnd) → HearsMiner does old k told over new l
       → HearsMiner shown (miner_seen old) k told over (miner_seen new) l
-  miner_shown old new k l (turn.Piece bytes) over h = leads_shown _ _ _ old.asking new.asking k l over h
+  miner_shown old new k l (turn.Piece bytes) over h = (leads_shown _ _ _ old.asking new.asking k l over h.0, h.1)
   miner_shown old new k l turn.Idle over h = leads_shown _ _ _ old.asking new.asking k l over h
   miner_shown old new k l turn.End over h = (h.0, ap miner_seen h.1, h.2)
 
@@ -95,7 +95,7 @@ module _ {A B : Type 0} (see : A → B) (does : A → ProxyCall → A → Type 0
 
   up_shown : (old new : UpStand A) (k l : SinkSeen) (told : Turn) (over : Option SessionEnd) → HearsUpstream does old k told over new l
       → HearsUpstream shown (up_seen old) k told over (up_seen new) l
-  up_shown old new k l (turn.Piece bytes) over h = up_leads_shown _ _ old.asking new.asking k l over h
+  up_shown old new k l (turn.Piece bytes) over h = (up_leads_shown _ _ old.asking new.asking k l over h.0, h.1)
   up_shown old new k l turn.Idle over h = up_leads_shown _ _ old.asking new.asking k l over h
   up_shown old new k l turn.End over h = (h.0, ap up_seen h.1, h.2)
 
@@ -118,6 +118,7 @@ module _ {A B : Type 0} (see : A → B) (does : A → ProxyCall → A → Type 0
     cursor = h.cursor;
     source = h.source;
     unset = h.unset;
+    put_end = h.put_end;
     polled = leads_shown _ _ _ old new before.sink after.sink (Some reason) h.polled;
   }))
   up_link_shown idle_turns old new before after reason phase (inr (inr h)) =

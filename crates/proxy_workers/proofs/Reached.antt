@@ -49,12 +49,12 @@ module _ {A : Type 0} (does : A → ProxyCall → A → Type 0) where
         reach_both _ (asking h.last.hearer) _ (reach_each (hearing_at waiting old before) h.last h.turns h.on) (reach_end h.last (hearing_at h.left new after) reason h.ends)
 
   miner_turn : (old new : MinerStand A) (k l : SinkSeen) (told : Turn) (over : Option SessionEnd) → HearsMiner does old k told over new l → Reaches old.asking new.asking
-  miner_turn old new k l (turn.Piece bytes) over h = reach_leads _ _ _ _ _ k l over h
+  miner_turn old new k l (turn.Piece bytes) over h = reach_leads _ _ _ _ _ k l over h.0
   miner_turn old new k l turn.Idle over h = reach_leads _ _ _ _ _ k l over h
   miner_turn old new k l turn.End over h = reach_none _ _ (ap (λ (s : MinerStand A). s.asking) h.1)
 
   up_turn : (old new : UpStand A) (k l : SinkSeen) (told : Turn) (over : Option SessionEnd) → HearsUpstream does old k told over new l → Reaches old.asking new.asking
-  up_turn old new k l (turn.Piece bytes) over h = reach_leads _ _ _ _ _ k l over h.leads
+  up_turn old new k l (turn.Piece bytes) over h = reach_leads _ _ _ _ _ k l over h.0.leads
   up_turn old new k l turn.Idle over h = reach_leads _ _ _ _ _ k l over h.leads
   up_turn old new k l turn.End over h = reach_none _ _ (ap (λ (s : UpStand A). s.asking) h.1)
 

@@ -39,6 +39,7 @@ returns-in-Err-clause-hears g c = inr (inl (record {
   cursor = c.tell_news.new.cursor;
   source = c.tell_news.ensures.source;
   unset = c.requires.new.2;
+  put_end = c.in-Err.ensures.ends;
   polled = subst (λ (n : ℕ). LeadsOn Frames g.A.ProxyAsking.does (link_at [] n true) c.args.self.now.asking.now (g.L.Link.seen c.args.link.now).sink (Some c.in-Err.end)
       (link_at [] c.tell_news.new.cursor false) c.tell_news.new.asking (g.L.Link.seen c.tell_news.new.link).sink) c.requires.new.1 (c.in-Err.ensures.polls Frames []).0;
 }))
