@@ -23,7 +23,7 @@ use Rattle.disk_book.specs.declared.leaving.TheConstants.{WORKERS}
 use Rattle.disk_book.specs.Books.{GoesOnFromRecords, HasNoBook, HasNotBegun, HasNotLeft, IsBegun, IsNotMadeOf, IsNotResumed, IsOpenedLedger, LeavesFronts, LeavesJustFound, StoresJustFound, keeper_on}
 use Rattle.disk_book.specs.Laws.{CrashesAreGoneOnWith}
 use Rattle.disk_book.specs.Causes.{is_wrong}
-use Rattle.disk_book.specs.Runs.{DiskRun, FollowEachOther, HasCrashed, HasGoneOn, HasStood, NothingAnsweredIsLost, OwnLedgersAreNotRefused}
+use Rattle.disk_book.specs.Runs.{DiskRun, FollowEachOther, HasCrashed, HasGoneOn, HasStood, NothingStoredIsLost, OwnLedgersAreNotRefused}
 use Rattle.disk_book.proofs.GoneOn.{begins_on, goes_on_from, made_on, may_at, none_begins, some_is}
 use Rattle.disk_book.proofs.Leaves.{leave_begins}
 use Rattle.disk_book.proofs.Opened.{settled_fresh}
@@ -320,7 +320,7 @@ module _ (gone : CrashesAreGoneOnWith) (one : LedgersAreOfOneHistory) (empty : E
       let here : Holds front run.found = subst (λ (c : List ℕ). Holds front c) (sym follow.0) holds in
       (λ on. ready_begins front run here follow.2 on, through front run.left runs (by_run front run here follow.2 follow.1) follow.3)
 
-  pub lasting : NothingAnsweredIsLost
+  pub lasting : NothingStoredIsLost
   lasting found run runs follow on =
       let crashed = follow.2 in
       through (take run.count run.history) run.left runs

@@ -61,8 +61,8 @@ FollowEachOther found (run ∷ runs) =
 
 -- What was there for good when a run crashed stands at the front of each later run's history, through
 -- any number of crashes between them, and of runs that had no book.
-abbrev pub NothingAnsweredIsLost : Type 0
-NothingAnsweredIsLost =
+abbrev pub NothingStoredIsLost : Type 0
+NothingStoredIsLost =
     (found : List ℕ) (run : DiskRun) (runs : List DiskRun) → FollowEachOther found (run ∷ runs)
     → HasGoneOn run
     → AllByRecursion

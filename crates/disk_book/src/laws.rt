@@ -1,7 +1,7 @@
 //! What is said of runs one after the other.
 
 ghost use Rattle.disk_book.specs.Laws.{CrashesAreGoneOnWith, NextRunsGoOn};
-ghost use Rattle.disk_book.specs.Runs.{NothingAnsweredIsLost, OwnLedgersAreNotRefused};
+ghost use Rattle.disk_book.specs.Runs.{NothingStoredIsLost, OwnLedgersAreNotRefused};
 
 use history_laws::{empty_is_legal, legal_histories_start, prefixes_are_legal};
 use ledger_laws::ledgers_are_of_one_history;
@@ -26,8 +26,8 @@ pub fn next_runs_go_on()
 
 /// What was there for good when a machine crashed stands at the front of the history of each run that
 /// follows, through any number of crashes, and of runs that had no book.
-pub fn nothing_answered_is_lost()
-    ensures { NothingAnsweredIsLost }
+pub fn nothing_stored_is_lost()
+    ensures { NothingStoredIsLost }
 {
     crashes_are_gone_on_with();
     ledgers_are_of_one_history();

@@ -10,7 +10,6 @@ mod starting;
 
 pub use cause::NoBook;
 pub use laws::{
-    crashes_are_gone_on_with, next_runs_go_on, nothing_answered_is_lost,
-    own_ledgers_are_not_refused,
+    crashes_are_gone_on_with, next_runs_go_on, nothing_stored_is_lost, own_ledgers_are_not_refused,
 };
 pub use ready::{open_ledger, ready_book};

@@ -20,8 +20,8 @@ use Rattle.stream_commands.specs.declared.status.Status.{Status}
 use Rattle.serve_command.specs.Row.{HasFailureBy, HasReasonBy, places_by, service_by}
 use Rattle.serve_command.specs.Serving.{ReachedSeen, Served, ServesOnNetwork, Unserved}
 use Rattle.serve_command.specs.Words.{report_text}
-use Rattle.serve_command.proofs.Given.{came_back}
-use Rattle.serve_command.proofs.Reasons.{behind, printed_or, served_with, unserved, without}
+use Rattle.network_places.proofs.Given.{came_back}
+use Rattle.serve_command.proofs.Reasons.{behind, report_printed, served_with, unserved, without}
 use Rattle.disk_book.specs.declared.cause.NoBook.{NoBook}
 use Rattle.disk_book.specs.declared.cause.NoBook.TheVariants as cause
 use Rattle.disk_book.specs.Books.{HasNoBook, IsNotMadeOf}
@@ -72,7 +72,7 @@ module _ (settings_name ledger_name : List ℕ) (old new : Surroundings) (read :
         subst Fails (sym finishes.1)
         (served_with Kept Wrong before (world_in new) settings ready ended reason ledger_faults door_faults door_memory finishes.0 serves
         (λ rose. failed_disk ended ready finishes.3 rose)
-        (printed_or Kept Wrong before (world_in new) read new.host refl refl (report_text reason ended.events) finishes.0 finishes.2))
+        (report_printed Kept Wrong before (world_in new) read new.host refl refl (report_text reason ended.events) finishes.0 finishes.2))
     served answer ready (Unserved ended error) serves finishes =
         subst Fails (sym finishes.0) (unserved Kept Wrong before (world_in new) settings error serves.1)
 

@@ -89,5 +89,4 @@ others = record {
   unready = λ rules idle_turns old new cause found is serves. stands_on rules old.disk new.disk found cause is serves.2;
   unservable = λ settings disk old new status found is stands. unserved settings disk stands.back found stands.cause is stands.none;
   audited = opened_at_most;
-  unused = untouched;
 }

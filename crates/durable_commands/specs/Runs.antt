@@ -68,8 +68,8 @@ StandsOn rules found disk =
       left = left;
     })
 
--- So is what else is done with a disk: where no book was ready for a session, or for many; where an audit
--- opened it; and where it came back as it was given, since something else was refused.
+-- So is what else is done with a disk: where no book was ready for a session, or for many; and where an
+-- audit opened it.
 pub record OthersStand : Type 0 where
   pub unready : (rules : Rules) (idle_turns : ℕ) (old new : DiskOutsides) (cause : NoBook)
       (found : List ℕ) → old.disk ≡ opened_disk (Some found)
@@ -81,5 +81,3 @@ pub record OthersStand : Type 0 where
   pub audited : (rules : Rules) (disk back : DiskSeen) (old new : SinkSeen) (status : Status)
       (found : List ℕ) → disk ≡ opened_disk (Some found) → AuditsDisk disk back old new status
       → StandsOn rules found back
-  pub unused : (rules : Rules) (disk : DiskSeen) (found : List ℕ)
-      → disk ≡ opened_disk (Some found) → StandsOn rules found disk

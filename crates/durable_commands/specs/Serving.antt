@@ -13,7 +13,8 @@ use Rattle.stream_commands.specs.Printing.{PrintsText}
 use Rattle.stream_commands.specs.Statuses.{status_of_refusal}
 use Rattle.stream_commands.specs.declared.status.Status.{Status}
 use Rattle.stream_commands.specs.declared.status.Status.TheVariants as status
-use Rattle.serve_command.specs.Row.{HasFailedItem, HasReasonBy, places_by, service_by}
+use Rattle.network_places.specs.Failing.{HasFailedItem}
+use Rattle.serve_command.specs.Row.{HasReasonBy, places_by, service_by}
 use Rattle.serve_command.specs.Serving.{ReachedSeen, Served, ServesOnNetwork, Unserved}
 use Rattle.serve_command.specs.Statuses.{status_of_served}
 use Rattle.serve_command.specs.Words.{report_text}

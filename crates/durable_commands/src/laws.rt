@@ -3,8 +3,8 @@
 ghost use Rattle.durable_commands.specs.Runs.{OthersStand, ServingsAreRuns, SessionsAreRuns};
 
 /// What a command does with a disk is a run on it, that went on or that stood; so, by
-/// `disk_book::nothing_answered_is_lost`, what was answered stands at the front of the history of each
-/// run that follows, through any number of crashes.
+/// `disk_book::nothing_stored_is_lost`, what was there for good stands at the front of the history of
+/// each run that follows, through any number of crashes.
 pub fn commands_are_runs()
     ensures sessions { SessionsAreRuns }
     ensures servings { ServingsAreRuns }

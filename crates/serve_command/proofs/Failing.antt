@@ -1,5 +1,5 @@
 -- What was counted comes from a count that rose.
-use Rattle.std.proofs.Common.{◌≡◌, ℕ, ◌+◌, ◌<◌, ◌≤◌, Bool, true, false, List, [], ◌∷◌, ◌++◌, map, refl, subst, arith, inl, inr}
+use Rattle.std.proofs.Common.{ℕ, ◌+◌, ◌<◌, ◌≤◌, List, [], ◌∷◌, ◌++◌, map, refl, subst, arith}
 use Rattle.std.specs.List.{AllByRecursion}
 use Rattle.std.proofs.lemmas.List.Elements.{All-from_recursion, recursion_from_All}
 use Rattle.std.proofs.lemmas.List.Sorted.{All-permutation}
@@ -16,11 +16,12 @@ use Rattle.pool_history.specs.Calls.{GoodPoolCalls, PoolCall, has_keeper_failed,
 use Rattle.door_workers.specs.Asking.{is_failed_end}
 use Rattle.session_workers.specs.Shifts.{Shift}
 use Rattle.session_steps.specs.declared.ends.SessionEnd.{SessionEnd}
-use Rattle.pool_server.specs.Counting.{count_if, failed_in, faulted_in}
+use Rattle.pool_server.specs.Counting.{count_if, faulted_in}
 use Rattle.pool_server.specs.Parts.{Service}
 use Rattle.pool_server.specs.Serving.{AreShifts, Hall, HasRun}
 use Rattle.pool_server.specs.Tending.{all_calls}
-use Rattle.serve_command.specs.Serving.{SomeDoorFailed}
+use Rattle.network_places.specs.Failing.{SomeDoorFailed}
+use Rattle.network_places.proofs.Failed.{some_failed}
 
 parts_le : (reached : List Event) (number least : ℕ) (events : List Event) (most : ℕ) (calls : List PoolCall)
     → PartsFrom reached number least events most calls → least ≤ most
@@ -57,18 +58,11 @@ some_faulted events least most [] good rises some = absurd (omega (arith, some))
 some_faulted events least most (call ∷ calls) good rises some =
     faulted_or good.0.before call call.outcome (faulted_in calls) good.0.outcome rises.0 (λ more. some_faulted events least most calls good.1 rises.1 more) some
 
-failed_or : {G : Type 0} (failed : Bool) (before now later : ℕ) → CountsFailure failed before now → (Rose before now → G) → (0 < later → G)
-    → 0 < count_if failed + later → G
-failed_or true before now later counts rises more some = rises (omega (arith, counts))
-failed_or false before now later counts rises more some = more (omega (arith, some))
-
-some_failed : (service : Service) (worker : ℕ) (shifts : List Shift) → AreShifts service worker shifts
-    → 0 < failed_in (map (λ (s : Shift). s.reason) shifts)
-    → SomeDoorFailed (map (λ (s : Shift). s.before) shifts) (map (λ (s : Shift). s.after) shifts)
-some_failed service worker [] are some = absurd (omega (arith, some))
-some_failed service worker (shift ∷ shifts) are some =
-    failed_or (is_failed_end shift.reason) shift.before.faults shift.after.faults
-    (failed_in (map (λ (s : Shift). s.reason) shifts)) are.0.asked.counts (λ rose. inl rose) (λ more. inr (some_failed service (worker + 1) shifts are.1 more)) some
+-- the doors' counts are those of the shifts
+all_counted : (service : Service) (worker : ℕ) (shifts : List Shift) → AreShifts service worker shifts
+    → AllByRecursion (λ (s : Shift). CountsFailure (is_failed_end s.reason) s.before.faults s.after.faults) shifts
+all_counted service worker [] are = tt
+all_counted service worker (shift ∷ shifts) are = (are.0.asked.counts, all_counted service (worker + 1) shifts are.1)
 
 -- what `serve` counted
 module _ (service : Service) (old new : Hall) (reason : SessionEnd)
@@ -85,4 +79,5 @@ module _ (service : Service) (old new : Hall) (reason : SessionEnd)
   doors_failed some =
       subst (λ olds. SomeDoorFailed olds new.doors) ran.doors_before
       (subst (λ news. SomeDoorFailed (map (λ (s : Shift). s.before) ran.shifts) news) ran.doors_after
-      (some_failed service 1 ran.shifts ran.worked (omega (arith, ran.door_faults_are, some))))
+      (some_failed (λ (s : Shift). s.before) (λ (s : Shift). s.after) (λ (s : Shift). s.reason) ran.shifts (all_counted service 1 ran.shifts ran.worked)
+      (omega (arith, ran.door_faults_are, some))))

@@ -1,3 +1,2 @@
 pub mod Failing
-pub mod Given
 pub mod Reasons

@@ -1,12 +1,12 @@
 -- Each status of `serve` has its reason.
-use Rattle.std.proofs.Common.{◌≡◌, ℕ, ◌<◌, Bool, true, false, List, [], Option, None, Some, Result, Ok, Err, refl, sym, ap, subst, ◌∙◌, arith, inl, inr, suc, zero}
+use Rattle.std.proofs.Common.{◌≡◌, ℕ, ◌<◌, List, Option, None, Some, Result, Ok, Err, refl, sym, ap, subst, ◌∙◌, arith, inl, inr}
 use Rattle.std.proofs.lemmas.Bool.{cond_both}
 use Rattle.std.specs.Prelude.{◌==◌, if◌then◌else◌}
 use Rattle.pool_base.specs.Counts.{Rose}
 use Rattle.pool_io.specs.declared.host.HostError.{HostError}
 use Rattle.pool_io.specs.declared.host.HostError.TheVariants as host
 use Rattle.pool_io.specs.declared.turn.Turn.{Turn}
-use Rattle.pool_io.specs.Hosts.{CameBack, HostSeen, IsKeeperGiven, IsRefusedKeeper, StreamsSeen}
+use Rattle.pool_io.specs.Hosts.{CameBack, HostSeen, IsKeeperGiven, StreamsSeen}
 use Rattle.pool_io.specs.Lending.{Lending, with_back}
 use Rattle.pool_io.specs.Openings.{Openings}
 use Rattle.pool_io.specs.Outside.{CountsFailure, is_failed_gift}
@@ -25,22 +25,19 @@ use Rattle.pool_settings.specs.Opened.{AnswersBytes, AnswersFile, OpensSettings,
 use Rattle.pool_settings.specs.declared.opening.NoSettings.{NoSettings}
 use Rattle.pool_settings.specs.declared.opening.NoSettings.TheVariants as no_settings
 use Rattle.share_ledger.specs.Books.{BookSeen}
-use Rattle.stream_commands.specs.Texts.{PutsText}
 use Rattle.stream_commands.specs.Reading.{IsOutside, is_read_fault}
 use Rattle.stream_commands.specs.declared.reading.Unread.{Unread}
 use Rattle.stream_commands.specs.declared.reading.Unread.TheVariants as unread
-use Rattle.serve_command.specs.Row.{BringsSettings, FinishesServing, GivesKeeperBack, HasFailedKeeper, HasFailureBy, HasNoStart, HasReason, HasReasonBy, ServeRow, ServesAfterSettings, ServesByNames, ServesOnBook, ServesWithKeeper, places_by, service_by}
+use Rattle.serve_command.specs.Row.{BringsSettings, FinishesServing, GivesKeeperBack, HasFailedKeeper, HasFailureBy, HasReason, HasReasonBy, ServeRow, ServesAfterSettings, ServesByNames, ServesOnBook, ServesWithKeeper, places_by, service_by}
 use Rattle.pool_network.specs.Worlds.{WorldSeen}
-use Rattle.stream_commands.specs.Printing.{HasNoOutput, PrintedOnHost, PrintsText}
-use Rattle.serve_command.specs.Serving.{IsUnserved, ReachedSeen, Served, ServesOnNetwork, Unserved}
+use Rattle.stream_commands.specs.Printing.{HasNoOutput, PrintsText}
+use Rattle.network_places.specs.Places.{IsUnserved}
+use Rattle.serve_command.specs.Serving.{ReachedSeen, Served, ServesOnNetwork, Unserved}
 use Rattle.serve_command.specs.Statuses.{status_by_faults, status_of_served, status_of_start}
 use Rattle.serve_command.specs.Words.{report_text}
-use Rattle.serve_command.proofs.Given.{came_back}
-
--- a count that isn't none
-some_if : (n : ℕ) → (n == 0) ≡ false → 0 < n
-some_if zero is = cc
-some_if (suc n) is = omega arith
+use Rattle.network_places.proofs.Failed.{some_if}
+use Rattle.network_places.proofs.Given.{came_back}
+use Rattle.network_places.proofs.Printed.{printed_or, refused}
 
 -- what holds at each of its causes holds at the status of a serving
 module _ (P : Status → Type 0) (ledger_faults door_faults door_memory : ℕ) (memory : P status.Memory) (kept : 0 < ledger_faults → P status.KeeperFault)
@@ -67,46 +64,27 @@ module _ (P : Status → Type 0) (ledger_faults door_faults door_memory : ℕ) (
 
 -- from the moment when there were settings, whatever a failure of what keeps the records is
 module _ (Kept Wrong : Type 0) (old new : WorldSeen) where
+  abbrev Fails : Status → Type 0
+  Fails = HasFailureBy Kept Wrong old new
+
   host_refused : (error : HostError) → CountsFailure (is_failed_gift {A = Unit {0}} (Err error)) old.host.streams.faults new.host.streams.faults
-      → HasFailureBy Kept Wrong old new (status_of_refusal error)
-  host_refused host.Failed counts = inl (omega (arith, counts))
-  host_refused host.Memory counts = tt
+      → Fails (status_of_refusal error)
+  host_refused = refused Fails old.host.streams.faults new.host.streams.faults tt (λ rose. inl rose)
 
   network_refused : (error : HostError) → CountsFailure (is_failed_gift {A = Unit {0}} (Err error)) old.network.faults new.network.faults
-      → HasFailureBy Kept Wrong old new (status_of_refusal error)
-  network_refused host.Failed counts = inr (inl (omega (arith, counts)))
-  network_refused host.Memory counts = tt
+      → Fails (status_of_refusal error)
+  network_refused = refused Fails old.network.faults new.network.faults tt (λ rose. inr (inl rose))
 
   pub unserved : (settings : Settings) (error : HostError) → IsUnserved (places_by settings) old.network new.network error
       → HasFailureBy Kept Wrong old new (status_of_refusal error)
-  unserved settings error (inl none) = network_refused error none.counts
-  unserved settings error (inr (inl none)) = network_refused error none.counts
-  unserved settings error (inr (inr none)) = subst (λ e. HasFailureBy Kept Wrong old new (status_of_refusal e)) (sym none.error_is) tt
+  unserved settings error (inl (inl none)) = network_refused error none.counts
+  unserved settings error (inl (inr none)) = network_refused error none.counts
+  unserved settings error (inr none) = subst (λ e. HasFailureBy Kept Wrong old new (status_of_refusal e)) (sym none.error_is) tt
 
   -- the report was printed where the host's streams stood as before
-  module _ (given middle : HostSeen) (begun : given.streams ≡ old.host.streams) (same : new.host.streams ≡ middle.streams) where
-    unprinted : (error : HostError) → HasNoOutput given middle error → HasFailureBy Kept Wrong old new (status_of_refusal error)
-    unprinted error none =
-        host_refused error
-        (subst (λ n. CountsFailure (is_failed_gift {A = Unit {0}} (Err error)) n new.host.streams.faults) (ap (λ (s : StreamsSeen). s.faults) begun)
-        (subst (λ n. CountsFailure (is_failed_gift {A = Unit {0}} (Err error)) given.streams.faults n) (ap (λ (s : StreamsSeen). s.faults) (sym same)) none.counts))
-
-    printed_by : (text : List ℕ) (printed : Status) (prints : PrintedOnHost text status.Done given middle printed)
-        → PutsText (record { faults = 0; held = given.streams.output }) prints.put text status.Done printed → HasFailureBy Kept Wrong old new printed
-    printed_by text printed prints (inl done) = subst (HasFailureBy Kept Wrong old new) (sym done.0) tt
-    printed_by text printed prints (inr front) = elim front.cause [
-      | inl failed ↦ subst (HasFailureBy Kept Wrong old new) (sym failed.0) (
-        prints.put,
-        subst (λ sinks. CameBack old.host.streams.sinks sinks prints.put) (ap (λ (s : StreamsSeen). s.sinks) (sym same))
-            (subst (λ sinks. CameBack sinks middle.streams.sinks prints.put) (ap (λ (s : StreamsSeen). s.sinks) begun) prints.sinks),
-        omega (arith, failed.1),
-      )
-      | inr memory ↦ subst (HasFailureBy Kept Wrong old new) (sym memory.0) tt
-    ]
-
-    pub printed_or : (text : List ℕ) (printed : Status) → PrintsText text status.Done given middle printed → HasFailureBy Kept Wrong old new printed
-    printed_or text printed (inl prints) = printed_by text printed prints prints.puts
-    printed_or text printed (inr none) = subst (HasFailureBy Kept Wrong old new) (sym none.1) (unprinted none.0 none.2)
+  pub report_printed : (given middle : HostSeen) → given.streams ≡ old.host.streams → new.host.streams ≡ middle.streams → (text : List ℕ) (printed : Status)
+      → PrintsText text status.Done given middle printed → Fails printed
+  report_printed = printed_or Fails old.host new.host tt tt (λ failed. failed) (λ rose. inl rose)
 
   -- all were served, and the report was printed, or not
   pub served_with : (settings : Settings) (begun ended : BookSeen) (reason : SessionEnd) (ledger_faults door_faults door_memory : ℕ) (printed : Status)
@@ -163,7 +141,7 @@ module _ (old new : WorldSeen) where
         subst HasFailed (sym finishes.1)
         (served_with (HasFailedKeeper old.host new.host) ⊥ old new settings begun ended reason ledger_faults door_faults door_memory printed serves
         (λ (rose : Rose begun.keeper.faults ended.keeper.faults). kept reported.middle ended.keeper (still_out text reported.middle printed reported.prints) reported.back (omega (arith, rose)))
-        (printed_or (HasFailedKeeper old.host new.host) ⊥ old new given reported.middle out.streams reported.back.streams text printed reported.prints))
+        (report_printed (HasFailedKeeper old.host new.host) ⊥ old new given reported.middle out.streams reported.back.streams text printed reported.prints))
     served_by settings answer begun (Unserved ended error) serves finishes =
         subst HasFailed (sym finishes.0) (unserved (HasFailedKeeper old.host new.host) ⊥ old new settings error serves.1)
 

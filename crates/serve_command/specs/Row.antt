@@ -1,10 +1,9 @@
 -- What `serve SETTINGS LEDGER` owes at each status (this project's own).
-use Rattle.std.specs.Prelude.{ℕ, ◌<◌, ◌≡◌, ◌⊎◌, List, [], ◌∷◌, Option, None, Some, Result, Ok, Err}
+use Rattle.std.specs.Prelude.{ℕ, ◌≡◌, ◌⊎◌, List, [], ◌∷◌, Option, None, Some, Result, Ok, Err}
 use Rattle.pool_base.specs.Counts.{Rose}
 use Rattle.pool_io.specs.declared.host.HostError.{HostError}
 use Rattle.pool_io.specs.declared.turn.Turn.{Turn}
-use Rattle.pool_io.specs.Hosts.{CameBack, HostSeen, IsKeeperGiven, IsRefusedKeeper}
-use Rattle.pool_io.specs.Lending.{Lending}
+use Rattle.pool_io.specs.Hosts.{HostSeen, IsKeeperGiven, IsRefusedKeeper}
 use Rattle.pool_io.specs.Openings.{with_keeper_back}
 use Rattle.pool_io.specs.Outside.{CountsFailure}
 use Rattle.pool_io.specs.Seen.{KeeperSeen, SinkSeen, SourceSeen}
@@ -12,8 +11,8 @@ use Rattle.pool_io.specs.Steps.{bytes_in, steps_of}
 use Rattle.pool_history.specs.declared.events.Event.TheVariants as event
 use Rattle.pool_history.specs.declared.refusals.BookError.{BookError}
 use Rattle.pool_history.specs.Calls.{blames_keeper}
-use Rattle.pool_network.specs.Networks.{GivesNext, NetworkSeen}
-use Rattle.pool_network.specs.Seen.{DoorSeen}
+use Rattle.network_places.specs.Failing.{HasFailedDoor, HasFailedItem}
+use Rattle.network_places.specs.Places.{Places}
 use Rattle.pool_network.specs.Worlds.{WorldSeen}
 use Rattle.pool_settings.specs.declared.settings.Settings.{Settings}
 use Rattle.pool_settings.specs.Reading.{AreSettings}
@@ -26,7 +25,7 @@ use Rattle.share_ledger.specs.Books.{BookSeen, KeepsInstead}
 use Rattle.stream_commands.specs.Printing.{PrintsText}
 use Rattle.stream_commands.specs.Reading.{IsWhole}
 use Rattle.pool_server.specs.Parts.{Service, service_of}
-use Rattle.serve_command.specs.Serving.{Places, ReachedSeen, Served, ServesOnNetwork, SomeDoorFailed, Unserved}
+use Rattle.serve_command.specs.Serving.{ReachedSeen, Served, ServesOnNetwork, Unserved}
 use Rattle.serve_command.specs.Statuses.{status_of_served, status_of_start}
 use Rattle.serve_command.specs.Words.{report_text}
 
@@ -37,9 +36,9 @@ service_by settings =
 
 abbrev pub places_by : Settings → Places
 places_by settings = record {
-  feed = settings.feed;
+  peer = settings.feed;
   address = settings.address;
-  workers = settings.workers;
+  doors = settings.workers;
 }
 
 -- the keeper came back, and nothing else changed
@@ -114,18 +113,6 @@ ServesByNames settings_name ledger_name old new status =
     × OpensSettings settings_name old.host read answer
     × ServesAfterSettings ledger_name answer (record { host = read; network = old.network }) new
     status
-
--- one that came back between has failed
-abbrev pub HasFailedItem : {A : Type 0} → (A → ℕ) → Lending A → Lending A → Type 0
-HasFailedItem {A} faults old new = (item : A) × CameBack old new item × (0 < faults item)
-
--- the doors that were given came back, and one of them has failed
-pub record HasFailedDoor (old new : NetworkSeen) : Type 0 where
-  pub doors : List DoorSeen
-  pub doors_back : List DoorSeen
-  pub opened : GivesNext old.to_open new.to_open doors
-  pub lists : CameBack old.doors new.doors doors_back
-  pub failed : SomeDoorFailed doors doors_back
 
 -- what failed where there were settings: nothing, or memory ran out; a put of the report; what keeps
 -- the records (Kept); or the host, the network or a door. Or the ledger was none of this pool's

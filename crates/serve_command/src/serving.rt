@@ -4,6 +4,7 @@ ghost use Rattle.std.specs.Prelude.{◌≡◌, ◌<◌, ◌≤◌};
 ghost use Rattle.pool_server.specs.Parts.{service_of};
 ghost use Rattle.serve_command.specs.Serving.{ServesOnNetwork, reached_seen};
 
+use network_places::{Opened, leave_places, open_places};
 use pool_core::SessionEnd;
 use pool_io::{HostError, Keeper, Limits};
 use pool_network::{Door, Network};
@@ -47,22 +48,16 @@ where
     requires few { workers ≤ 64 }
     requires waits { (0 < limits.idle_turns) × (0 < limits.door_turns) }
     ensures served { ServesOnNetwork (service_of terms.now limits)
-        (record { feed = feed.now; address = address.now; workers = workers })
+        (record { peer = feed.now; address = address.now; doors = workers })
         (N.seen network.old) (N.seen network.new) book (reached_seen result) }
     ensures links { (N.seen network.new).links.lent ≡ (N.seen network.old).links.lent }
     ensures doors { (N.seen network.new).doors.lent ≡ (N.seen network.old).doors.lent }
 {
-    let link = match network.dial(feed) {
-        Ok(link) => link,
+    let opened = match open_places(network, feed, address, workers) {
+        Ok(opened) => opened,
         Err(error) => return Reached::Unserved(book, error),
     };
-    let doors = match network.open_doors(address, workers) {
-        Ok(doors) => doors,
-        Err(error) => {
-            network.done_link(link);
-            return Reached::Unserved(book, error);
-        }
-    };
+    let Opened { link, doors } = opened;
     match serve(rt, alloc, book, doors, link, terms, limits) {
         Served::Ran {
             book,
@@ -73,8 +68,7 @@ where
             door_faults,
             door_memory,
         } => {
-            network.done_doors(doors);
-            network.done_link(link);
+            leave_places(network, Opened { link, doors });
             Reached::Ran {
                 book,
                 feed_end,
@@ -84,8 +78,7 @@ where
             }
         }
         Served::Memory(book, doors, link) => {
-            network.done_doors(doors);
-            network.done_link(link);
+            leave_places(network, Opened { link, doors });
             Reached::Unserved(book, HostError::Memory)
         }
     }

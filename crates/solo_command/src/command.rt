@@ -53,7 +53,7 @@ pub fn declare_by_settings<H: Host>(
     keep_by_settings(alloc, host, settings_name, ledger_name, true)
 }
 
-/// Either of both.
+/// Serves one session by a settings file, which takes declarations where this is said.
 fn keep_by_settings<H: Host>(
     alloc: Global,
     host: &mut H,
