@@ -6,7 +6,7 @@ use Rattle.std.proofs.lemmas.Nat.{from_le_bytes-to_le_bytes_4}
 use Rattle.fixed_command.specs.declared.judge.Job.{Job}
 use Rattle.command_line.specs.Numbers.{IsNumber}
 use Rattle.command_line.specs.declared.words.Form.{Form}
-use Rattle.command_line.specs.declared.words.Form.TheVariants.{SoloFixed, Frames, Solo, Declare, Serve, Audit, Migrate, Load, Mine, Feed, Durable}
+use Rattle.command_line.specs.declared.words.Form.TheVariants.{SoloFixed, Frames, Solo, Declare, Serve, Audit, Migrate, Load, Mine, Feed, Proxy, Durable}
 use Rattle.command_line.specs.declared.words.OnDisk.{OnDisk}
 use Rattle.command_line.specs.declared.words.OnDisk.TheVariants as disk
 use Rattle.command_line.specs.Forms.{AskAtAddress, AskForDisk, IsDurable, IsForm, IsJob, IsSoloFixed}
@@ -175,6 +175,31 @@ one_form words (Mine class count) (Mine other most) is also =
 one_form words (Mine class count) Feed is also = absurd (let other : 109 ≡ 102 = ap (letter 0) (sym is.spelled ∙ also.spelled) in omega (arith, other))
 one_form words Feed (Mine class count) is also = absurd (let other : 102 ≡ 109 = ap (letter 0) (sym is.spelled ∙ also.spelled) in omega (arith, other))
 one_form words Feed Feed is also = refl
+one_form words (Proxy count) (SoloFixed class job) is also = absurd (let other : 112 ≡ 115 = ap (letter 0) (sym is.spelled ∙ also.spelled) in omega (arith, other))
+one_form words (SoloFixed class job) (Proxy count) is also = absurd (let other : 115 ≡ 112 = ap (letter 0) (sym is.spelled ∙ also.spelled) in omega (arith, other))
+one_form words (Proxy count) Frames is also = absurd (let other : 112 ≡ 102 = ap (letter 0) (sym is.spelled ∙ also) in omega (arith, other))
+one_form words Frames (Proxy count) is also = absurd (let other : 102 ≡ 112 = ap (letter 0) (sym is ∙ also.spelled) in omega (arith, other))
+one_form words (Proxy count) Solo is also = absurd (let other : 112 ≡ 115 = ap (letter 0) (sym is.spelled ∙ also.spelled) in omega (arith, other))
+one_form words Solo (Proxy count) is also = absurd (let other : 115 ≡ 112 = ap (letter 0) (sym is.spelled ∙ also.spelled) in omega (arith, other))
+one_form words (Proxy count) Declare is also = absurd (let other : 112 ≡ 100 = ap (letter 0) (sym is.spelled ∙ also.spelled) in omega (arith, other))
+one_form words Declare (Proxy count) is also = absurd (let other : 100 ≡ 112 = ap (letter 0) (sym is.spelled ∙ also.spelled) in omega (arith, other))
+one_form words (Proxy count) Serve is also = absurd (let other : 112 ≡ 115 = ap (letter 0) (sym is.spelled ∙ also.spelled) in omega (arith, other))
+one_form words Serve (Proxy count) is also = absurd (let other : 115 ≡ 112 = ap (letter 0) (sym is.spelled ∙ also.spelled) in omega (arith, other))
+one_form words (Proxy count) Audit is also = absurd (let other : 112 ≡ 97 = ap (letter 0) (sym is.spelled ∙ also.spelled) in omega (arith, other))
+one_form words Audit (Proxy count) is also = absurd (let other : 97 ≡ 112 = ap (letter 0) (sym is.spelled ∙ also.spelled) in omega (arith, other))
+one_form words (Proxy count) Migrate is also = absurd (let other : 112 ≡ 109 = ap (letter 0) (sym is.spelled ∙ also.spelled) in omega (arith, other))
+one_form words Migrate (Proxy count) is also = absurd (let other : 109 ≡ 112 = ap (letter 0) (sym is.spelled ∙ also.spelled) in omega (arith, other))
+one_form words (Proxy count) (Load number) is also = absurd (let other : 112 ≡ 108 = ap (letter 0) (sym is.spelled ∙ also.spelled) in omega (arith, other))
+one_form words (Load number) (Proxy count) is also = absurd (let other : 108 ≡ 112 = ap (letter 0) (sym is.spelled ∙ also.spelled) in omega (arith, other))
+one_form words (Proxy count) (Mine class most) is also = absurd (let other : 112 ≡ 109 = ap (letter 0) (sym is.spelled ∙ also.spelled) in omega (arith, other))
+one_form words (Mine class most) (Proxy count) is also = absurd (let other : 109 ≡ 112 = ap (letter 0) (sym is.spelled ∙ also.spelled) in omega (arith, other))
+one_form words (Proxy count) Feed is also = absurd (let other : 112 ≡ 102 = ap (letter 0) (sym is.spelled ∙ also.spelled) in omega (arith, other))
+one_form words Feed (Proxy count) is also = absurd (let other : 102 ≡ 112 = ap (letter 0) (sym is.spelled ∙ also.spelled) in omega (arith, other))
+one_form words (Proxy count) (Durable command) is also = absurd (let other : 112 ≡ 100 = ap (λ (w : List ℕ). get_or w 0 0) (sym (ap (λ (ws : List (List ℕ)). get_or ws 0 []) is.spelled) ∙ durably words command also) in omega (arith, other))
+one_form words (Durable command) (Proxy count) is also = absurd (let other : 100 ≡ 112 = ap (λ (w : List ℕ). get_or w 0 0) (sym (durably words command is) ∙ ap (λ (ws : List (List ℕ)). get_or ws 0 []) also.spelled) in omega (arith, other))
+one_form words (Proxy count) (Proxy other) is also =
+    let joined = sym is.spelled ∙ also.spelled in
+    ap Proxy (one_number is.digits also.digits count other (let same : is.digits ≡ also.digits = cc in same) is.is_count also.is_count)
 one_form words (SoloFixed class job) (Durable command) is also = absurd (let other : 115 ≡ 100 = ap (λ (w : List ℕ). get_or w 0 0) (sym (ap (λ (ws : List (List ℕ)). get_or ws 0 []) is.spelled) ∙ durably words command also) in omega (arith, other))
 one_form words (Durable command) (SoloFixed class job) is also = absurd (let other : 100 ≡ 115 = ap (λ (w : List ℕ). get_or w 0 0) (sym (durably words command is) ∙ ap (λ (ws : List (List ℕ)). get_or ws 0 []) also.spelled) in omega (arith, other))
 one_form words Frames (Durable command) is also = absurd (let other : 102 ≡ 100 = ap (λ (w : List ℕ). get_or w 0 0) (sym (ap (λ (ws : List (List ℕ)). get_or ws 0 []) is) ∙ durably words command also) in omega (arith, other))
@@ -206,6 +231,7 @@ within_limits words Migrate is = tt
 within_limits words (Load number) is = tt
 within_limits words (Mine class count) is = (is.easy, is.some)
 within_limits words Feed is = tt
+within_limits words (Proxy count) is = is.few
 within_limits words (Durable command) is = tt
 
 -- words that ask for nothing at an address are of a form that doesn't
@@ -220,8 +246,9 @@ alone words Migrate is none = tt
 alone words (Load number) is none = tt
 alone words (Mine class count) is none = none (inr (inl (class, count, is)))
 alone words Feed is none = none (inr (inr (inl is)))
+alone words (Proxy count) is none = none (inr (inr (inr (inl (count, is)))))
 alone words (Durable disk.Solo) is none = tt
-alone words (Durable disk.Serve) is none = none (inr (inr (inr is)))
+alone words (Durable disk.Serve) is none = none (inr (inr (inr (inr is))))
 alone words (Durable disk.Audit) is none = tt
 
 -- words that ask for no disk are of a form that doesn't
@@ -236,4 +263,5 @@ off_disk words Migrate is none = tt
 off_disk words (Load number) is none = tt
 off_disk words (Mine class count) is none = tt
 off_disk words Feed is none = tt
+off_disk words (Proxy count) is none = tt
 off_disk words (Durable command) is none = none (command, is)

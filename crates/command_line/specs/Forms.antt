@@ -3,8 +3,9 @@ use Rattle.std.specs.Prelude.{ℕ, ◌≡◌, ◌⊎◌, ◌<◌, ◌≤◌, ◌
 use Rattle.std.specs.Int.{w32, to_le_bytes}
 use Rattle.hex.specs.Hex.{decode_sized}
 use Rattle.fixed_command.specs.declared.judge.Job.{Job}
+use Rattle.pool_history.specs.Accounts.{account_of}
 use Rattle.command_line.specs.declared.words.Form.{Form}
-use Rattle.command_line.specs.declared.words.Form.TheVariants.{SoloFixed, Frames, Solo, Declare, Serve, Audit, Migrate, Load, Mine, Feed, Durable}
+use Rattle.command_line.specs.declared.words.Form.TheVariants.{SoloFixed, Frames, Solo, Declare, Serve, Audit, Migrate, Load, Mine, Feed, Proxy, Durable}
 use Rattle.command_line.specs.declared.words.OnDisk.{OnDisk}
 use Rattle.command_line.specs.declared.words.OnDisk.TheVariants as disk
 use Rattle.command_line.specs.Numbers.{IsNumber}
@@ -90,6 +91,20 @@ pub record IsFeed (words : List (List ℕ)) : Type 0 where
   pub address : List ℕ
   pub spelled : words ≡ codes "feed" ∷ script ∷ address ∷ []
 
+-- `proxy UPSTREAM USER ADDRESS COUNT`: two addresses, a user of at most 255 bytes with an account, and a
+-- count of 1 to 64
+pub record IsProxy (words : List (List ℕ)) (count : ℕ) : Type 0 where
+  pub upstream : List ℕ
+  pub user : List ℕ
+  pub address : List ℕ
+  pub digits : List ℕ
+  pub spelled : words ≡ codes "proxy" ∷ upstream ∷ user ∷ address ∷ digits ∷ []
+  pub has_account : 0 < length (account_of user)
+  pub short_user : length user ≤ 255
+  pub is_count : IsNumber digits count
+  pub some : 0 < count
+  pub few : count ≤ 64
+
 -- `durable solo SETTINGS LEDGER`: the names of a file and of a disk
 pub record IsDurableSolo (words : List (List ℕ)) : Type 0 where
   pub settings : List ℕ
@@ -125,6 +140,7 @@ IsForm words Migrate = IsMigrate words
 IsForm words (Load number) = IsLoad words number
 IsForm words (Mine class count) = IsMine words class count
 IsForm words Feed = IsFeed words
+IsForm words (Proxy count) = IsProxy words count
 IsForm words (Durable command) = IsDurable words command
 
 -- the words are none of the forms
@@ -135,7 +151,7 @@ HasNoForm words = (form : Form) → IsForm words form → ⊥
 abbrev pub AskAtAddress : List (List ℕ) → Type 0
 AskAtAddress words =
     IsServe words ⊎ ((class : ℕ) × (count : ℕ) × IsMine words class count) ⊎ IsFeed words
-    ⊎ IsDurableServe words
+    ⊎ ((count : ℕ) × IsProxy words count) ⊎ IsDurableServe words
 
 -- the words ask for a disk
 abbrev pub AskForDisk : List (List ℕ) → Type 0

@@ -15,15 +15,16 @@ use Rattle.durable_commands.specs.Surroundings.{Surroundings, world_in}
 use Rattle.feed_command.specs.Row.{FeedRow}
 use Rattle.load_command.specs.Row.{LoadRow}
 use Rattle.mine_command.specs.Row.{MineRow}
+use Rattle.proxy_command.specs.Row.{ProxyRow}
 use Rattle.serve_command.specs.Row.{ServeRow}
 use Rattle.pool_io.specs.Hosts.{HostSeen}
 use Rattle.pool_network.specs.Worlds.{WorldSeen}
 use Rattle.solo_command.specs.Row.{DeclareRow, SoloRow}
 use Rattle.command_line.specs.declared.words.Form.{Form}
-use Rattle.command_line.specs.declared.words.Form.TheVariants.{SoloFixed, Frames, Solo, Declare, Serve, Audit, Migrate, Load, Mine, Feed, Durable}
+use Rattle.command_line.specs.declared.words.Form.TheVariants.{SoloFixed, Frames, Solo, Declare, Serve, Audit, Migrate, Load, Mine, Feed, Proxy, Durable}
 use Rattle.command_line.specs.declared.words.OnDisk.{OnDisk}
 use Rattle.command_line.specs.declared.words.OnDisk.TheVariants as disk
-use Rattle.command_line.specs.Forms.{IsAudit, IsDeclare, IsDurableAudit, IsDurableServe, IsDurableSolo, IsFeed, IsMigrate, IsMine, IsServe, IsSolo}
+use Rattle.command_line.specs.Forms.{IsAudit, IsDeclare, IsDurableAudit, IsDurableServe, IsDurableSolo, IsFeed, IsMigrate, IsMine, IsProxy, IsServe, IsSolo}
 
 -- a command over standard input and output: what it owes at each status, and that it asked for
 -- these alone
@@ -32,7 +33,7 @@ OwesStreams duty old new status = StreamRow duty old.streams new.streams status
     × AsksForStreams old.openings new.openings status
 
 -- what each form of words but those over a disk owes at each status: a row a command; none but
--- `serve`, `mine` and `feed` asks the network for anything
+-- `serve`, `mine`, `feed` and `proxy` asks the network for anything
 abbrev pub OwesPlainRow : List (List ℕ) → Form → WorldSeen → WorldSeen → Status → Type 0
 OwesPlainRow words (SoloFixed class job) old new status =
     OwesStreams (share_duty class job) old.host new.host status × (new.network ≡ old.network)
@@ -61,6 +62,12 @@ OwesPlainRow words (Mine class count) old new status =
     status
 OwesPlainRow words Feed old new status =
     (names : IsFeed words) × FeedRow names.script names.address old new status
+OwesPlainRow words (Proxy count) old new status =
+    (names : IsProxy words count)
+    × ProxyRow (record {
+      user = names.user;
+      places = record { peer = names.upstream; address = names.address; doors = count };
+    }) old new status
 OwesPlainRow words (Durable command) old new status = ⊥
 
 abbrev pub on_disks : Surroundings → HostAndDisks
@@ -103,6 +110,7 @@ abbrev pub IsAlone : Form → Type 0
 IsAlone Serve = ⊥
 IsAlone (Mine class count) = ⊥
 IsAlone Feed = ⊥
+IsAlone (Proxy count) = ⊥
 IsAlone (Durable command) = StaysOffNetwork command
 IsAlone _ = Unit {0}
 
@@ -123,4 +131,5 @@ IsWithinLimits Migrate = Unit {0}
 IsWithinLimits (Load number) = Unit {0}
 IsWithinLimits (Mine class count) = (class ≤ 24) × (0 < count)
 IsWithinLimits Feed = Unit {0}
+IsWithinLimits (Proxy count) = count ≤ 64
 IsWithinLimits (Durable command) = Unit {0}

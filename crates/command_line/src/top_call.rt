@@ -8,12 +8,13 @@ ghost use Rattle.ledger_commands.specs.Auditing.{AuditRow};
 ghost use Rattle.ledger_commands.specs.Migrating.{MigrateRow};
 ghost use Rattle.feed_command.specs.Row.{FeedRow};
 ghost use Rattle.mine_command.specs.Row.{MineRow};
+ghost use Rattle.proxy_command.specs.Row.{ProxyRow};
 ghost use Rattle.serve_command.specs.Row.{ServeRow};
 ghost use Rattle.pool_io.specs.Hosts.{IsHandedBack};
 ghost use Rattle.durable_commands.specs.Surroundings.{IsAllBack, IsWorldBack, around};
 ghost use Rattle.solo_command.specs.Row.{DeclareRow, SoloRow};
 ghost use Rattle.command_line.specs.declared.words.Form.{Form as Asked};
-ghost use Rattle.command_line.specs.Forms.{AskAtAddress, AskForDisk, HasNoForm, IsAudit, IsDeclare, IsDurable, IsDurableAudit, IsDurableServe, IsDurableSolo, IsFeed, IsForm, IsMigrate, IsMine, IsServe, IsSolo};
+ghost use Rattle.command_line.specs.Forms.{AskAtAddress, AskForDisk, HasNoForm, IsAudit, IsDeclare, IsDurable, IsDurableAudit, IsDurableServe, IsDurableSolo, IsFeed, IsForm, IsMigrate, IsMine, IsProxy, IsServe, IsSolo};
 ghost use Rattle.command_line.specs.Running.{DoesForm, IsAlone, IsOffDisk, IsWithinLimits, OwesDurableRow, OwesRow};
 
 use crate::on_disk::durable_named;
@@ -30,6 +31,7 @@ use load_command::load;
 use mine_command::mine;
 use pool_io::Host;
 use pool_network::{Door, Network};
+use proxy_command::proxy;
 use std::alloc::Global;
 use std::sync::Wait;
 use std::thread::Threads;
@@ -69,9 +71,9 @@ where
         (around (H.seen host.new) (N.seen network.new) (V.seen disks.new)) result) }
 
     // Whatever the words: there are no other statuses, and everything that was given has come back.
-    // Nothing but `serve`, durable or not, `mine` and `feed` asks for anything at an address, and
-    // nothing but the durable commands for a disk; where the words are none of all these, 7 is answered
-    // exactly where the host's count rose, by one.
+    // Nothing but `serve`, durable or not, `mine`, `feed` and `proxy` asks for anything at an address,
+    // and nothing but the durable commands for a disk; where the words are none of all these, 7 is
+    // answered exactly where the host's count rose, by one.
     ensures statuses { (status : Answer) × (result ≡ status_code status) }
     ensures back { IsAllBack (around (H.seen host.old) (N.seen network.old) (V.seen disks.old))
         (around (H.seen host.new) (N.seen network.new) (V.seen disks.new)) }
@@ -125,6 +127,7 @@ where
         Form::Load { number } => load(alloc, host, number),
         Form::Mine { class, count } => mine_named(alloc, host, network, words, class, count),
         Form::Feed => feed_named(alloc, host, network, words),
+        Form::Proxy { count } => proxy_named(rt, alloc, host, network, words, count),
         Form::Durable { command } => {
             durable_named(rt, alloc, host, network, disks, words, command)
         }
@@ -212,6 +215,49 @@ fn feed_named<H: Host, N: Network>(
             feed(alloc, host, network, script_name, address_text)
         }
         None => unreachable!(),
+    }
+}
+
+/// Lets the miners who call at the one address share a channel of the upstream at the other.
+fn proxy_named<R: Threads + Wait + Sync, H: Host, N: Network>(
+    rt: &R,
+    alloc: Global,
+    host: &mut H,
+    network: &mut N,
+    words: &[Word],
+    count: u32,
+) -> Status
+where
+    N::D: Send,
+    <N::D as Door>::L: Send,
+    requires names { IsProxy words.now count }
+    ensures row { (names : IsProxy words.now count) × ProxyRow (record {
+      user = names.user;
+      places = record { peer = names.upstream; address = names.address; doors = count };
+    })
+        (record { host = H.seen host.old; network = N.seen network.old })
+        (record { host = H.seen host.new; network = N.seen network.new }) result }
+    ensures back { IsWorldBack
+        (record { host = H.seen host.old; network = N.seen network.old })
+        (record { host = H.seen host.new; network = N.seen network.new }) }
+{
+    match words {
+        [_, upstream, user, address, _] => {
+            let upstream_text = upstream.text();
+            let user_text = user.text();
+            let address_text = address.text();
+            proxy(
+                rt,
+                alloc,
+                host,
+                network,
+                upstream_text,
+                user_text,
+                address_text,
+                count,
+            )
+        }
+        _ => unreachable!(),
     }
 }
 

@@ -3,10 +3,11 @@
 ghost use Rattle.std.specs.Prelude.{◌≡◌, ◌↔◌, ◌<◌, ◌≤◌, ◌^◌, ℕ, List, string_bytes, length, IsTrue};
 ghost use Rattle.std.specs.Prelude.{IfSome, IfNone, Ok, [], ◌∷◌, codes};
 ghost use Rattle.hex.specs.Hex.{decode_sized};
+ghost use Rattle.pool_history.specs.Accounts.{account_of};
 ghost use Rattle.command_line.specs.Numbers.{IsNumber};
 ghost use Rattle.fixed_command.specs.declared.judge.Job.{Job as Work};
 ghost use Rattle.command_line.specs.declared.words.OnDisk.{OnDisk as Durable};
-ghost use Rattle.command_line.specs.Forms.{IsAudit, IsDeclare, IsDurable, IsDurableAudit, IsDurableServe, IsDurableSolo, IsFeed, IsForm, IsFrames, IsJob, IsLoad, IsMigrate, IsMine, IsServe, IsSolo, IsSoloFixed};
+ghost use Rattle.command_line.specs.Forms.{IsAudit, IsDeclare, IsDurable, IsDurableAudit, IsDurableServe, IsDurableSolo, IsFeed, IsForm, IsFrames, IsJob, IsLoad, IsMigrate, IsMine, IsProxy, IsServe, IsSolo, IsSoloFixed};
 
 use fixed_command::Job;
 use hex::FromHex;
@@ -80,6 +81,8 @@ pub enum Form {
     Mine { class: u8, count: u32 },
     /// `feed SCRIPT ADDRESS`
     Feed,
+    /// `proxy UPSTREAM USER ADDRESS COUNT`
+    Proxy { count: u32 },
     /// One of those over a disk.
     Durable { command: OnDisk },
 }
@@ -115,6 +118,9 @@ pub fn form_of(words: &[Word]) -> Option<Form>
     }
     if let Some((class, count)) = mine_numbers(words) {
         return Some(Form::Mine { class, count });
+    }
+    if let Some(count) = proxy_count(words) {
+        return Some(Form::Proxy { count });
     }
     if let Some(command) = durable_command(words) {
         return Some(Form::Durable { command });
@@ -298,6 +304,32 @@ fn is_user(word: &Word) -> bool
 {
     let text = word.text();
     !text.is_empty() && text.len() <= 255
+}
+
+/// The count of `proxy UPSTREAM USER ADDRESS COUNT`, if the words are of that form.
+fn proxy_count(words: &[Word]) -> Option<u32>
+    ensures found { IfSome result (IsProxy words.now) }
+    ensures none { IfNone result ((count : ℕ) → IsProxy words.now count → ⊥) }
+{
+    let [proxy, _, user, _, count] = words else {
+        return None;
+    };
+    if !proxy.says("proxy") || !has_account(user) {
+        return None;
+    }
+    let count = number_within(count, 1, 64)?;
+    Some(count as u32)
+}
+
+/// Whether a word can be a proxy's user: at most 255 bytes, the first of which begins an account.
+fn has_account(word: &Word) -> bool
+    ensures { IsTrue result ↔ ((0 < length (account_of word.now)) × (length word.now ≤ 255)) }
+{
+    let bytes = word.text().as_bytes();
+    match bytes.first() {
+        Some(byte) => *byte != b'.' && bytes.len() <= 255,
+        None => false,
+    }
 }
 
 /// A number from the one to the other.

@@ -42,6 +42,7 @@ impl Proxy {
     ghost use Rattle.proxy_rules.specs.declared.requests.ProxyReply.TheVariants as reply;
     ghost use Rattle.proxy_rules.specs.Answering.{ProxyAnswers, has_joined};
     ghost use Rattle.proxy_rules.specs.Outputs.{output_for};
+    ghost use Rattle.proxy_rules.specs.Steps.{relay_of};
 
     /// A proxy that opens its channel for this user, and shows the difficulty of the class `base` as
     /// 1.
@@ -67,6 +68,16 @@ impl Proxy {
         ensures few { result < 2 ^ 62 }
     {
         self.events.len() as u64
+    }
+
+    /// How many submissions went upstream. Where memory ran out while an event was told, it isn't known.
+    pub fn sent(&self) -> Result<u32, AllocError>
+        ensures { IfOk result (λ count. count ≡ (relay_of self.now).sent) }
+    {
+        if !self.is_whole {
+            return Err(AllocError);
+        }
+        Ok(self.relay.sent())
     }
 
     /// Answers a caller's request. Where memory runs out, no event is added.

@@ -114,6 +114,13 @@ impl Relay {
         is_joined(self.miners.as_slice(), caller)
     }
 
+    /// How many submissions went upstream.
+    pub(crate) fn sent(&self) -> u32
+        ensures { result ≡ self.now.sent }
+    {
+        self.sent
+    }
+
     /// All that was written upstream.
     pub(crate) fn output(&self) -> &[u8]
         ensures { result.now ≡ self.now.output }

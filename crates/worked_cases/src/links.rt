@@ -5,11 +5,38 @@ use pool_network::{Came, Door, Link, MemDoor};
 use std::collections::VecDeque;
 use std::sync::atomic::{AtomicU64, Ordering};
 
-/// A frame that comes once the link at a place has put so many bytes. One without bytes is the end.
+/// How far a link is.
+#[derive(Drop)]
+pub struct Progress {
+    /// How many bytes its peer has taken.
+    pub taken: AtomicU64,
+    /// How many of its frames were met: more was asked for behind them.
+    pub met: AtomicU64,
+}
+
+impl Progress {
+    pub fn new() -> Progress {
+        Progress {
+            taken: AtomicU64::new(0),
+            met: AtomicU64::new(0),
+        }
+    }
+}
+
+/// How far a link has to be for a gate to open.
+#[derive(Clone, Copy)]
+pub enum Gate {
+    /// So many bytes were put to it.
+    Taken(u64),
+    /// So many of its frames were met.
+    Met(u64),
+}
+
+/// A frame that comes once the link at a place is so far. One without bytes is the end.
 #[derive(Drop)]
 pub struct Gated {
     pub place: usize,
-    pub bytes: u64,
+    pub gate: Gate,
     pub frame: Vec<u8>,
     /// How many of the frame's bytes have come.
     pub given: usize,
@@ -21,17 +48,30 @@ pub struct GatedLink<'a> {
     pub coming: VecDeque<Gated>,
     pub held: Vec<u8>,
     pub place: usize,
-    /// How many bytes each link's peer has taken, by the link's place.
-    pub taken: &'a [AtomicU64],
+    /// How many frames were given whole.
+    pub given: u64,
+    /// How far each link is, by its place.
+    pub progress: &'a [Progress],
 }
 
 impl GatedLink<'_> {
     /// Whether the next frame may come.
-    fn is_open(&self, gate: &Gated) -> bool {
-        let taken = self.taken;
-        match taken.get(gate.place) {
-            Some(count) => count.load(Ordering::Acquire) >= gate.bytes,
-            None => false,
+    fn is_open(&self, gated: &Gated) -> bool {
+        let progress = self.progress;
+        let Some(link) = progress.get(gated.place) else {
+            return false;
+        };
+        match gated.gate {
+            Gate::Taken(bytes) => link.taken.load(Ordering::Acquire) >= bytes,
+            Gate::Met(frames) => link.met.load(Ordering::Acquire) >= frames,
+        }
+    }
+
+    /// Tells the others that what was given is met.
+    fn meet(&self) {
+        let progress = self.progress;
+        if let Some(link) = progress.get(self.place) {
+            link.met.store(self.given, Ordering::Release);
         }
     }
 }
@@ -45,11 +85,12 @@ impl Link for GatedLink<'_> {
     } };
 
     fn take(&mut self, buffer: &mut [u8]) -> Took {
-        let Some(mut gate) = self.coming.pop_front() else {
+        self.meet();
+        let Some(mut gated) = self.coming.pop_front() else {
             return Took::End;
         };
-        let is_open = self.is_open(&gate);
-        let rest = gate.frame.get(gate.given..).unwrap_or(b"");
+        let is_open = self.is_open(&gated);
+        let rest = gated.frame.get(gated.given..).unwrap_or(b"");
         let count = if is_open {
             rest.len().min(buffer.len())
         } else {
@@ -57,8 +98,10 @@ impl Link for GatedLink<'_> {
         };
         buffer[..count].copy_from_slice(&rest[..count]);
         let is_whole = is_open && count == rest.len();
-        gate.given = gate.given.saturating_add(count);
-        if !is_whole && self.coming.push_front(gate).is_err() {
+        gated.given = gated.given.saturating_add(count);
+        if is_whole {
+            self.given = self.given.saturating_add(1);
+        } else if self.coming.push_front(gated).is_err() {
             return Took::End;
         }
         match (is_open, count) {
@@ -72,9 +115,9 @@ impl Link for GatedLink<'_> {
         if self.held.extend_from_slice(piece).is_err() {
             return Err(SinkFailed::Memory);
         }
-        let taken = self.taken;
-        if let Some(count) = taken.get(self.place) {
-            count.fetch_add(piece.len() as u64, Ordering::Release);
+        let progress = self.progress;
+        if let Some(link) = progress.get(self.place) {
+            link.taken.fetch_add(piece.len() as u64, Ordering::Release);
         }
         Ok(piece.len())
     }

@@ -13,11 +13,11 @@ mod outside;
 use crate::case::{Case, numbers};
 use crate::comparing::{Outcome, differences};
 use crate::expressions::Names;
+use crate::links::Progress;
 use anyhow::{Context, Result, bail};
 use command_line::run;
 use std::alloc::Global;
 use std::sync::Wait;
-use std::sync::atomic::AtomicU64;
 use std::thread::Threads;
 use std::{env, fs};
 
@@ -91,14 +91,14 @@ fn run_once<R: Threads + Wait + Sync>(
     case: &Case<'_>,
     size: usize,
 ) -> Result<String> {
-    let taken = [
-        AtomicU64::new(0),
-        AtomicU64::new(0),
-        AtomicU64::new(0),
-        AtomicU64::new(0),
+    let progress = [
+        Progress::new(),
+        Progress::new(),
+        Progress::new(),
+        Progress::new(),
     ];
     let mut host = outside::host_of(alloc, names, case, size)?;
-    let mut network = outside::network_of(alloc, names, case, &taken)?;
+    let mut network = outside::network_of(alloc, names, case, &progress)?;
     let mut disks = disks::disks_of(alloc, names, case)?;
     let words = case.words(alloc, names)?;
     let status = run(rt, alloc, &mut host, &mut network, &mut disks, &words);

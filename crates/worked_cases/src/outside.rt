@@ -2,7 +2,7 @@
 
 use crate::case::Case;
 use crate::expressions::{Names, number};
-use crate::links::{CaseDoor, Gated, GatedLink};
+use crate::links::{CaseDoor, Gate, Gated, GatedLink, Progress};
 use anyhow::{Result, bail};
 use ledger_records::{MAGIC, chain, magic_hash};
 use pool_io::{MemFile, MemHost, Name, Piece, Script, Turn};
@@ -10,7 +10,6 @@ use pool_network::{Arrival, MemDoor, MemNetwork};
 use std::alloc::Global;
 use std::collections::VecDeque;
 use std::mem;
-use std::sync::atomic::AtomicU64;
 
 /// The network of a case.
 pub type CaseNetwork<'a> = MemNetwork<GatedLink<'a>, CaseDoor<'a>>;
@@ -131,15 +130,15 @@ pub fn network_of<'a>(
     alloc: Global,
     names: &Names,
     case: &Case<'_>,
-    taken: &'a [AtomicU64],
+    progress: &'a [Progress],
 ) -> Result<CaseNetwork<'a>> {
     let mut to_dial = VecDeque::new(alloc);
     if let Some(frames) = case.last("feed") {
-        to_dial.push_back(link_of(alloc, names, frames, 0, taken)?)?;
+        to_dial.push_back(link_of(alloc, names, frames, 0, progress)?)?;
     }
     let mut doors = Vec::new(alloc);
     for door in 0..number(case.last("doors").unwrap_or("0"))? {
-        let coming = coming_to(alloc, names, case, door, taken)?;
+        let coming = coming_to(alloc, names, case, door, progress)?;
         let failing = case.numbers(alloc, "fail-accept")?;
         let is_starved = case.last("starved").is_some();
         let opened = MemDoor::new(alloc, coming, failing);
@@ -154,7 +153,7 @@ fn coming_to<'a>(
     names: &Names,
     case: &Case<'_>,
     door: u64,
-    taken: &'a [AtomicU64],
+    progress: &'a [Progress],
 ) -> Result<VecDeque<Arrival<GatedLink<'a>>>> {
     let mut coming = VecDeque::new(alloc);
     let mut place = 0usize;
@@ -163,7 +162,7 @@ fn coming_to<'a>(
         if line.key == "caller" {
             place = place.saturating_add(1);
             if number(at)? == door {
-                let link = link_of(alloc, names, frames, place, taken)?;
+                let link = link_of(alloc, names, frames, place, progress)?;
                 coming.push_back(Arrival::Caller(link))?;
             }
         } else if line.key == "nobody" && number(at)? == door {
@@ -173,18 +172,19 @@ fn coming_to<'a>(
     Ok(coming)
 }
 
-/// The link at a place that brings these frames: each behind its gate `@PLACE:BYTES`.
+/// The link at a place that brings these frames: each behind its gate `@PLACE:BYTES` or
+/// `@PLACE#FRAMES`.
 fn link_of<'a>(
     alloc: Global,
     names: &Names,
     frames: &str,
     place: usize,
-    taken: &'a [AtomicU64],
+    progress: &'a [Progress],
 ) -> Result<GatedLink<'a>> {
     let mut coming = VecDeque::new(alloc);
     let mut gate = Gated {
         place,
-        bytes: 0,
+        gate: Gate::Taken(0),
         frame: Vec::new(alloc),
         given: 0,
     };
@@ -206,18 +206,23 @@ fn link_of<'a>(
         coming,
         held: Vec::new(alloc),
         place,
-        taken,
+        given: 0,
+        progress,
     })
 }
 
-/// A gate, `PLACE:BYTES`, before a frame without bytes.
+/// A gate, `PLACE:BYTES` or `PLACE#FRAMES`, before a frame without bytes.
 fn gate_of(alloc: Global, text: &str) -> Result<Gated> {
-    let Some((place, bytes)) = text.split_once(':') else {
+    let (place, gate) = if let Some((place, bytes)) = text.split_once(':') {
+        (place, Gate::Taken(number(bytes)?))
+    } else if let Some((place, frames)) = text.split_once('#') {
+        (place, Gate::Met(number(frames)?))
+    } else {
         bail!("{text} is no gate");
     };
     Ok(Gated {
         place: number(place)? as usize,
-        bytes: number(bytes)?,
+        gate,
         frame: Vec::new(alloc),
         given: 0,
     })

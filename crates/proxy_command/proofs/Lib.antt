@@ -1,0 +1,2 @@
+pub mod Upstreams
+pub mod Causes
