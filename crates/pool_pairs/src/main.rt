@@ -1,8 +1,11 @@
-//! Tries the test miner's talk over a link in memory, and then a feed, a pool and two miners that
-//! meet in this process. Prints `ok` and the title of each case, or what was found.
+//! Tries the test miner's talk over a link in memory; then a feed, a pool and two miners that meet in this
+//! process, and the same with a proxy between pool and miners. Prints `ok` and the title of each case, or what
+//! was found.
 #![tactic(auto)]
 
 mod counted_link;
+mod farm;
+mod farm_link;
 mod meeting;
 mod pair_link;
 mod talks;
@@ -22,11 +25,25 @@ fn main(rt: HostRuntime) -> Result<()> {
     let script = fs::read_to_string(&rt, "script.txt")?;
     let script = bytes(alloc, script.as_str())?;
     let wanted = fs::read_to_string(&rt, "meeting.txt")?;
-    let found = meeting::meet(&rt, alloc, &script)?;
-    if has_same_lines(found.as_str(), wanted.as_str()) {
-        println!(rt; "ok a feed, a pool and two miners meet")?;
+    let met = meeting::meet(&rt, alloc, &script)?;
+    print_case(&rt, "a feed, a pool and two miners meet", &met, &wanted)?;
+    let wanted = fs::read_to_string(&rt, "farm.txt")?;
+    let farm = farm::meet_behind_proxy(&rt, alloc, &script)?;
+    print_case(
+        &rt,
+        "a feed, a pool, a proxy and two miners behind it meet",
+        &farm,
+        &wanted,
+    )?;
+    Ok(())
+}
+
+/// Says `ok` and the title where what was found has the lines that are wanted, or else what was found.
+fn print_case<R: Print>(rt: &R, title: &str, found: &str, wanted: &str) -> Result<()> {
+    if has_same_lines(found, wanted) {
+        println!(rt; "ok {title}")?;
     } else {
-        println!(rt; "WRONG a feed, a pool and two miners meet:\n{found}")?;
+        println!(rt; "WRONG {title}:\n{found}")?;
     }
     Ok(())
 }

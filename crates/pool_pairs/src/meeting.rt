@@ -8,7 +8,7 @@ use anyhow::{Context, Result};
 use link_turns::{TalkEnd, talk};
 use pool_core::SessionEnd;
 use pool_io::{Keeper, Limits, SureKeeper};
-use pool_network::{Arrival, Door, MemDoor};
+use pool_network::{Arrival, Door, Link, MemDoor};
 use pool_server::{Served, serve};
 use share_ledger::Book;
 use std::alloc::Global;
@@ -22,10 +22,12 @@ use trial_support::example_rules;
 use v1_translate::V1Terms;
 
 /// How many turns in a row may bring nothing: so many that only who is waited for in vain gets there.
-const IDLE_TURNS: u64 = 10_000_000;
+pub(crate) const IDLE_TURNS: u64 = 10_000_000;
 
-/// What the pool says to its feed: its setup, its constraints, and six solutions.
-const FEED_BYTES: usize = 22 + 12 + 6 * 103;
+/// What the pool says to its feed beside solutions, its setup and its constraints; and a solution.
+const FEED_BYTES: usize = 22 + 12;
+
+const SOLUTION_BYTES: usize = 103;
 
 /// Each miner's class.
 const CLASS: u8 = 8;
@@ -48,10 +50,11 @@ pub(crate) fn meet<R: Threads + Wait + Sync + Send + Copy + Drop>(
     let (other, pool_other) = pair(*rt, alloc)?;
     let door = door_to(alloc, pool_one)?;
     let other_door = door_to(alloc, pool_other)?;
+    let doors = Vec::from_array(alloc, [door, other_door])?;
     let (partners, pool) = thread::join(
         rt,
         move || run_partners(rt, alloc, script, feed, one, other),
-        move || run_pool(rt, alloc, door, other_door, pool_feed),
+        move || run_pool(rt, alloc, doors, pool_feed),
     );
     let pool = pool.context("no memory for the pool")?;
     let (feed, (one, other)) = partners;
@@ -60,7 +63,7 @@ pub(crate) fn meet<R: Threads + Wait + Sync + Send + Copy + Drop>(
 }
 
 /// A door at which this one calls.
-fn door_to<R: Wait + Drop>(alloc: Global, link: PairLink<R>) -> Result<MemDoor<PairLink<R>>> {
+pub(crate) fn door_to<L: Link + Drop>(alloc: Global, link: L) -> Result<MemDoor<L>> {
     let mut coming = VecDeque::new(alloc);
     coming.push_back(Arrival::Caller(link))?;
     Ok(MemDoor::new(alloc, coming, Vec::new(alloc)))
@@ -77,7 +80,7 @@ fn run_partners<R: Threads + Wait + Sync + Send + Copy + Drop>(
 ) -> Partners {
     thread::join(
         rt,
-        move || run_feed(alloc, script, feed),
+        move || run_feed(alloc, script, feed, 6),
         move || run_miners(rt, alloc, one, other),
     )
 }
@@ -114,13 +117,21 @@ fn run_miner<R: Wait + Drop>(alloc: Global, user: &str, mut link: PairLink<R>) -
     }
 }
 
-/// How many solutions a feed has heard, where all of them were valid and its input ended well.
-fn run_feed<R: Wait + Drop>(alloc: Global, script: &[u8], link: PairLink<R>) -> Option<usize> {
+/// How many solutions a feed has heard, which ends behind so many, where all of them were valid and its
+/// input ended well.
+pub(crate) fn run_feed<R: Wait + Drop>(
+    alloc: Global,
+    script: &[u8],
+    link: PairLink<R>,
+    solutions: usize,
+) -> Option<usize>
+    requires { solutions ≤ 1000 }
+{
     let script = Script::read(alloc, script).ok()?;
     let mut feed = Feed::new(alloc, script).ok()?;
     let mut counted = CountedLink {
         link,
-        left: FEED_BYTES,
+        left: FEED_BYTES + solutions * SOLUTION_BYTES,
     };
     let end = talk(alloc, &mut counted, &mut feed, IDLE_TURNS);
     let CountedLink { link, left: _ } = counted;
@@ -135,14 +146,15 @@ fn run_feed<R: Wait + Drop>(alloc: Global, script: &[u8], link: PairLink<R>) -> 
 }
 
 /// What the pool tells once all have left.
-fn run_pool<R: Threads + Wait + Sync + Send + Copy + Drop>(
+pub(crate) fn run_pool<R: Threads + Wait + Sync + Send + Copy + Drop>(
     rt: &R,
     alloc: Global,
-    one: MemDoor<PairLink<R>>,
-    other: MemDoor<PairLink<R>>,
+    doors: Vec<MemDoor<PairLink<R>>>,
     feed: PairLink<R>,
 ) -> Option<String> {
-    let doors = Vec::from_array(alloc, [one, other]).ok()?;
+    if doors.len() > 64 {
+        return None;
+    }
     let rules = example_rules(alloc, true, 1000).ok()?;
     let terms = V1Terms::of(alloc, &rules, 32).ok()?;
     match Book::new(alloc, rules, SureKeeper::new(alloc)) {

@@ -1,0 +1,9 @@
+pub mod Growing
+pub mod Outputs
+pub mod Polls
+pub mod Gaps
+pub mod Traces
+pub mod Owed
+pub mod Upstreams
+pub mod Visits
+pub mod Miners
