@@ -10,7 +10,9 @@ use Rattle.pool_base.proofs.Behind.{all-front, all-map}
 use Rattle.proxy_rules.specs.declared.events.ProxyEvent.{ProxyEvent}
 use Rattle.proxy_rules.specs.Answering.{ProxyAnswers}
 use Rattle.proxy_links.specs.Calls.{GoodProxyCalls, ProxyCall, wants_memory}
+use Rattle.proxy_links.specs.Serving.{ServesMiner}
 use Rattle.proxy_workers.specs.Shifts.{AreMiners, MinerAsked, Visited, Waited}
+use Rattle.proxy_workers.specs.Visits.{Notes}
 use Rattle.pool_proxy.specs.Parts.{ProxyService}
 use Rattle.pool_proxy.specs.Serving.{AreShiftsFrom, MinersShift}
 use Rattle.proxy_laws.specs.Puts.{ArePutTheirOutput, MinersArePutOutput}
@@ -37,7 +39,7 @@ module _ (events : List ProxyEvent) (caller : ℕ) (some : (caller == 0) ≡ fal
   record ShiftPut (answers : List MinerAsked) (noted now : Calls) : Type 0 where
     calls : Calls
     calls_are : now ≡ noted ++ calls
-    put : GoodProxyCalls events calls → AreIts calls → GapsBehind events caller calls → ArePutTheirOutput events answers calls
+    put : GoodProxyCalls events calls → AreIts calls → GapsBehind events caller calls → ArePutTheirOutput idle_turns events noted answers calls
 
   shift_put : (answers : List MinerAsked) (noted now : Calls) → AreMiners idle_turns noted answers now → ShiftPut answers noted now
   shift_put [] noted now are = record { calls = []; calls_are = are ∙ sym (append-nil noted); put = λ good its gaps. refl }
@@ -53,19 +55,21 @@ module _ (events : List ProxyEvent) (caller : ℕ) (some : (caller == 0) ≡ fal
           one.own,
           rest.calls,
           refl,
+          subst (λ (l : Calls). ServesMiner Notes idle_turns noted visit.before visit.ended l visit.after) one.own_is are.1,
           one.put rest.calls (all-front (IsGoodCall ProxyAnswers wants_memory events) one.own rest.calls good)
               (all-front (λ (call : ProxyCall). call.worker ≡ caller) one.own rest.calls its) gaps,
-          rest.put (all_later (IsGoodCall ProxyAnswers wants_memory events) one.own rest.calls good)
-              (all_later (λ (call : ProxyCall). call.worker ≡ caller) one.own rest.calls its) (gaps_behind events caller one.own rest.calls gaps.reached gaps.gaps),
+          subst (λ (l : Calls). ArePutTheirOutput idle_turns events l answers rest.calls) one.own_is
+              (rest.put (all_later (IsGoodCall ProxyAnswers wants_memory events) one.own rest.calls good)
+              (all_later (λ (call : ProxyCall). call.worker ≡ caller) one.own rest.calls its) (gaps_behind events caller one.own rest.calls gaps.reached gaps.gaps)),
         );
       }
 
   pub whole_shift : (answers : List MinerAsked) (calls : Calls) → AreMiners idle_turns [] answers calls → GoodProxyCalls events calls → AreIts calls
-      → GapsBehind events caller calls → ArePutTheirOutput events answers calls
+      → GapsBehind events caller calls → ArePutTheirOutput idle_turns events [] answers calls
   whole_shift answers calls are good its gaps =
       let put = shift_put answers [] calls are in
       let same : calls ≡ put.calls = put.calls_are in
-      subst (λ (l : Calls). ArePutTheirOutput events answers l) (sym same)
+      subst (λ (l : Calls). ArePutTheirOutput idle_turns events [] answers l) (sym same)
       (put.put (subst (λ (l : Calls). GoodProxyCalls events l) same good) (subst AreIts same its) (subst (λ (l : Calls). GapsBehind events caller l) same gaps))
 
 -- ---- all shifts
@@ -101,7 +105,7 @@ module _ (service : ProxyService) (start events : List ProxyEvent) where
 
   all_put : (passed : Calls) (worker : ℕ) (shifts : List MinersShift) → 0 < worker → Parted start events 0 0 (passed ++ calls_of shifts)
       → GoodProxyCalls events (passed ++ calls_of shifts) → AllByRecursion (λ (call : ProxyCall). call.worker < worker) passed → AreShiftsFrom service worker shifts
-      → AllByRecursion (λ (shift : MinersShift). ArePutTheirOutput events shift.answers shift.calls) shifts
+      → AllByRecursion (λ (shift : MinersShift). ArePutTheirOutput service.idle_turns events [] shift.answers shift.calls) shifts
   all_put passed worker [] some parted good before are = tt
   all_put passed worker (shift ∷ shifts) some parted good before are =
       let own = shift.calls in

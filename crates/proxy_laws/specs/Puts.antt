@@ -12,7 +12,9 @@ use Rattle.proxy_rules.specs.declared.requests.ProxyRequest.TheVariants as reque
 use Rattle.proxy_rules.specs.Outputs.{output_for}
 use Rattle.proxy_links.specs.Calls.{ProxyCall}
 use Rattle.proxy_links.specs.Links.{IsPutEnd}
+use Rattle.proxy_links.specs.Serving.{ServesMiner}
 use Rattle.proxy_workers.specs.Shifts.{MinerAsked, MinerVisit, Visited, Waited}
+use Rattle.proxy_workers.specs.Visits.{Notes}
 use Rattle.pool_proxy.specs.Parts.{ProxyService}
 use Rattle.pool_proxy.specs.Serving.{HasRunProxy, ProxyHall}
 
@@ -61,17 +63,24 @@ IsPutItsOutput events visit calls =
     → (bytes : List ℕ) × (visit.after.sink.held ≡ Some (held ++ bytes))
     × IsOutputUpTo events (last_polled calls) visit.ended bytes
 
--- the calls of a shift are those of its visits, one after the other, and each visitor was put its output
-abbrev pub ArePutTheirOutput : List ProxyEvent → List MinerAsked → List ProxyCall → Type 0
-ArePutTheirOutput events [] calls = calls ≡ []
-ArePutTheirOutput events (Waited ∷ answers) calls = ArePutTheirOutput events answers calls
-ArePutTheirOutput events (Visited visit ∷ answers) calls =
+-- Behind the calls that were noted before, those of a shift are those of its visits, one after the other: by
+-- just these calls each visitor was served, and was put its output.
+abbrev pub ArePutTheirOutput :
+    ℕ → List ProxyEvent → List ProxyCall → List MinerAsked → List ProxyCall → Type 0
+ArePutTheirOutput idle_turns events noted [] calls = calls ≡ []
+ArePutTheirOutput idle_turns events noted (Waited ∷ answers) calls =
+    ArePutTheirOutput idle_turns events noted answers calls
+ArePutTheirOutput idle_turns events noted (Visited visit ∷ answers) calls =
     (own : List ProxyCall) × (later : List ProxyCall) × (calls ≡ own ++ later)
-    × IsPutItsOutput events visit own × ArePutTheirOutput events answers later
+    × ServesMiner Notes idle_turns noted visit.before visit.ended (noted ++ own) visit.after
+    × IsPutItsOutput events visit own
+    × ArePutTheirOutput idle_turns events (noted ++ own) answers later
 
 -- So it is with the miners at each door.
 abbrev pub MinersArePutOutput : Type 0
 MinersArePutOutput =
     (service : ProxyService) (old new : ProxyHall) (reason : SessionEnd) (door_faults : ℕ)
     → (ran : HasRunProxy service old new reason door_faults)
-    → AllByRecursion (λ shift. ArePutTheirOutput new.events shift.answers shift.calls) ran.shifts
+    → AllByRecursion
+    (λ shift. ArePutTheirOutput service.idle_turns new.events [] shift.answers shift.calls)
+    ran.shifts
