@@ -4,6 +4,7 @@ use pool_io::{SinkFailed, Took};
 use pool_network::{Came, Door, Link, MemDoor};
 use std::collections::VecDeque;
 use std::sync::atomic::{AtomicU64, Ordering};
+use std::thread;
 
 /// How far a link is.
 #[derive(Drop)]
@@ -20,6 +21,14 @@ impl Progress {
             taken: AtomicU64::new(0),
             met: AtomicU64::new(0),
         }
+    }
+}
+
+/// Lets the other threads come on: a command without settings waits for a certain number of Idle turns, which
+/// pass here without a clock.
+fn linger() {
+    for _turn in 0..40 {
+        thread::yield_now();
     }
 }
 
@@ -105,7 +114,10 @@ impl Link for GatedLink<'_> {
             return Took::End;
         }
         match (is_open, count) {
-            (false, _) => Took::Idle,
+            (false, _) => {
+                linger();
+                Took::Idle
+            }
             (true, 0) => Took::End,
             (true, _) => Took::Bytes(count),
         }
