@@ -13,16 +13,16 @@ use std::alloc::Global;
 pub(crate) fn found(alloc: Global, given: &str) -> Result<String> {
     let form = part(given, 0)?;
     let message = case_lines::bytes(alloc, part(given, 2)?)?;
-    let first = digest_in(form, &message, 0)?;
+    let first = digest_in(alloc, form, &message, 0)?;
     for lane in 1..4 {
-        if digest_in(form, &message, lane)? != first {
+        if digest_in(alloc, form, &message, lane)? != first {
             bail!("lane {lane} gives another digest");
         }
     }
     Ok(hex::encode(alloc, &first)?)
 }
 
-fn digest_in(form: &str, message: &[u8], lane: usize) -> Result<[u8; 32]>
+fn digest_in(alloc: Global, form: &str, message: &[u8], lane: usize) -> Result<[u8; 32]>
     requires { lane < 4 }
 {
     match (form, message.len()) {
@@ -52,6 +52,7 @@ fn digest_in(form: &str, message: &[u8], lane: usize) -> Result<[u8; 32]>
         }
         ("kept", 80) => behind_kept(message, lane),
         ("blocks", _) => by_blocks(message, lane),
+        ("common", _) => by_common_texts(alloc, message, lane),
         _ => bail!("no case is of form {form}"),
     }
 }
@@ -125,4 +126,48 @@ fn by_blocks(padded: &[u8], lane: usize) -> Result<[u8; 32]>
         state = next;
     }
     Ok(lanes::digests_of(state)[lane])
+}
+
+/// The digest of a message's digest, if it is found by what the message has in common with others
+/// that differ from it in twelve bytes, wherever these stand.
+fn by_common_texts(alloc: Global, message: &[u8], lane: usize) -> Result<[u8; 32]>
+    requires { lane < 4 }
+{
+    let own = Sha256::digest(Sha256::digest(message));
+    let mut is_found = false;
+    for place in 0..message.len().saturating_sub(11) {
+        let (before, rest) = message.split_at(place);
+        let (middle, after) = rest.split_at(12);
+        if let Some(common) = lanes::CommonText::of(alloc, before, after)? {
+            let middles = beside::<12>(middle, lane)?;
+            let digests = common.double(&middles);
+            if digests[lane] != own || digests != doubles_of(before, &middles, after) {
+                bail!("twelve bytes at {place} give another digest");
+            }
+            is_found = true;
+        }
+    }
+    if is_found {
+        Ok(own)
+    } else {
+        bail!("nowhere are two blocks left")
+    }
+}
+
+/// The digests of the digests of four messages that begin and end alike, by `sha2`.
+fn doubles_of(before: &[u8], middles: &[[u8; 12]; 4], after: &[u8]) -> [[u8; 32]; 4] {
+    [
+        double_of(before, &middles[0], after),
+        double_of(before, &middles[1], after),
+        double_of(before, &middles[2], after),
+        double_of(before, &middles[3], after),
+    ]
+}
+
+fn double_of(before: &[u8], middle: &[u8; 12], after: &[u8]) -> [u8; 32] {
+    let mut hasher = Sha256::new();
+    hasher.update(before);
+    hasher.update(middle);
+    hasher.update(after);
+    Sha256::digest(hasher.finalize())
 }

@@ -48,6 +48,17 @@ impl Auditor {
         }
     }
 
+    /// The bytes that come next may begin with a record.
+    fn look_ahead(&mut self, piece: &[u8])
+        ensures { self.new ≡ self.old }
+    {
+        if let Some(records) = &mut self.records
+            && self.held.is_empty()
+        {
+            records.look_ahead(self.alloc, piece);
+        }
+    }
+
     /// Takes what is lacking from the front of a piece, and answers how many bytes it took.
     fn feed(&mut self, piece: &[u8]) -> Result<usize, AllocError>
         requires between { IsBetweenRecords self.old }
@@ -61,6 +72,7 @@ impl Auditor {
         ensures records { self.new.records ≡ self.old.records }
         ensures one { OnOk result (HoldsSome self.new) }
     {
+        self.look_ahead(piece);
         let count = piece.len().min(self.lacking());
         self.held.extend_from_slice(&piece[..count])?;
         Ok(count)

@@ -3,6 +3,7 @@
 //! time, and keeps no list of events.
 #![tactic(auto)]
 
+mod ahead;
 mod auditing;
 mod auditor;
 mod causes;
@@ -12,6 +13,7 @@ mod laws;
 mod records;
 mod verdict;
 
+pub use ahead::CreditsAhead;
 pub use auditing::audit;
 pub use auditor::Auditor;
 pub use causes::cause_words;

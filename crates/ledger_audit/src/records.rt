@@ -12,6 +12,7 @@ ghost use Rattle.ledger_audit.specs.Auditing.{CountsEventsWithinPlace, DecidesRe
 ghost use Rattle.ledger_audit.specs.Units.{lacking, unit_len};
 ghost use Rattle.ledger_audit.specs.Verdicts.{HasNoMagic};
 
+use crate::ahead::look_ahead;
 use crate::format::Format;
 use crate::verdict::Verdict;
 use ledger_records::{MAGIC, RecordError, chain, magic_hash, read_record};
@@ -169,6 +170,16 @@ impl Records {
                 self.replay = Some(Replay::begin(alloc, event)?);
                 Ok(())
             }
+        }
+    }
+
+    /// Looks at the bytes behind the records so far. What comes of them doesn't change by it.
+    pub(crate) fn look_ahead(&mut self, alloc: Global, bytes: &[u8])
+        ensures { self.new ≡ self.old }
+    {
+        let hash_len = self.format.hash_len();
+        if let Some(replay) = &mut self.replay {
+            look_ahead(replay, alloc, bytes, hash_len);
         }
     }
 

@@ -4,6 +4,7 @@
 
 mod channel_events;
 mod error;
+mod foreseeing;
 mod job_events;
 mod opening_events;
 mod own_job_events;
@@ -17,4 +18,4 @@ mod token_events;
 
 pub use error::ReplayError;
 pub use replay::{Replay, ReplayedTables};
-pub use share_events::Credited;
+pub use share_events::{Credited, submission_of};

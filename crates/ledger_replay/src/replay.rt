@@ -5,6 +5,7 @@ ghost use Rattle.pool_history.specs.Accounts.{are_in_range};
 
 use crate::error::ReplayError;
 use channels::Channels;
+use foreseen_shares::Foresight;
 use grant_table::{Grants, other_events_leave_grants};
 use payouts::{Rule, Tally};
 use pool_history::{Cause, Event, Rules, are_rules_in_range};
@@ -26,6 +27,7 @@ pub struct Replay {
     pub(crate) grants: Grants,
     pub(crate) tally: Tally,
     pub(crate) headers: Headers,
+    pub(crate) foresight: Foresight,
     pub(crate) ghost in_range: { IsTrue (are_in_range rules) },
 }
 
@@ -92,6 +94,7 @@ impl Replay {
             grants,
             tally,
             headers,
+            foresight: _,
         } = self;
         ReplayedTables {
             rules,
@@ -125,6 +128,7 @@ impl Replay {
             grants: Grants::new(alloc),
             tally,
             headers: Headers::new(alloc),
+            foresight: Foresight::none(),
         })
     }
 }

@@ -4,11 +4,12 @@ use crate::error::ReplayError;
 use crate::replay::Replay;
 use crate::sessions_by::{Right, session_cause};
 use channels::{Channel, Channels, tables_show_histories};
+use foreseen_shares::Foresight;
 use grant_table::other_events_leave_grants;
 use payouts::Tally;
 use pool_history::{Cause, Failed, Kind, Rules, Submission};
 use session_table::other_events_leave_sessions;
-use share_check::{checked_headers_are_rebuilt, header_of};
+use share_check::checked_headers_are_rebuilt;
 use share_judging::{Headers, Passed, admit};
 use std::alloc::AllocError;
 use template_jobs::Jobs;
@@ -49,6 +50,7 @@ impl Replay {
             &self.jobs,
             &mut self.tally,
             &mut self.headers,
+            &self.foresight,
             session,
             share,
         ) {
@@ -98,6 +100,7 @@ fn book_share(
     jobs: &Jobs,
     tally: &mut Tally,
     headers: &mut Headers,
+    foresight: &Foresight,
     session: u32,
     share: &Credited<'_>,
 ) -> Result<(), Unbooked>
@@ -114,6 +117,7 @@ fn book_share(
         jobs,
         headers,
         tally.pushes(),
+        foresight,
         session,
         &sub,
     ) {
@@ -139,6 +143,7 @@ fn judge<'a>(
     jobs: &'a Jobs,
     headers: &Headers,
     credits: u32,
+    foresight: &Foresight,
     session: u32,
     sub: &Submission,
 ) -> Result<Judged<'a>, Failed>
@@ -159,7 +164,7 @@ fn judge<'a>(
         Ok(found) => found,
         Err(code) => return Err(code),
     };
-    let (header, hash) = header_of(&found.parts(), sub);
+    let (header, hash) = foresight.header_of(&found.parts(), sub);
     match found.pass(rules, header, &hash, headers, credits) {
         Ok(passed) => Ok(Judged {
             account: found.channel.account.text(),
@@ -193,7 +198,7 @@ fn push(
 }
 
 /// The kind of a share's channel.
-fn kind_of(there: Option<&Channel>) -> Kind
+pub(crate) fn kind_of(there: Option<&Channel>) -> Kind
     ensures { is_standard result ≡ is_standard_kept (option_map kept_of (option_copied there.entry)) }
 {
     match there {
@@ -203,7 +208,7 @@ fn kind_of(there: Option<&Channel>) -> Kind
 }
 
 /// The share as it was submitted, of a kind.
-fn submission_of(kind: Kind, share: &Credited<'_>) -> Submission
+pub fn submission_of(kind: Kind, share: &Credited<'_>) -> Submission
     requires { length share.now.extranonce.now ≤ 32 }
     ensures { (past : List Event)
         → is_standard kind ≡ is_standard_in (channel_in (channels_of past) share.now.channel)

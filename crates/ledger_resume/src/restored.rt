@@ -8,6 +8,7 @@ ghost use Rattle.ledger_resume.specs.Restoring.{BeginsNothing, HaveNoHistory, Is
 
 use crate::units::{behind_magic, read_again, read_unit};
 use event_store::History;
+use ledger_audit::CreditsAhead;
 use ledger_records::magic_hash;
 use ledger_replay::{Replay, ReplayError, ReplayedTables};
 use pool_history::Event;
@@ -78,6 +79,23 @@ impl Restored {
         Ok(true)
     }
 
+    /// Of all records, those behind what was read may be credits whose headers are worked out now,
+    /// side by side. What comes of them doesn't change by it.
+    pub(crate) fn look_ahead(&mut self, records: &[Blob])
+        ensures { self.new ≡ self.old }
+    {
+        if self.replay.is_ahead() {
+            return;
+        }
+        let mut ahead = CreditsAhead::none();
+        'credits: for record in records.iter().skip(self.history.len() as usize).take(4) {
+            if ahead.push(self.alloc, record.bytes()).is_none() {
+                break 'credits;
+            }
+        }
+        ahead.tell(&mut self.replay);
+    }
+
     /// The history, and the tables that were told it.
     pub(crate) fn into_tables(self) -> Tables
         requires { IsRestored self }
@@ -140,6 +158,7 @@ pub(crate) fn restore(alloc: Global, records: &[Blob]) -> Result<Option<Restored
         if !restored.take(record.bytes())? {
             return Ok(None);
         }
+        restored.look_ahead(records);
     }
     Ok(Some(restored))
 }

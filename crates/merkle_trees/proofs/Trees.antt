@@ -3,7 +3,9 @@ use Rattle.std.proofs.Common.{◌≡◌, ℕ, zero, suc, ◌+◌, ◌-◌, ◌*�
 use Rattle.std.proofs.Math.Nat.{pow-suc}
 use Rattle.std.proofs.lemmas.Bool.{cases_lt}
 use Rattle.std.proofs.lemmas.Grind.{reverse_onto}
-use Rattle.std.proofs.lemmas.List.{drop_all, drop_more, drop-set-lt, take_all, take_more_set}
+use Rattle.std.proofs.lemmas.List.{drop_all, drop-drop, drop_more, drop-set-lt, length-drop, length-take-le, take-append-drop, take_all, take_more_set}
+use Rattle.std.proofs.lemmas.Slice.{drop-put_mid, take-put_mid}
+use borrow.Rule.Slice.PartMut.{put_mid}
 use Rattle.block_header.specs.Hash.{dsha}
 use Rattle.block_header.specs.Root.{root, root_upward}
 use Rattle.merkle_trees.specs.Laws.{PathsAreShort, PathsLeadToTheRoot}
@@ -124,13 +126,13 @@ row_above-drop row i right there right_is =
     ]
 
 -- one more pair is put in front
-pub row_above-step : (first row : List (List ℕ)) (i right : ℕ) → 2 * i + 2 ≤ length row
+pub row_above-step : (all row : List (List ℕ)) (i right : ℕ) → 2 * i + 2 ≤ length row
     → right ≡ min (length row - 1) (2 + 2 * i)
-    → row_above first ≡ take i row ++ row_above (drop (1 + 2 * i) row)
+    → all ≡ take i row ++ row_above (drop (1 + 2 * i) row)
     → (hash : List ℕ) → hash ≡ dsha (get_or row (1 + 2 * i) [] ++ get_or row right [])
-    → row_above first
+    → all
     ≡ take (i + 1) (set row i hash) ++ row_above (drop (1 + 2 * (i + 1)) (set row i hash))
-row_above-step first row i right there right_is so_far hash hash_is =
+row_above-step all row i right there right_is so_far hash hash_is =
     let front : take (i + 1) (set row i hash) ≡ take i row ++ hash ∷ [] =
     take_more_set row i hash (omega arith) in
     let behind : drop (1 + 2 * (i + 1)) (set row i hash) ≡ drop (1 + 2 * (i + 1)) row =
@@ -162,9 +164,71 @@ take-written r len old new same whole =
     rw (none, append-nil new, all) refl
 
 -- once all pairs stand in front, none lies behind
-pub row_above-done : (first row : List (List ℕ)) (i len : ℕ) → length row ≡ len → i ≡ len / 2
-    → row_above first ≡ take i row ++ row_above (drop (1 + 2 * i) row)
-    → take (len / 2) row ≡ row_above first
-row_above-done first row i len long done so_far =
+pub row_above-done : (all row : List (List ℕ)) (i len : ℕ) → length row ≡ len → i ≡ len / 2
+    → all ≡ take i row ++ row_above (drop (1 + 2 * i) row)
+    → take (len / 2) row ≡ all
+row_above-done all row i len long done so_far =
     let none : drop (1 + 2 * i) row ≡ [] = drop_all (1 + 2 * i) row (omega arith) in
     sym (so_far ∙ rw (none, append-nil (take i row)) (ap (λ n. take n row) done))
+
+-- eight hashes are their eight items
+eight_hashes : (e : List (List ℕ)) → length e ≡ 8
+    → (get_or e 0 [] ∷ get_or e 1 [] ∷ get_or e 2 [] ∷ get_or e 3 [] ∷ get_or e 4 []
+    ∷ get_or e 5 [] ∷ get_or e 6 [] ∷ get_or e 7 [] ∷ []) ≡ e
+eight_hashes [] long = absurd (omega arith)
+eight_hashes (a ∷ []) long = absurd (omega arith)
+eight_hashes (a ∷ b ∷ []) long = absurd (omega arith)
+eight_hashes (a ∷ b ∷ c ∷ []) long = absurd (omega arith)
+eight_hashes (a ∷ b ∷ c ∷ d ∷ []) long = absurd (omega arith)
+eight_hashes (a ∷ b ∷ c ∷ d ∷ e ∷ []) long = absurd (omega arith)
+eight_hashes (a ∷ b ∷ c ∷ d ∷ e ∷ f ∷ []) long = absurd (omega arith)
+eight_hashes (a ∷ b ∷ c ∷ d ∷ e ∷ f ∷ g ∷ []) long = absurd (omega arith)
+eight_hashes (a ∷ b ∷ c ∷ d ∷ e ∷ f ∷ g ∷ h ∷ []) long = refl
+eight_hashes (a ∷ b ∷ c ∷ d ∷ e ∷ f ∷ g ∷ h ∷ i ∷ s) long = absurd (omega arith)
+
+-- their row above
+pub eight_above : (e : List (List ℕ)) → length e ≡ 8
+    → (dsha (get_or e 0 [] ++ get_or e 1 []) ∷ dsha (get_or e 2 [] ++ get_or e 3 [])
+    ∷ dsha (get_or e 4 [] ++ get_or e 5 []) ∷ dsha (get_or e 6 [] ++ get_or e 7 []) ∷ [])
+    ≡ row_above e
+eight_above e long = ap row_above (eight_hashes e long)
+
+-- the row above eight hashes, and then that above the others
+row_above-eight : (eight others : List (List ℕ)) → length eight ≡ 8
+    → row_above (eight ++ others) ≡ row_above eight ++ row_above others
+row_above-eight eight others long =
+    (λ t. row_above (sym (eight_hashes eight long) t ++ others))
+    ∙ (λ t. row_above (eight_hashes eight long t) ++ row_above others)
+
+-- four pairs more stand in front
+pub row_above-fours : (all row next hashes : List (List ℕ)) (k : ℕ) → 8 * k + 9 ≤ length row
+    → all ≡ take (4 * k) row ++ row_above (drop (1 + 2 * (4 * k)) row)
+    → hashes ≡ row_above (take 8 (drop (8 * k + 1) row))
+    → next ≡ put_mid (4 * k) 4 row hashes
+    → all ≡ take (4 * (k + 1)) next ++ row_above (drop (1 + 2 * (4 * (k + 1))) next)
+row_above-fours all row next hashes k there so_far hashes_are next_is =
+    let to : ℕ = 1 + 2 * (4 * (k + 1)) in
+    let from : 1 + 2 * (4 * k) ≡ 8 * k + 1 = omega arith in
+    let ends : 8 * k + 1 + 8 ≡ to = omega arith in
+    let front = take (4 * k) row in
+    let behind = drop (8 * k + 1) row in
+    let eight = take 8 behind in
+    let others = drop to row in
+    let long : length eight ≡ 8 =
+    length-take-le 8 behind (omega (arith, length-drop (8 * k + 1) row)) in
+    let apart : behind ≡ eight ++ others =
+    sym (take-append-drop 8 behind)
+    ∙ ap (λ (r : List (List ℕ)). eight ++ r) (drop-drop 8 (8 * k + 1) row ∙ ap (λ (n : ℕ). drop n row) ends) in
+    let four : length hashes ≡ 4 =
+    omega (arith, ap length hashes_are, length-row_above eight, long) in
+    let stand : take (4 * (k + 1)) next ≡ front ++ hashes =
+    ap (take (4 * (k + 1))) next_is
+    ∙ take-put_mid (4 * k) 4 row hashes (4 * (k + 1)) (omega (arith, four)) (omega arith) in
+    let stay : drop to next ≡ others =
+    ap (drop to) next_is ∙ drop-put_mid (4 * k) 4 row hashes to (omega arith) (omega arith) four in
+    so_far ∙ ap (λ (n : ℕ). front ++ row_above (drop n row)) from
+    ∙ ap (λ (b : List (List ℕ)). front ++ row_above b) apart
+    ∙ ap (λ (r : List (List ℕ)). front ++ r) (row_above-eight eight others long)
+    ∙ ap (λ (h : List (List ℕ)). front ++ (h ++ row_above others)) (sym hashes_are)
+    ∙ sym (append_assoc front hashes (row_above others))
+    ∙ (λ t. sym stand t ++ row_above (sym stay t))

@@ -4,6 +4,7 @@
 
 mod answering;
 mod asking;
+mod foreseeing;
 mod meaning;
 mod news;
 mod session;

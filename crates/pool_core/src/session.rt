@@ -5,13 +5,13 @@ ghost use Rattle.pool_core.specs.Following.{FollowsReply, RollsAsAsked};
 
 use crate::answering::{put_answer, put_greeting};
 use crate::asking::{declare_meaning, mining_meaning, template_meaning};
+use crate::foreseeing::Foreseeing;
 use crate::meaning::Meaning;
 use crate::news::put_note;
 use crate::taking::{brings_own_jobs, is_declared_kind, is_feeds_kind, takes_kind};
 use declare_core::{Declared, Declarer};
 use pool_history::{Reply, Request, Role, SessionNumber, Submission};
 use session_steps::{About, Manner, SetupCode, Step};
-use share_check::check;
 use std::alloc::{AllocError, Global};
 use std::marker::Model;
 use sv2_frames::Frame;
@@ -33,6 +33,7 @@ pub struct Session {
     number: SessionNumber,
     about: About,
     declarer: Declarer,
+    foreseeing: Foreseeing,
 }
 
 impl Model for Session {
@@ -82,6 +83,7 @@ impl Session {
             number: SessionNumber::of(0),
             about: About::Nothing,
             declarer: Declarer::new(alloc),
+            foreseeing: Foreseeing::new(),
         }
     }
 
@@ -104,6 +106,14 @@ impl Session {
         }
     }
 
+    /// Looks at the bytes that stand behind the frame that came last: the shares with which they go
+    /// on may be worked out now, side by side. Nothing is asked or answered otherwise for it.
+    pub fn look_ahead(&mut self, alloc: Global, bytes: &[u8])
+        ensures { self.new ≡ self.old }
+    {
+        self.foreseeing.look(alloc, bytes);
+    }
+
     /// Hears the reply to its last request. Where that is what a share's header is computed from,
     /// the share is to be booked; else the reply is given back, to be answered.
     pub fn follow(&mut self, reply: Reply) -> Result<Request, Reply>
@@ -113,7 +123,7 @@ impl Session {
     {
         self.hear(&reply);
         match self.about {
-            About::Share(sub) => booking(sub, reply),
+            About::Share(sub) => self.booking(sub, reply),
             _ => Err(reply),
         }
     }
@@ -389,15 +399,16 @@ impl Session {
             _ => Ok(()),
         }
     }
-}
 
-/// A share is booked with its brief, where that is the reply.
-fn booking(sub: Submission, reply: Reply) -> Result<Request, Reply>
-    requires { RollsAsAsked (topic.Share sub) reply }
-    ensures { FollowsReply (topic.Share sub) reply result }
-{
-    match reply {
-        Reply::Brief(brief) => Ok(Request::Commit(check(brief, sub))),
-        reply => Err(reply),
+    /// A share is booked with its brief, where that is the reply.
+    fn booking(&mut self, sub: Submission, reply: Reply) -> Result<Request, Reply>
+        requires { RollsAsAsked (topic.Share sub) reply }
+        ensures same { self.new ≡ self.old }
+        ensures booking { FollowsReply (topic.Share sub) reply result }
+    {
+        match reply {
+            Reply::Brief(brief) => Ok(Request::Commit(self.foreseeing.check(brief, sub))),
+            reply => Err(reply),
+        }
     }
 }

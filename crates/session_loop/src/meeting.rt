@@ -117,6 +117,15 @@ impl Conversation {
         }
     }
 
+    /// The bytes that are still to be met may begin with a frame.
+    fn look_ahead(&mut self, splitter: &Splitter, rest: &[u8])
+        ensures { self.new ≡ self.old }
+    {
+        if splitter.held() == 0 {
+            self.session.look_ahead(self.alloc, rest);
+        }
+    }
+
     /// Meets the frames of the bytes that came.
     pub(crate) fn meet_all<L: Link, A: Acting>(
         &mut self,
@@ -141,6 +150,7 @@ impl Conversation {
     {
         let mut rest = piece;
         while !rest.is_empty() {
+            self.look_ahead(splitter, rest);
             let count = splitter.feed(rest);
             rest = &rest[count..];
             self.meet(splitter, link, acting)?;

@@ -35,3 +35,11 @@ pub lane_at : (l : ℕ) (vs : List (List ℕ)) (i : ℕ) → slice_index (lane l
 lane_at l [] i = refl
 lane_at l (v ∷ vs) zero = refl
 lane_at l (v ∷ vs) (suc i) = lane_at l vs i
+
+-- what is said of each of the four lanes is said of all
+pub by_lane : (P : ℕ → Type 0) → P 0 → P 1 → P 2 → P 3 → (l : ℕ) → l < 4 → P l
+by_lane P p q r s zero lt = p
+by_lane P p q r s (suc zero) lt = q
+by_lane P p q r s (suc (suc zero)) lt = r
+by_lane P p q r s (suc (suc (suc zero))) lt = s
+by_lane P p q r s (suc (suc (suc (suc l)))) lt = absurd (omega arith)

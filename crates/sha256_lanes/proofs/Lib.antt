@@ -1,3 +1,4 @@
+mod BlockRows
 mod Fixed
 mod LaneFacts
 mod Majority

@@ -51,6 +51,16 @@ pub fn double_80(messages: &[[u8; 80]; 4]) -> [[u8; 32]; 4]
     digests_of(hash_again(hash_80(messages)))
 }
 
+/// Two digests, one after the other, as they are hashed into Bitcoin's merkle trees.
+pub fn pair_of(left: &[u8; 32], right: &[u8; 32]) -> [u8; 64]
+    ensures { result ≡ left.now ++ right.now }
+{
+    let mut pair = [0; 64];
+    pair[..32].copy_from_slice(left);
+    pair[32..].copy_from_slice(right);
+    pair
+}
+
 /// The initial hash value (5.3.3).
 #[inline(always)]
 pub fn initial_hash() -> [u32x4; 8]

@@ -62,7 +62,8 @@ fn hash_behind(state: &[u32; 8], tails: &[[u8; 16]; 4]) -> [u32x4; 8]
     compress_words(in_each_lane(state), padded_80(words_of(tails, 0)))
 }
 
-fn in_each_lane(state: &[u32; 8]) -> [u32x4; 8]
+/// A hash value in each lane.
+pub fn in_each_lane(state: &[u32; 8]) -> [u32x4; 8]
     ensures { (l : ℕ) → l < 4 → lane l result ≡ state.now }
 {
     [
@@ -77,7 +78,8 @@ fn in_each_lane(state: &[u32; 8]) -> [u32x4; 8]
     ]
 }
 
-fn first_lane(state: &[u32x4; 8]) -> [u32; 8]
+/// The first lane's hash value.
+pub fn first_lane(state: &[u32x4; 8]) -> [u32; 8]
     ensures { result ≡ lane 0 state.now }
 {
     [

@@ -19,10 +19,10 @@ loop-record-preserved c =
       first = was.first;
       all = was.all;
       taken =
-          taken_more was.first c.in-Some.later.now c.args.records.now was.all c.loop-record.record-index c.record-item.result c.loop-record-test.true
+          rw c.look_ahead.ensures (taken_more was.first c.in-Some.later.now c.args.records.now was.all c.loop-record.record-index c.record-item.result c.loop-record-test.true
           c.record-item.is c.loop-record.restored was.taken c.take.new.self
           (subst (λ b. IsNextBy c.loop-record.restored.history.events b c.take.new.self) c.bytes-in-loop-record.ensures
-          (rw c.if-not-branch.false at c.in_ok-take.ensures));
+          (rw c.if-not-branch.false at c.in_ok-take.ensures)));
     }
 
 pub returns-then-not-branch-clause-none : goal.returns-then-not-branch-clause-none

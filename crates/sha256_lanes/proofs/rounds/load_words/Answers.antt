@@ -1,14 +1,7 @@
-use Rattle.std.proofs.Common.{◌≡◌, ℕ, ◌<◌, [], ◌∷◌, length, slice_index, get_or, zero, suc, arith}
+use Rattle.std.proofs.Common.{◌≡◌, ℕ, [], ◌∷◌, length, slice_index, get_or}
 use Rattle.sha2.specs.Sha256.{word_at}
+use Rattle.sha256_lanes.proofs.LaneFacts.{by_lane}
 use Rattle.sha256_lanes.proofs.rounds.load_words.Goals as goal
-
--- what is said of each of the four lanes is said of all
-by_lane : (P : ℕ → Type 0) → P 0 → P 1 → P 2 → P 3 → (l : ℕ) → l < 4 → P l
-by_lane P p q r s zero lt = p
-by_lane P p q r s (suc zero) lt = q
-by_lane P p q r s (suc (suc zero)) lt = r
-by_lane P p q r s (suc (suc (suc zero))) lt = s
-by_lane P p q r s (suc (suc (suc (suc l)))) lt = absurd (omega arith)
 
 pub returns-clause-words : goal.returns-clause-words
 returns-clause-words g c =

@@ -18,7 +18,7 @@ returns-in_err-meet-clause-runs g c = λ intake some.
     rw (failed.1, failed.2) (
       c.meet.new.splitter.held ++ left,
       tt,
-      runs_on (c.loop-rest.invariant.runs intake some) (rw fed at (c.in_err-meet.ensures.runs intake left some)),
+      runs_on (c.loop-rest.invariant.runs intake some) (rw (fed, c.look_ahead.ensures) at (c.in_err-meet.ensures.runs intake left some)),
     )
 
 pub loop-rest-preserved : goal.loop-rest-preserved
@@ -31,7 +31,7 @@ loop-rest-preserved g c = record {
       let rest = c.loop-rest.rest.now in
       let left = take (length rest - c.feed-count.result) (drop c.feed-count.result rest) in
       let fed = fed_whole c.loop-rest.splitter.held c.feed-count.new.self.held rest c.feed-count.result c.feed-count.ensures.bytes in
-      runs_on (c.loop-rest.invariant.runs intake some) (rw fed at (c.in_ok-meet.ensures.runs intake left some));
+      runs_on (c.loop-rest.invariant.runs intake some) (rw (fed, c.look_ahead.ensures) at (c.in_ok-meet.ensures.runs intake left some));
 }
 
 pub returns-clause-runs : goal.returns-clause-runs

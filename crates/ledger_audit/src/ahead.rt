@@ -1,0 +1,119 @@
+//! Credits that stand behind one another in a ledger: their headers are worked out side by side
+//! before their records are taken. Nothing that is promised rests on it.
+
+ghost use Rattle.std.specs.Prelude.{◌≡◌};
+
+use foreseen_shares::SharesAhead;
+use ledger_records::read_record;
+use ledger_replay::{Credited, Replay, submission_of};
+use pool_history::{Event, Kind, Submission};
+use std::alloc::Global;
+
+/// The kind of a Credit's record, the first of its bytes.
+const CREDIT: u8 = 9;
+
+/// Up to four credits of one session, channel and job.
+#[derive(Drop)]
+pub struct CreditsAhead {
+    session: u32,
+    shares: Option<SharesAhead>,
+}
+
+impl CreditsAhead {
+    /// None yet.
+    pub fn none() -> CreditsAhead {
+        CreditsAhead {
+            session: 0,
+            shares: None,
+        }
+    }
+
+    /// Takes the credit whose record the bytes begin with, where it goes on those before it, and
+    /// says how many bytes the record has.
+    pub fn push(&mut self, alloc: Global, bytes: &[u8]) -> Option<usize> {
+        let (session, sub, len) = credit_at(alloc, bytes)?;
+        let goes_on = match &mut self.shares {
+            Some(shares) => session == self.session && shares.push(sub),
+            None => {
+                self.session = session;
+                self.shares = Some(SharesAhead::of(sub));
+                true
+            }
+        };
+        if goes_on { Some(len) } else { None }
+    }
+
+    /// Has the replay work out their headers.
+    pub fn tell(&self, replay: &mut Replay)
+        ensures { replay.new ≡ replay.old }
+    {
+        if let Some(shares) = &self.shares {
+            replay.foresee(self.session, shares);
+        }
+    }
+}
+
+/// The session and the share of the Credit whose record the bytes begin with, and how many bytes
+/// the record has.
+fn credit_at(alloc: Global, bytes: &[u8]) -> Option<(u32, Submission, usize)> {
+    if bytes.first().copied() != Some(CREDIT) {
+        return None;
+    }
+    match read_record(alloc, bytes) {
+        Ok((event, len)) => {
+            let (session, sub) = credit_of(&event)?;
+            Some((session, sub, len))
+        }
+        Err(_) => None,
+    }
+}
+
+/// The session and the share of a Credit. The kind of its channel isn't known here.
+fn credit_of(event: &Event) -> Option<(u32, Submission)> {
+    match event {
+        Event::Credit {
+            session,
+            channel,
+            job,
+            nonce,
+            ntime,
+            version,
+            extranonce,
+        } if extranonce.bytes().len() <= 32 => {
+            let share = Credited {
+                channel: *channel,
+                job: *job,
+                nonce: *nonce,
+                ntime: *ntime,
+                version: *version,
+                extranonce: extranonce.bytes(),
+            };
+            Some((*session, submission_of(Kind::Extended, &share)))
+        }
+        _ => None,
+    }
+}
+
+/// Looks at the bytes behind the records that a replay was told, each of which has a hash of so many
+/// bytes behind it: the headers of the credits with which they begin may be worked out now.
+pub(crate) fn look_ahead(replay: &mut Replay, alloc: Global, bytes: &[u8], hash_len: usize)
+    ensures { replay.new ≡ replay.old }
+{
+    if replay.is_ahead() {
+        return;
+    }
+    let mut ahead = CreditsAhead::none();
+    let mut rest = bytes;
+    'credits: for _ in 0..4 {
+        let Some(len) = ahead.push(alloc, rest) else {
+            break 'credits;
+        };
+        rest = behind(behind(rest, len), hash_len);
+    }
+    ahead.tell(replay);
+}
+
+/// What stands behind so many bytes.
+fn behind(bytes: &[u8], len: usize) -> &[u8] {
+    &bytes[len.min(bytes.len())..]
+}
