@@ -1,6 +1,6 @@
 //! The bytes of a ledger, cut into its magic and its records.
 
-ghost use Rattle.std.specs.Prelude.{◌≡◌, ◌⊎◌, ◌+◌, ◌-◌, ◌<◌, ◌≤◌, ◌^◌, ℕ, List, [], ◌++◌, length, take, IfOk, IsErrOf, OnErr, OnOk};
+ghost use Rattle.std.specs.Prelude.{◌≡◌, ◌⊎◌, ◌+◌, ◌-◌, ◌<◌, ◌≤◌, ◌^◌, ℕ, List, [], ◌++◌, length, take, IfOk, IsErrOf, OnErr, OnOk, Some};
 ghost use Rattle.ledger_audit.specs.Lines.{verdict_line};
 
 use crate::format::{BODY_LIMIT, Format, HEAD_LEN, body_len};
@@ -92,7 +92,7 @@ impl Auditor {
         }
         match &mut self.records {
             Some(records) => records.take(self.alloc, &self.held)?,
-            None => self.records = Some(Records::behind(&self.held)?),
+            None => begin(&mut self.records, Records::behind(&self.held)?),
         }
         self.held.clear();
         Ok(())
@@ -185,6 +185,13 @@ fn lacking(format: Format, bytes: &[u8]) -> usize
         return 0;
     }
     (HEAD_LEN + len + format.hash_len()).saturating_sub(bytes.len())
+}
+
+/// No record was read before.
+fn begin(records: &mut Option<Records>, behind: Records)
+    ensures { records.new ≡ Some behind }
+{
+    *records = Some(behind);
 }
 
 /// Says why a ledger goes no further.
