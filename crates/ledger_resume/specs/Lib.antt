@@ -1,3 +1,4 @@
+pub mod Answers
 pub mod Cutting
 pub mod Histories
 pub mod Refusals

@@ -10,5 +10,5 @@ mod resuming;
 mod units;
 
 pub use error::ResumeError;
-pub use laws::histories_are_not_refused;
+pub use laws::{histories_are_not_refused, resumed_books_answer_alike};
 pub use resuming::resume;
