@@ -3,3 +3,4 @@ pub mod Lists
 pub mod Entries
 pub mod Parts
 pub mod Reading
+pub mod Knowing

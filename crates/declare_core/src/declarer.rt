@@ -61,12 +61,13 @@ impl Model for Declarer {
 }
 
 impl Declarer {
-    ghost use Rattle.std.specs.Prelude.{◌≡◌, ◌++◌, ◌≤◌, IfOk, OnOk, OnErr, length};
+    ghost use Rattle.std.specs.Prelude.{◌≡◌, ◌++◌, ◌≤◌, ◌<◌, ◌^◌, IfOk, OnOk, OnErr, length};
     ghost use Rattle.std.specs.List.{flat_map};
     ghost use Rattle.declare_msgs.specs.Seen.{declare_mining_job, provide_missing_transactions_success};
     ghost use Rattle.declare_rules.specs.Declaring as rules;
     ghost use Rattle.declare_rules.specs.State as state;
     ghost use Rattle.declare_core.specs.Meeting.{MeetsFrame, Reacts, declared_id};
+    ghost use Rattle.declare_core.specs.Room.{HoldsFew};
 
     /// A session that heard nothing.
     pub fn new(alloc: Global) -> Declarer
@@ -153,6 +154,16 @@ impl Declarer {
         }
     }
 
+    /// That it knows fewer than 2^16 transactions, and fewer than 2^16 are waited for.
+    pub fn few_are_held(&self)
+        ensures { HoldsFew self.now }
+    {
+        self.known.are_few();
+        if let Some(waiting) = &self.waiting {
+            let _listed = &waiting.listed;
+        }
+    }
+
     fn declare(&mut self, alloc: Global, job: &DeclareMiningJob<'_>) -> Result<Declared, AllocError>
         ensures ok { IfOk result (λ declared.
             Reacts (rules.on_declaring self.old (declare_mining_job job.now)) declared self.new) }
@@ -216,6 +227,7 @@ impl Declarer {
         identity: Str255,
         transactions: &[TxIds],
     ) -> Result<Declared, AllocError>
+        requires { length transactions.now < 2 ^ 16 }
         ensures ok { IfOk result (λ declared.
             Reacts (rules.accepted self.old request_id identity transactions.now)
             declared self.new) }

@@ -8,19 +8,23 @@ use std::marker::Model;
 /// Which id stands under which witness id. Contracts see the ids.
 #[derive(Drop)]
 pub(crate) struct Ids {
+    /// Fewer than 2^16.
     map: IndexMap<[u8; 32], [u8; 32]>,
 }
 
 impl Model for Ids {
+    ghost use Rattle.std.specs.Prelude.{◌^◌, ◌<◌, length};
     ghost use Rattle.declare_rules.specs.Filling.{Known};
 
     ghost Value = { Known };
 
     ghost view = { λ ids. ids.map.entries };
+
+    ghost invariant = { λ ids. length ids.map.entries < 2 ^ 16 };
 }
 
 impl Ids {
-    ghost use Rattle.std.specs.Prelude.{◌≡◌, [], IfOk};
+    ghost use Rattle.std.specs.Prelude.{◌≡◌, ◌^◌, ◌<◌, [], IfOk, length};
     ghost use Rattle.declare_rules.specs.Filling.{id_under, known_of};
 
     /// None.
@@ -34,6 +38,7 @@ impl Ids {
 
     /// Those of transactions.
     pub(crate) fn of(alloc: Global, transactions: &[TxIds]) -> Result<Ids, AllocError>
+        requires { length transactions.now < 2 ^ 16 }
         ensures { IfOk result (λ ids. ids ≡ known_of transactions.now) }
     {
         let mut map = IndexMap::new(alloc);
@@ -42,6 +47,13 @@ impl Ids {
             map.insert(ids.wtxid, ids.txid)?;
         }
         Ok(Ids { map })
+    }
+
+    /// That they are fewer than 2^16.
+    pub(crate) fn are_few(&self)
+        ensures { length self.now < 2 ^ 16 }
+    {
+        let _map = &self.map;
     }
 
     /// The id under a witness id.
