@@ -1,0 +1,3 @@
+pub mod Declared
+pub mod Rows
+pub mod Laws
