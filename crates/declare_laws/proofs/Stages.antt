@@ -32,7 +32,7 @@ put_quiet None entered stage quiet = quiet
 put_quiet (Some sink.Failed) entered stage quiet = ended_quiet entered end.WriteFault
 put_quiet (Some sink.Memory) entered stage quiet = ended_quiet entered end.Memory
 
-next_quiet : (entered : Bool) (idles : ℕ) → IsQuiet (next_stage entered idles)
+pub next_quiet : (entered : Bool) (idles : ℕ) → IsQuiet (next_stage entered idles)
 next_quiet entered zero = ended_quiet entered end.IdleOut
 next_quiet entered (suc n) =
     subst (λ b. IsQuiet (if b then end_stage entered end.IdleOut else Reading)) (sym (eqb-suc-zero n)) tt

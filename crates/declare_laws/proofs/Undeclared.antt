@@ -52,11 +52,11 @@ or_cases : (p q : Bool) → (p || q) ≡ true → (p ≡ true) ⊎ (q ≡ true)
 or_cases true q is = inl refl
 or_cases false q is = inr is
 
-and_second : (p q : Bool) → (p && q) ≡ true → q ≡ true
+pub and_second : (p q : Bool) → (p && q) ≡ true → q ≡ true
 and_second true q is = is
 and_second false q is = absurd (false≢true is)
 
-declared_kinds : (kind : ℕ) → is_declared_kind kind ≡ true
+pub declared_kinds : (kind : ℕ) → is_declared_kind kind ≡ true
     → (kind ≡ kinds.DECLARE_MINING_JOB) ⊎ (kind ≡ kinds.PROVIDE_MISSING_TRANSACTIONS_SUCCESS)
 declared_kinds kind is =
     elim (or_cases (kind == kinds.DECLARE_MINING_JOB) (kind == kinds.PROVIDE_MISSING_TRANSACTIONS_SUCCESS) is) [

@@ -1,9 +1,7 @@
 -- What a frame leads to: who isn't set up asks to enter alone, and who is brings jobs of its own where a
 -- Grant of a path is asked for.
-use Rattle.std.proofs.Common.{◌≡◌, ◌==◌, ◌&&◌, ◌||◌, ◌%◌, ℕ, Bool, true, false, Option, None, Some, List, inl, inr, refl, sym, ap, subst, ◌∙◌}
-use Rattle.std.proofs.lemmas.Bool.{eqb-true, false≢true}
+use Rattle.std.proofs.Common.{◌≡◌, ◌==◌, ◌&&◌, ◌||◌, ◌%◌, ℕ, Bool, true, Option, None, Some, List, inl, inr, refl, sym, ap, subst, ◌∙◌}
 use Rattle.sv2_frames.specs.Framing.{FrameValue}
-use Rattle.sv2_messages.specs.declared.kinds.TheConstants as kinds
 use Rattle.sv2_messages.specs.Messages.{Message}
 use Rattle.pool_history.specs.declared.asking.Request.{Request}
 use Rattle.pool_history.specs.declared.asking.Request.TheVariants as request
@@ -20,13 +18,10 @@ use Rattle.session_steps.specs.Setups.{Setup, Accepted, Refused, Unsuited, setup
 use Rattle.session_steps.specs.Steps.{met_stage}
 use Rattle.session_steps.specs.Taken.{brings_own_jobs, is_declared_kind, is_taken, takes_declared, takes_kind}
 use Rattle.session_steps.specs.Talks.{Talk}
+use Rattle.declare_laws.proofs.Undeclared.{and_second, declared_kinds}
 use Rattle.declared_ledgers.proofs.Present.{IsPresent, IsSettled, StandsAsking, StandsAt, ended_at}
 
 -- ---- frames of declarations are taken of who brings jobs of its own
-
-and_second : (p q : Bool) → (p && q) ≡ true → q ≡ true
-and_second true q is = is
-and_second false q is = absurd (false≢true is)
 
 -- a kind is taken with these flags
 abbrev takes : Role → Bool → ℕ → ℕ → Bool
@@ -34,25 +29,21 @@ takes role declares flags kind =
     takes_kind role (Some flags) kind
     || (is_declared_kind kind && (declares && brings_own_jobs role (Some flags)))
 
-kind_brings : (role : Role) (declares : Bool) (flags kind : ℕ) (first second : Bool)
-    → (kind == kinds.DECLARE_MINING_JOB) ≡ first
-    → (kind == kinds.PROVIDE_MISSING_TRANSACTIONS_SUCCESS) ≡ second → (first || second) ≡ true
+kind_brings : (role : Role) (declares : Bool) (flags kind : ℕ) → is_declared_kind kind ≡ true
     → takes role declares flags kind ≡ true → brings_own_jobs role (Some flags) ≡ true
-kind_brings role declares flags kind true second is other declared taken =
-    and_second declares (brings_own_jobs role (Some flags))
-    (subst (λ k. takes role declares flags k ≡ true) (eqb-true kind kinds.DECLARE_MINING_JOB is) taken)
-kind_brings role declares flags kind false true is other declared taken =
-    and_second declares (brings_own_jobs role (Some flags))
-    (subst (λ k. takes role declares flags k ≡ true)
-    (eqb-true kind kinds.PROVIDE_MISSING_TRANSACTIONS_SUCCESS other) taken)
-kind_brings role declares flags kind false false is other declared taken = absurd (false≢true declared)
+kind_brings role declares flags kind is taken =
+    elim (declared_kinds kind is) [
+      | inl one ↦ and_second declares (brings_own_jobs role (Some flags))
+          (subst (λ k. takes role declares flags k ≡ true) one taken)
+      | inr other ↦ and_second declares (brings_own_jobs role (Some flags))
+          (subst (λ k. takes role declares flags k ≡ true) other taken)
+    ]
 
 declared_brings : (talk : Talk) (frame : FrameValue) (flags : ℕ) → talk.flags ≡ Some flags
     → is_taken talk frame ≡ true → is_declared_kind frame.kind ≡ true
     → brings_own_jobs talk.role (Some flags) ≡ true
 declared_brings talk frame flags are taken is =
-    kind_brings talk.role talk.declares flags frame.kind (frame.kind == kinds.DECLARE_MINING_JOB)
-    (frame.kind == kinds.PROVIDE_MISSING_TRANSACTIONS_SUCCESS) refl refl is
+    kind_brings talk.role talk.declares flags frame.kind is
     (subst (λ o. (takes_kind talk.role o frame.kind || (is_declared_kind frame.kind && (talk.declares && brings_own_jobs talk.role o))) ≡ true) are
     (and_second (frame.ext % 0x8000 == 0) (takes_kind talk.role talk.flags frame.kind || takes_declared talk frame.kind) taken))
 

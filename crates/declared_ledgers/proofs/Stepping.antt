@@ -1,5 +1,5 @@
 -- Each step of a session leaves it set up and present, or neither.
-use Rattle.std.proofs.Common.{◌≡◌, ℕ, ◌-◌, ◌==◌, Bool, true, false, Option, Some, List, ◌++◌, inr, refl, sym, ap, subst, ◌∙◌}
+use Rattle.std.proofs.Common.{◌≡◌, ℕ, ◌-◌, Bool, true, false, Option, Some, List, ◌++◌, inr, refl, sym, ap, subst, ◌∙◌}
 use Rattle.std.proofs.lemmas.Bool.{cond_both}
 use Rattle.std.specs.Prelude.{bit_and, nat_lt}
 use Rattle.pool_base.specs.Calls.{IsOutcome, Outcome, Replied, Faulted}
@@ -28,7 +28,7 @@ use Rattle.session_steps.specs.declared.ends.SessionEnd.TheVariants as end
 use Rattle.session_steps.specs.States.{State, Stage, Asking, Committing, Greeting, Leaving, Over, Polling, Reading, Refusing, Saying, Put, answered_stage, end_stage, entered_after, fault_end, hears, input_end, news_stage, next_stage, put_stage}
 use Rattle.session_steps.specs.Steps as steps
 use Rattle.session_steps.specs.Steps.{Books, CanCall, CanStep, Says, SessionStep, after_asking, after_booking, after_call, after_news, after_step, ended_by}
-use Rattle.declare_laws.proofs.Stages.{IsQuiet, answered_quiet, ended_quiet, news_quiet}
+use Rattle.declare_laws.proofs.Stages.{answered_quiet, news_quiet, next_quiet}
 use Rattle.declared_ledgers.proofs.Present.{IsPresent, IsSettled, StandsAsking, StandsAt, ended_at, put_at, rules_on, present_on, settled_at, settled_on}
 use Rattle.declared_ledgers.proofs.Meeting.{met_stands}
 
@@ -103,12 +103,6 @@ books_harmless (topic.Channel channel) brief asked books = absurd books
 books_harmless (topic.Token request_id) brief asked books = absurd books
 books_harmless (topic.OwnJob channel request_id) brief asked books = absurd books
 books_harmless (topic.Declared request_id) brief asked books = absurd books
-
-next_quiet : (entered : Bool) (idles : ℕ) → IsQuiet (next_stage entered idles)
-next_quiet true idles =
-    cond_both (idles == 0) (end_stage true end.IdleOut) Reading IsQuiet (λ none. ended_quiet true end.IdleOut) (λ some. tt)
-next_quiet false idles =
-    cond_both (idles == 0) (end_stage false end.IdleOut) Reading IsQuiet (λ none. ended_quiet false end.IdleOut) (λ some. tt)
 
 entered_stays : (entered : Bool) (answer : Reply) → entered ≡ true → entered_after entered answer ≡ true
 entered_stays entered (reply.Entered session) is = refl
