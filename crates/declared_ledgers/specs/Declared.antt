@@ -17,7 +17,7 @@ use Rattle.declare_laws.specs.Answers.{IsAnsweredByRules}
 use Rattle.declare_laws.specs.Paths.{IsPathOfListed}
 
 -- A call among these steps asked for a Grant of this path, for a user of this account, and added the
--- event; and the path is that of the transactions that were listed by what the step before it met.
+-- event; and the path is that of the transactions that were listed for it, in their order.
 pub record IsDeclared (steps : List SessionStep) (session : ℕ) (account : List ℕ)
     (path : List (List ℕ)) : Type 0 where
   pub before : List SessionStep
@@ -50,7 +50,7 @@ AnswersGrant before (Replied answer) put =
     (is_of_grant answer ≡ true) × IsAnsweredByRules before answer put
 AnswersGrant before (Faulted cause) put = put ≡ nothing_put
 
--- the first of the later steps asks for this Grant, and answers what the last of those before met
+-- the first of the later steps is the call for this Grant, with what was put of its answer
 pub record AnswersNext (before : List SessionStep) (identity : List ℕ) (path : List (List ℕ))
     (later : List SessionStep) : Type 0 where
   pub call : PoolCall
