@@ -116,7 +116,7 @@ seated_joined seat miner (Some session) is = record { caller = refl; joined = sy
 row_joined : (a b c : Miner) → SameJoined a b → SameRow b c → SameJoined a c
 row_joined a b c one other = record { caller = other.caller ∙ one.caller; joined = other.joined ∙ one.joined }
 
-subscribed_joined : (relay : Relay) (given : Result Offer ProxyRefusal) (miner : Miner)
+pub subscribed_joined : (relay : Relay) (given : Result Offer ProxyRefusal) (miner : Miner)
     → SameJoined miner (subscribed (terms_of relay.base) relay.tip relay.jobs given miner)
 subscribed_joined relay (Err refusal) miner =
     row_joined miner miner _ (record { caller = refl; joined = refl }) (told_row (terms_of relay.base) (NotOpened (code_of refusal)) miner)
@@ -154,7 +154,7 @@ subscribed_wait relay caller given (sent ∷ waiting) are = (
 
 -- ---- all events
 
-abbrev Wait : Relay → Type 0
+abbrev pub Wait : Relay → Type 0
 Wait relay = AreJoined relay.waiting relay.miners
 
 -- who sent a share is joined
@@ -205,7 +205,7 @@ up_wait : (relay : Relay) (told : UpTold) → Wait relay → Wait (heard_up rela
 up_wait relay SetUp wait = elim (cases_Bool relay.is_set_up) [ inl is ↦ rw is wait | inr not_yet ↦ rw not_yet wait ]
 up_wait relay (Tells told) wait = heard_wait relay told wait
 
-step_wait : (relay : Relay) (input : ProxyEvent) → Wait relay → Wait (step relay input)
+pub step_wait : (relay : Relay) (input : ProxyEvent) → Wait relay → Wait (step relay input)
 step_wait relay (event.Start user base) wait = wait
 step_wait relay (event.Up bytes) wait = up_wait relay (told_up bytes) wait
 step_wait relay event.UpEnd wait = answered_wait (λ sent. true) (λ id. CodeRefusal id (code_of UpstreamLost)) relay wait
@@ -218,7 +218,7 @@ step_wait relay (event.Line caller line) wait =
     (joined_rows relay.waiting relay.miners _ (at_rows caller (line_said (terms_of relay.base) line) relay.miners (said_row (terms_of relay.base) line)) wait)
 step_wait relay (event.Leave caller) wait = not_left caller relay.waiting relay.miners wait
 
-after_wait : (relay : Relay) (inputs : List ProxyEvent) → Wait relay → Wait (after relay inputs)
+pub after_wait : (relay : Relay) (inputs : List ProxyEvent) → Wait relay → Wait (after relay inputs)
 after_wait relay [] wait = wait
 after_wait relay (input ∷ inputs) wait = after_wait (step relay input) inputs (step_wait relay input wait)
 
@@ -265,7 +265,7 @@ each_said said (sent ∷ list) miners caller are =
     ∙ append_assoc (output_in (miner_of caller miners)) (if sent.caller == caller then line_of (said sent.id) else [])
     (lines_for caller (map (answer_to said) list))
 
-those_said : (test : SentOn → Bool) (said : Data → Saying) (relay : Relay) (caller : ℕ) → Wait relay
+pub those_said : (test : SentOn → Bool) (said : Data → Saying) (relay : Relay) (caller : ℕ) → Wait relay
     → output_at caller (answer_those test said relay) ≡ output_at caller relay ++ lines_for caller (map (answer_to said) (filter test relay.waiting))
 those_said test said relay caller wait =
     each_said said (filter test relay.waiting) relay.miners caller (joined_filter test relay.waiting relay.miners wait)

@@ -1,4 +1,5 @@
 pub mod Apart
+pub mod Asking
 pub mod Joining
 pub mod Keeping
 pub mod Rows
@@ -6,3 +7,4 @@ pub mod Sending
 pub mod ShareIds
 pub mod Spaces
 pub mod Stepping
+pub mod Writing

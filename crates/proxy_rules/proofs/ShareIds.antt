@@ -37,7 +37,7 @@ provided_ok : (number : ℕ) (holds : Bool) (why : NotSent) (bytes : List ℕ) (
 provided_ok number true why bytes share is = is
 provided_ok number false why bytes share is = tt
 
-checked_number : (state : V1State) (channel : ℕ) (asked : AskedShare)
+pub checked_number : (state : V1State) (channel : ℕ) (asked : AskedShare)
     → IfOk (checked_share state channel asked) (λ share. share.sequence ≡ state.sequence)
 checked_number state channel asked =
     provided_then state.sequence _ _ _ _ (λ worker. found_then state.sequence (hex_number asked.job) _ _ (λ job.

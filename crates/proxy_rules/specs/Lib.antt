@@ -5,5 +5,6 @@ pub mod Laws
 pub mod Miners
 pub mod Outputs
 pub mod Refusals
+pub mod Sayings
 pub mod State
 pub mod Steps

@@ -10,6 +10,7 @@ ghost use Rattle.proxy_rules.specs.Laws.{
   SubmissionsAreAnsweredOnce,
   SubmissionsAreOfLines,
 };
+ghost use Rattle.proxy_rules.specs.Sayings.{SentLinesAreSilent, SessionsSayTheirOwn};
 
 /// The leads of two miners that are joined differ, and each seat is of the upstream's channel.
 pub fn leads_differ()
@@ -52,4 +53,15 @@ pub fn answers_are_of_submissions()
 /// its own, and nothing else.
 pub fn answers_go_to_their_miner()
     ensures { AnswersGoToTheirMiner }
+{}
+
+/// A session says nothing to a line whose share it asks to send.
+pub fn sent_lines_are_silent()
+    ensures { SentLinesAreSilent }
+{}
+
+/// At each event a caller is written just what its own session says, which answers its line where that
+/// isn't sent on and nothing else, and then the answers to its submissions.
+pub fn sessions_say_their_own()
+    ensures { SessionsSayTheirOwn }
 {}

@@ -11,8 +11,8 @@ mod requests;
 pub use events::ProxyEvent;
 pub use laws::{
     answers_are_of_submissions, answers_go_to_their_miner, extranonces_have_one_lead, leads_differ,
-    shares_have_the_ids_of_lines, spaces_are_apart, submissions_are_answered_once,
-    submissions_are_of_lines,
+    sent_lines_are_silent, sessions_say_their_own, shares_have_the_ids_of_lines, spaces_are_apart,
+    submissions_are_answered_once, submissions_are_of_lines,
 };
 pub use refusals::ProxyRefusal;
 pub use requests::{ProxyReply, ProxyRequest};
