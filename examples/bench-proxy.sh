@@ -138,14 +138,16 @@ def served():
         with open(f"{work}/settings", "w") as file:
             json.dump(settings, file)
         pool = subprocess.Popen([program, "serve", f"{work}/settings", f"{work}/ledger"], stdout=subprocess.DEVNULL)
-        feed, _ = listener.accept()
-        read(feed, GREETING)
-        feed.sendall(ACCEPTED + TEMPLATE + TIP)
-        time.sleep(0.5)
-        took = timed(port, 8)
-        feed.close()
-        pool.kill()
-        pool.wait()
+        try:
+            feed, _ = listener.accept()
+            read(feed, GREETING)
+            feed.sendall(ACCEPTED + TEMPLATE + TIP)
+            time.sleep(0.5)
+            took = timed(port, 8)
+            feed.close()
+        finally:
+            pool.kill()
+            pool.wait()
     return took
 
 def proxied():
@@ -156,15 +158,18 @@ def proxied():
         port = free_port()
         proxy = subprocess.Popen([program, "proxy", f"127.0.0.1:{listener.getsockname()[1]}", "a", f"127.0.0.1:{port}",
                                   str(MINERS)], stdout=subprocess.DEVNULL)
-        took = timed(port, 6)
-        proxy.kill()
-        proxy.wait()
-        peer.join()
+        try:
+            took = timed(port, 6)
+        finally:
+            proxy.kill()
+            proxy.wait()
+            peer.terminate()
+            peer.join()
     return took
 
 times = [(served(), proxied()) for _ in range(ROUNDS)]
 at_serve, at_proxy = (min(each) for each in zip(*times))
 print(f"serve: {count / at_serve:.0f} shares a second, each judged, hashed and kept")
 print(f"proxy: {count / at_proxy:.0f} shares a second, each sent upstream and answered there")
-print(f"ratio {at_serve / at_proxy:.2f} of the proxy's shares a second to those of serve, two miners each")
+print(f"ratio {at_serve / at_proxy:.2f}, of the proxy's shares a second to those of serve, two miners each")
 PY

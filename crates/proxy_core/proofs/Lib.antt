@@ -4,5 +4,6 @@ pub mod Held
 pub mod Leads
 pub mod Messages
 pub mod Openings
+pub mod Rising
 pub mod Runs
 pub mod Verdicts

@@ -2,6 +2,7 @@
 
 ghost use Rattle.std.specs.Prelude.{◌≡◌, IfOk, count_by, map, position};
 ghost use Rattle.proxy_rules.specs.Jobs as jobs;
+ghost use Rattle.v1_translate.specs.Messages.{job_in};
 
 use mining_msgs::{Mining, NewExtendedMiningJob, SetNewPrevHash};
 use std::alloc::{AllocError, Global};
@@ -196,8 +197,22 @@ impl RelayedTip {
     }
 }
 
+/// Holds a copy of the job that a message says, as one more.
+pub(crate) fn hold_job(
+    alloc: Global,
+    held: &mut Vec<RelayedJob>,
+    message: &NewExtendedMiningJob<'_>,
+) -> Result<(), AllocError>
+    ensures { IfOk result (λ done. held.new.items ≡ jobs.with_job
+        (record { job = job_in message.now; min_ntime = message.now.min_ntime })
+        held.old.items) }
+{
+    let job = RelayedJob::of(alloc, message)?;
+    add_job(held, job)
+}
+
 /// Holds a job behind the others, in place of an older one of its number.
-pub(crate) fn add_job(held: &mut Vec<RelayedJob>, job: RelayedJob) -> Result<(), AllocError>
+fn add_job(held: &mut Vec<RelayedJob>, job: RelayedJob) -> Result<(), AllocError>
     ensures { IfOk result (λ done. held.new.items ≡ jobs.with_job job held.old.items) }
 {
     let number = job.number();

@@ -5,19 +5,18 @@ use crate::calling::{
 };
 use crate::channel::UpChannel;
 use crate::frames::message_in;
-use crate::jobs::{RelayedJob, RelayedTip, add_job, tip_jobs};
+use crate::jobs::{RelayedJob, RelayedTip, hold_job, tip_jobs};
 use crate::miners::Miner;
 use crate::opening::{put_opening, terms_of};
 use crate::sharing::sent_from;
 use crate::subscribing::{offer, subscribe_at};
-use crate::waiting::{SentOn, Verdict, answer_those, forget, say_code_at};
+use crate::waiting::{SharesSent, Verdict, say_code_at};
 use mining_msgs::{
     Mining, NewExtendedMiningJob, OpenExtendedMiningChannelSuccess, SetNewPrevHash, put_plain_setup,
 };
 use proxy_rules::{ProxyEvent, ProxyRefusal};
 use std::alloc::{AllocError, Global};
 use std::marker::Model;
-use std::mem;
 use sv2_types::{Str255, U256};
 use v1_translate::{CheckedShare, LineId, V1Ask, V1Terms};
 
@@ -36,9 +35,7 @@ pub(crate) struct Relay {
     jobs: Vec<RelayedJob>,
     tip: Option<RelayedTip>,
     is_ended: bool,
-    sent: u32,
-    // the oldest first
-    waiting: Vec<SentOn>,
+    shares: SharesSent,
     miners: Vec<Miner>,
     output: Vec<u8>,
 }
@@ -60,8 +57,8 @@ impl Model for Relay {
       jobs = r.jobs.items;
       tip = r.tip;
       is_ended = r.is_ended;
-      sent = r.sent;
-      waiting = r.waiting.items;
+      sent = r.shares.count;
+      waiting = r.shares.waiting;
       miners = r.miners.items;
       output = r.output.items;
     } };
@@ -101,8 +98,7 @@ impl Relay {
             jobs: Vec::new(alloc),
             tip: None,
             is_ended: false,
-            sent: 0,
-            waiting: Vec::new(alloc),
+            shares: SharesSent::new(alloc),
             miners: Vec::new(alloc),
             output,
         })
@@ -118,7 +114,7 @@ impl Relay {
     pub(crate) fn sent(&self) -> u32
         ensures { result ≡ self.now.sent }
     {
-        self.sent
+        self.shares.count()
     }
 
     /// All that was written upstream.
@@ -233,8 +229,7 @@ impl Relay {
         ensures { IfOk result (λ done. self.new ≡ steps.job_heard self.old
             (record { job = job_in job.now; min_ntime = job.now.min_ntime })) }
     {
-        let held = RelayedJob::of(self.alloc, job)?;
-        add_job(&mut self.jobs, held)?;
+        hold_job(self.alloc, &mut self.jobs, job)?;
         relay(self.alloc, &self.terms, &mut self.miners, message)
     }
 
@@ -256,9 +251,7 @@ impl Relay {
             ≡ steps.answer_those (verdicts.is_about verdict.entry.0)
             (verdicts.said_by verdict.entry.0) self.old) }
     {
-        let waiting = mem::replace(&mut self.waiting, Vec::new(self.alloc));
-        self.waiting = answer_those(self.alloc, &verdict.0, waiting, &mut self.miners)?;
-        Ok(())
+        self.shares.answer(self.alloc, &verdict.0, &mut self.miners)
     }
 
     /// The upstream ended: nothing waits any more.
@@ -284,7 +277,7 @@ impl Relay {
     fn leave(&mut self, caller: u32)
         ensures { self.new ≡ steps.parted self.old caller }
     {
-        forget(&mut self.waiting, caller);
+        self.shares.forget(caller);
         leave(&mut self.miners, caller);
     }
 
@@ -337,7 +330,7 @@ impl Relay {
             (callers.session_of caller self.old.miners)) }
     {
         let seat = seat_of(self.miners.as_slice(), caller);
-        let sent = sent_from(self.alloc, self.is_ended, self.sent, share, seat)?;
+        let sent = sent_from(self.alloc, self.is_ended, self.shares.count(), share, seat)?;
         match take_share(&mut self.miners, caller, share.sequence()) {
             Some(id) => self.send(caller, id, sent),
             None => Ok(()),
@@ -368,8 +361,6 @@ impl Relay {
         ensures { IfOk result (λ done. self.new ≡ steps.shared self.old caller id (Ok share.now)) }
     {
         share.put(&mut self.output)?;
-        self.waiting.push(SentOn::new(self.sent, caller, id))?;
-        self.sent += 1;
-        Ok(())
+        self.shares.add(caller, id)
     }
 }
