@@ -171,5 +171,5 @@ times = [(served(), proxied()) for _ in range(ROUNDS)]
 at_serve, at_proxy = (min(each) for each in zip(*times))
 print(f"serve: {count / at_serve:.0f} shares a second, each judged, hashed and kept")
 print(f"proxy: {count / at_proxy:.0f} shares a second, each sent upstream and answered there")
-print(f"ratio {at_serve / at_proxy:.2f}, of the proxy's shares a second to those of serve, two miners each")
+print(f"ratio {at_serve / at_proxy:.2f}, shares a second through a proxy to those at serve, two miners each")
 PY
