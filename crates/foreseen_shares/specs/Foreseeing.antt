@@ -7,8 +7,8 @@ use Rattle.pool_history.specs.Headers.{Briefing, coinbase_by, extranonce_prefix,
 use Rattle.share_check.specs.Submitted.{submitted_extranonce, submitted_header}
 
 -- each submission has as many bytes of extranonce as the channel's miner rolls
-abbrev pub AreWhole : Briefing → List Submission → Type 0
-AreWhole brief subs = All (λ sub. sub.extranonce_len ≡ rolled_length brief.kind brief.lead) subs
+abbrev pub HaveRolledLength : Briefing → List Submission → Type 0
+HaveRolledLength brief subs = All (λ sub. sub.extranonce_len ≡ rolled_length brief.kind brief.lead) subs
 
 -- the twelve bytes of the coinbase that are a share's own
 abbrev pub share_extranonce : Briefing → Submission → List ℕ

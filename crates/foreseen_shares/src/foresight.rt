@@ -43,6 +43,11 @@ impl SharesAhead {
     pub fn first(&self) -> Submission {
         self.subs[0]
     }
+
+    /// Whether there is one alone, which isn't worth foreseeing.
+    pub fn is_alone(&self) -> bool {
+        self.others == 0
+    }
 }
 
 /// What is known of the shares that come next. Contracts see nothing of it, since nothing that is
@@ -69,8 +74,9 @@ impl Foresight {
         }
     }
 
-    /// Whether what comes next was foreseen, by the number of shares that came since.
-    pub fn is_ahead(&mut self) -> bool {
+    /// Whether the share that comes next was foreseen. It is to be asked once before each share that
+    /// comes, and counts them.
+    pub fn count_down(&mut self) -> bool {
         if self.ahead == 0 {
             return false;
         }
@@ -81,7 +87,7 @@ impl Foresight {
     /// Works out the headers of the shares that come next, where there are two or more, by what
     /// their channel and job give.
     pub fn foresee(&mut self, alloc: Global, parts: &Parts<'_>, ahead: &SharesAhead) {
-        if ahead.others == 0 {
+        if ahead.is_alone() {
             return;
         }
         self.turn_to(alloc, parts);

@@ -4,7 +4,7 @@ ghost use Rattle.std.specs.Prelude.{◌≡◌, ◌++◌, IsTrue, IfOk, IfSome, l
 ghost use Rattle.block_header.specs.Hash.{dsha};
 ghost use Rattle.pool_history.specs.Headers.{rolled_length};
 ghost use Rattle.share_check.specs.Submitted.{submitted_header};
-ghost use Rattle.foreseen_shares.specs.Foreseeing.{AreWhole, HaveHeaders, share_extranonce, share_root};
+ghost use Rattle.foreseen_shares.specs.Foreseeing.{HaveRolledLength, HaveHeaders, share_extranonce, share_root};
 
 use crate::four::Four;
 use crate::roots::roots_of;
@@ -43,7 +43,8 @@ impl Model for ForeseenShares {
 }
 
 impl ForeseenShares {
-    /// None is foreseen yet. There is no table where a coinbase is so short that it isn't worth it.
+    /// None is foreseen yet. There is no table where `CommonText`
+    /// is none of such coinbases.
     pub fn by(alloc: Global, parts: &Parts<'_>) -> Result<Option<ForeseenShares>, AllocError>
         ensures { IfOk result (λ made. IfSome made (λ foreseen. foreseen ≡ parts.now)) }
     {
@@ -71,7 +72,7 @@ impl ForeseenShares {
     pub fn foresee(&mut self, subs: &[Submission; 4])
         ensures { self.new ≡ self.old }
     {
-        self.four = if are_whole(&self.brief, subs) {
+        self.four = if have_rolled_length(&self.brief, subs) {
             Some(self.four_of(subs))
         } else {
             None
@@ -118,7 +119,7 @@ impl ForeseenShares {
     }
 
     fn four_of(&self, subs: &[Submission; 4]) -> Four
-        requires { AreWhole self.now subs.now }
+        requires { HaveRolledLength self.now subs.now }
         ensures { HaveHeaders self.now result.subs result.headers result.hashes }
     {
         let headers = headers_of(&self.brief, subs, &self.roots_of(subs));
@@ -130,7 +131,7 @@ impl ForeseenShares {
     }
 
     fn roots_of(&self, subs: &[Submission; 4]) -> [[u8; 32]; 4]
-        requires { AreWhole self.now subs.now }
+        requires { HaveRolledLength self.now subs.now }
         ensures { result ≡ map (share_root self.now) subs.now }
     {
         let ids = self.coinbase.double(&extranonces_of(&self.brief, subs));
@@ -144,23 +145,23 @@ fn path_of(brief: &Brief) -> &[[u8; 32]]
     brief.root.path.items()
 }
 
-fn are_whole(brief: &Brief, subs: &[Submission; 4]) -> bool
-    ensures { IsTrue result → AreWhole brief.now subs.now }
+fn have_rolled_length(brief: &Brief, subs: &[Submission; 4]) -> bool
+    ensures { IsTrue result → HaveRolledLength brief.now subs.now }
 {
-    is_whole(brief, &subs[0])
-        && is_whole(brief, &subs[1])
-        && is_whole(brief, &subs[2])
-        && is_whole(brief, &subs[3])
+    has_rolled_length(brief, &subs[0])
+        && has_rolled_length(brief, &subs[1])
+        && has_rolled_length(brief, &subs[2])
+        && has_rolled_length(brief, &subs[3])
 }
 
-fn is_whole(brief: &Brief, sub: &Submission) -> bool
+fn has_rolled_length(brief: &Brief, sub: &Submission) -> bool
     ensures { IsTrue result → sub.now.extranonce_len ≡ rolled_length brief.now.kind brief.now.lead }
 {
     sub.extranonce_len == rolled_length(brief.kind, &brief.lead)
 }
 
 fn extranonces_of(brief: &Brief, subs: &[Submission; 4]) -> [[u8; 12]; 4]
-    requires { AreWhole brief.now subs.now }
+    requires { HaveRolledLength brief.now subs.now }
     ensures { result ≡ map (share_extranonce brief.now) subs.now }
 {
     [

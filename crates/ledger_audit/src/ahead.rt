@@ -15,40 +15,38 @@ const CREDIT: u8 = 9;
 /// Up to four credits of one session, channel and job.
 #[derive(Drop)]
 pub struct CreditsAhead {
-    session: u32,
-    shares: Option<SharesAhead>,
+    /// The session, and the shares.
+    credits: Option<(u32, SharesAhead)>,
 }
 
 impl CreditsAhead {
     /// None yet.
     pub fn none() -> CreditsAhead {
-        CreditsAhead {
-            session: 0,
-            shares: None,
-        }
+        CreditsAhead { credits: None }
     }
 
     /// Takes the credit whose record the bytes begin with, where it goes on those before it, and
     /// says how many bytes the record has.
     pub fn push(&mut self, alloc: Global, bytes: &[u8]) -> Option<usize> {
         let (session, sub, len) = credit_at(alloc, bytes)?;
-        let goes_on = match &mut self.shares {
-            Some(shares) => session == self.session && shares.push(sub),
+        let goes_on = match &mut self.credits {
+            Some((first, shares)) => session == *first && shares.push(sub),
             None => {
-                self.session = session;
-                self.shares = Some(SharesAhead::of(sub));
+                self.credits = Some((session, SharesAhead::of(sub)));
                 true
             }
         };
         if goes_on { Some(len) } else { None }
     }
 
-    /// Has the replay work out their headers.
-    pub fn tell(&self, replay: &mut Replay)
+    /// Has a replay work out their headers, where there are two or more.
+    pub fn foresee_by(&self, replay: &mut Replay)
         ensures { replay.new ≡ replay.old }
     {
-        if let Some(shares) = &self.shares {
-            replay.foresee(self.session, shares);
+        if let Some((session, shares)) = &self.credits
+            && !shares.is_alone()
+        {
+            replay.foresee(*session, shares);
         }
     }
 }
@@ -99,7 +97,7 @@ fn credit_of(event: &Event) -> Option<(u32, Submission)> {
 pub(crate) fn look_ahead(replay: &mut Replay, alloc: Global, bytes: &[u8], hash_len: usize)
     ensures { replay.new ≡ replay.old }
 {
-    if replay.is_ahead() {
+    if replay.count_down() {
         return;
     }
     let mut ahead = CreditsAhead::none();
@@ -110,7 +108,7 @@ pub(crate) fn look_ahead(replay: &mut Replay, alloc: Global, bytes: &[u8], hash_
         };
         rest = behind(behind(rest, len), hash_len);
     }
-    ahead.tell(replay);
+    ahead.foresee_by(replay);
 }
 
 /// What stands behind so many bytes.

@@ -187,11 +187,12 @@ fn lacking(format: Format, bytes: &[u8]) -> usize
     (HEAD_LEN + len + format.hash_len()).saturating_sub(bytes.len())
 }
 
-/// No record was read before.
-fn begin(records: &mut Option<Records>, behind: Records)
-    ensures { records.new ≡ Some behind }
+/// Puts the records behind the magic in their place. A function of its own, so that what was there
+/// is let go of here.
+fn begin(records: &mut Option<Records>, first: Records)
+    ensures { records.new ≡ Some first }
 {
-    *records = Some(behind);
+    *records = Some(first);
 }
 
 /// Says why a ledger goes no further.

@@ -8,11 +8,11 @@ use foreseen_shares::SharesAhead;
 use share_judging::admit;
 
 impl Replay {
-    /// Whether the credit that comes next was foreseen, by the number of credits since.
-    pub fn is_ahead(&mut self) -> bool
+    /// Whether the record that comes next was foreseen. It is to be asked once before each record.
+    pub fn count_down(&mut self) -> bool
         ensures { self.new ≡ self.old }
     {
-        self.foresight.is_ahead()
+        self.foresight.count_down()
     }
 
     /// Works out the headers of a session's credits that stand behind one another, by what their

@@ -84,16 +84,17 @@ impl Restored {
     pub(crate) fn look_ahead(&mut self, records: &[Blob])
         ensures { self.new ≡ self.old }
     {
-        if self.replay.is_ahead() {
+        if self.replay.count_down() {
             return;
         }
+        let read = records.len().min(self.history.len() as usize);
         let mut ahead = CreditsAhead::none();
-        'credits: for record in records.iter().skip(self.history.len() as usize).take(4) {
+        'credits: for record in records[read..].iter().take(4) {
             if ahead.push(self.alloc, record.bytes()).is_none() {
                 break 'credits;
             }
         }
-        ahead.tell(&mut self.replay);
+        ahead.foresee_by(&mut self.replay);
     }
 
     /// The history, and the tables that were told it.

@@ -32,6 +32,8 @@ pub(crate) struct Foreseeing {
     /// The last brief.
     briefed: Option<Briefed>,
     foresight: Foresight,
+    /// Whether bytes stand behind the frame that is met now.
+    goes_on: bool,
 }
 
 impl Foreseeing {
@@ -39,10 +41,11 @@ impl Foreseeing {
         Foreseeing {
             briefed: None,
             foresight: Foresight::none(),
+            goes_on: false,
         }
     }
 
-    /// What `check` of `share_check` gives, and the brief is known for the shares that come next.
+    /// What `check` of `share_check` gives. The brief is kept where shares may come behind this one.
     pub(crate) fn check(&mut self, brief: Brief, sub: Submission) -> Checked
         requires { sub.extranonce_len ≡ rolled_length brief.kind brief.lead }
         ensures brief { result.brief ≡ brief }
@@ -50,12 +53,18 @@ impl Foreseeing {
         ensures header { result.header ≡ submitted_header brief sub }
         ensures hash { result.hash ≡ dsha result.header }
     {
-        self.note(&parts_of(&brief), &sub);
+        if self.goes_on {
+            self.keep_brief(&parts_of(&brief), &sub);
+        }
         self.foresight.check(brief, sub)
     }
 
-    /// Keeps what a share was briefed by.
-    fn note(&mut self, parts: &Parts<'_>, sub: &Submission) {
+    /// A share that wasn't briefed costs no hash, nor may those behind it.
+    pub(crate) fn forget(&mut self) {
+        self.briefed = None;
+    }
+
+    fn keep_brief(&mut self, parts: &Parts<'_>, sub: &Submission) {
         if !self.knows(parts, sub) {
             self.briefed = match brief_of(parts) {
                 Ok(brief) => Some(Briefed {
@@ -81,8 +90,9 @@ impl Foreseeing {
 
     /// Looks at the bytes behind a frame. Where they begin with two shares or more of the channel
     /// and job that were briefed last, the headers of the first four are worked out.
-    pub(crate) fn look(&mut self, alloc: Global, bytes: &[u8]) {
-        if self.foresight.is_ahead() || bytes.len() < TWO_SHARES {
+    pub(crate) fn look_ahead(&mut self, alloc: Global, bytes: &[u8]) {
+        self.goes_on = bytes.len() >= TWO_SHARES;
+        if self.foresight.count_down() || !self.goes_on {
             return;
         }
         let Some(known) = &self.briefed else {
@@ -119,9 +129,10 @@ fn share_at(alloc: Global, bytes: &[u8]) -> Option<(Submission, &[u8])> {
     Some((sub, behind))
 }
 
-/// The kind and the payload of the frame with which the bytes begin, and what stands behind it.
+/// The kind and the payload of the frame with which the bytes begin, and what stands behind it. A
+/// frame of an extension is none that a session takes.
 fn frame_at(bytes: &[u8]) -> Option<(u8, &[u8], &[u8])> {
-    let [_, _, kind, low, middle, high, rest @ ..] = bytes else {
+    let [0, 0 | 0x80, kind, low, middle, high, rest @ ..] = bytes else {
         return None;
     };
     let len = usize::from(*low) + 256 * (usize::from(*middle) + 256 * usize::from(*high));

@@ -111,7 +111,7 @@ impl Session {
     pub fn look_ahead(&mut self, alloc: Global, bytes: &[u8])
         ensures { self.new ≡ self.old }
     {
-        self.foreseeing.look(alloc, bytes);
+        self.foreseeing.look_ahead(alloc, bytes);
     }
 
     /// Hears the reply to its last request. Where that is what a share's header is computed from,
@@ -408,7 +408,10 @@ impl Session {
     {
         match reply {
             Reply::Brief(brief) => Ok(Request::Commit(self.foreseeing.check(brief, sub))),
-            reply => Err(reply),
+            reply => {
+                self.foreseeing.forget();
+                Err(reply)
+            }
         }
     }
 }

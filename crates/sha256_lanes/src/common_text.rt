@@ -1,6 +1,6 @@
 //! Messages that differ in twelve bytes alone, such as the coinbases of one job.
 
-ghost use Rattle.std.specs.Prelude.{◌≡◌, ℕ, ◌+◌, ◌*◌, ◌/◌, ◌%◌, ◌^◌, ◌<◌, ◌≤◌, ◌++◌, List, [], get_or, length, map, replicate, take, drop, IfOk, IfSome, OnOk};
+ghost use Rattle.std.specs.Prelude.{◌≡◌, ℕ, ◌+◌, ◌*◌, ◌/◌, ◌%◌, ◌^◌, ◌<◌, ◌≤◌, ◌++◌, List, [], get_or, length, map, replicate, take, drop, IfNone, IfOk, IfSome, OnOk};
 ghost use Rattle.sha2.specs.Sha256.{final_hash, hash_after, initial_hash_256, padding, sha256};
 ghost use Rattle.sha256_lanes.specs.CommonTexts.{IsAround, text_with};
 ghost use Rattle.sha256_lanes.specs.Lanes.{lane};
@@ -39,10 +39,12 @@ impl Model for CommonText {
 }
 
 impl CommonText {
-    /// Of the messages that begin and end so. There is none where fewer than two blocks are left
-    /// behind those that are the same.
+    /// Of the messages that begin and end so. There is none where one block alone is left behind
+    /// those that are the same.
     pub fn of(alloc: Global, before: &[u8], after: &[u8]) -> Result<Option<CommonText>, AllocError>
-        ensures { IfOk result (λ found. IfSome found (IsAround before.now after.now)) }
+        ensures some { IfOk result (λ found. IfSome found (IsAround before.now after.now)) }
+        ensures none { IfOk result (λ found. IfNone found
+            (length before.now % 64 + length after.now + 21 ≤ 64)) }
     {
         let (blocks, head) = before.split_at(before.len() / 64 * 64);
         let total = before.len().wrapping_add(12).wrapping_add(after.len());
@@ -71,44 +73,44 @@ impl CommonText {
             (text_with self.now (get_or middles.now l [])) (length self.now.text / 64) }
         ensures long { (l : ℕ) → l < 4 → length (get_or middles.now l []) ≡ 12 }
     {
-        let fronts = self.fronts_with(middles);
+        let first_blocks = self.first_blocks_with(middles);
         hash_blocks(
-            hash_fronts(in_each_lane(&self.hash), &fronts),
+            hash_first_blocks(in_each_lane(&self.hash), &first_blocks),
             &self.text[128..],
         )
     }
 
-    fn fronts_with(&self, middles: &[[u8; 12]; 4]) -> [[u8; 128]; 4]
-        ensures fronts { result ≡ map (λ m. take 128 (text_with self.now m)) middles.now }
+    fn first_blocks_with(&self, middles: &[[u8; 12]; 4]) -> [[u8; 128]; 4]
+        ensures blocks { result ≡ map (λ m. take 128 (text_with self.now m)) middles.now }
         ensures long { (l : ℕ) → l < 4 → length (get_or middles.now l []) ≡ 12 }
     {
         [
-            self.front_with(&middles[0]),
-            self.front_with(&middles[1]),
-            self.front_with(&middles[2]),
-            self.front_with(&middles[3]),
+            self.first_two_with(&middles[0]),
+            self.first_two_with(&middles[1]),
+            self.first_two_with(&middles[2]),
+            self.first_two_with(&middles[3]),
         ]
     }
 
     // The first two blocks of the text with these twelve bytes.
-    fn front_with(&self, middle: &[u8; 12]) -> [u8; 128]
-        ensures front { result ≡ take 128 (text_with self.now middle.now) }
+    fn first_two_with(&self, middle: &[u8; 12]) -> [u8; 128]
+        ensures blocks { result ≡ take 128 (text_with self.now middle.now) }
         ensures long { length middle.now ≡ 12 }
     {
-        let mut front = [0; 128];
-        front.copy_from_slice(&self.text[..128]);
-        front[self.at..self.at + 12].copy_from_slice(middle);
-        front
+        let mut first_two = [0; 128];
+        first_two.copy_from_slice(&self.text[..128]);
+        first_two[self.at..self.at + 12].copy_from_slice(middle);
+        first_two
     }
 }
 
 // The hash values behind two blocks of each message.
-fn hash_fronts(state: [u32x4; 8], fronts: &[[u8; 128]; 4]) -> [u32x4; 8]
+fn hash_first_blocks(state: [u32x4; 8], first_blocks: &[[u8; 128]; 4]) -> [u32x4; 8]
     ensures { (l : ℕ) → l < 4
-        → lane l result ≡ hash_after (lane l state) (get_or fronts.now l []) 2 }
+        → lane l result ≡ hash_after (lane l state) (get_or first_blocks.now l []) 2 }
 {
-    let first = compress_words(state, words_of(fronts, 0));
-    compress_words(first, words_of(fronts, 64))
+    let first = compress_words(state, words_of(first_blocks, 0));
+    compress_words(first, words_of(first_blocks, 64))
 }
 
 // Bytes, twelve zeros, more bytes, and the padding of a message that is so long.

@@ -10,7 +10,7 @@ returns-clause-hash c = λ l lt.
     let text = c.self.inside.text.items in
     let at = c.self.inside.at in
     let middle = get_or c.args.middles.now l [] in
-    let long : length middle ≡ 12 = c.fronts_with-fronts.ensures.long l lt in
+    let long : length middle ≡ 12 = c.first_blocks_with-first_blocks.ensures.long l lt in
     let within = c.self.invariant.within in
     let two = c.self.invariant.two in
     let placed = take at text ++ middle ++ drop (at + 12) text in
@@ -19,11 +19,11 @@ returns-clause-hash c = λ l lt.
     let given = c.deref.result.now in
     let rest : take (length given - 128) (drop 128 given) ≡ drop 128 placed =
     take_rest given 128 ∙ ap (drop 128) c.deref.ensures.value ∙ sym (drop-placed text middle at within two long) in
-    let front : get_or c.fronts_with-fronts.result l [] ≡ take 128 placed =
-    ap (λ fronts. get_or fronts l []) c.fronts_with-fronts.ensures.fronts
+    let front : get_or c.first_blocks_with-first_blocks.result l [] ≡ take 128 placed =
+    ap (λ fronts. get_or fronts l []) c.first_blocks_with-first_blocks.ensures.blocks
     ∙ get_or-map (λ m. take 128 (text_with c.args.self.now m)) c.args.middles.now l [] [] (omega (arith, c.told-middles))
     ∙ ap (λ common. take 128 (text_with common middle)) (sym c.self.view_is) in
-    let first = c.hash_fronts.ensures l lt
+    let first = c.hash_first_blocks.ensures l lt
     ∙ (λ t. hash_after (c.in_each_lane.ensures l lt t) (front t) 2) in
     c.hash_blocks.ensures l lt
     ∙ (λ t. hash_after (first t) (rest t) (length (rest t) / 64))

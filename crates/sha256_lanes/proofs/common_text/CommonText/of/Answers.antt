@@ -4,8 +4,8 @@ use Rattle.sha2.specs.Sha256.{final_hash, hash_after, initial_hash_256, padding}
 use Rattle.sha256_lanes.proofs.BlockRows.{hash_around, length-placed, padding_of, placed_in}
 use Rattle.sha256_lanes.proofs.common_text.CommonText.of.Goals as goal
 
-pub returns : goal.returns
-returns c = record {
+pub returns-clause-some : goal.returns-clause-some
+returns-clause-some c = record {
   hashed = λ middle long.
       let before = c.args.before.now in
       let after = c.args.after.now in

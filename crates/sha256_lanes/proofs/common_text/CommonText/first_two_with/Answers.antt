@@ -3,7 +3,7 @@ use Rattle.std.proofs.lemmas.List.{length-take-le, take_all}
 use Rattle.std.proofs.lemmas.Slice.{put_mid-paste}
 use Rattle.sha256_lanes.specs.CommonTexts.{text_with}
 use Rattle.sha256_lanes.proofs.BlockRows.{take-placed}
-use Rattle.sha256_lanes.proofs.common_text.CommonText.front_with.Goals as goal
+use Rattle.sha256_lanes.proofs.common_text.CommonText.first_two_with.Goals as goal
 
 pub slice_bounds-copy_from_slice-end-2 : goal.slice_bounds-copy_from_slice-end-2
 slice_bounds-copy_from_slice-end-2 c =
@@ -15,8 +15,8 @@ copy_from_slice-requires c =
     sym (ap (λ text. length (take 128 text)) c.deref.ensures.value
     ∙ length-take-le 128 c.self.inside.text.items c.self.invariant.two)
 
-pub returns-clause-front : goal.returns-clause-front
-returns-clause-front c =
+pub returns-clause-blocks : goal.returns-clause-blocks
+returns-clause-blocks c =
     let text = c.self.inside.text.items in
     let at = c.self.inside.at in
     let middle = c.args.middle.now in

@@ -3,11 +3,11 @@ use Rattle.sha2.specs.Sha256.{compress}
 use Rattle.sha256_lanes.specs.Lanes.{lane}
 use Rattle.sha256_lanes.proofs.BlockRows.{hash_after_two}
 use Rattle.sha256_lanes.proofs.Words.{word_at-front, word_at-drop, word_at-take}
-use Rattle.sha256_lanes.proofs.common_text.hash_fronts.Goals as goal
+use Rattle.sha256_lanes.proofs.common_text.hash_first_blocks.Goals as goal
 
 pub returns : goal.returns
 returns c = λ l lt.
-    let m = get_or c.args.fronts.now l [] in
+    let m = get_or c.args.first_blocks.now l [] in
     let long : length m ≡ 128 = c.words_of.ensures.long l lt in
     let first = c.compress_words-first.ensures l lt (take 64 m)
     (λ k below. c.words_of.ensures.words l lt k below ∙ word_at-front m k
