@@ -1,6 +1,6 @@
 //! The shares of one brief.
 
-ghost use Rattle.std.specs.Prelude.{◌≡◌, ◌++◌, IsTrue, IfOk, IfSome, length, map};
+ghost use Rattle.std.specs.Prelude.{◌≡◌, ◌↔◌, ◌+◌, ◌%◌, ◌≤◌, ◌++◌, IsTrue, IfNone, IfOk, IfSome, length, map};
 ghost use Rattle.block_header.specs.Hash.{dsha};
 ghost use Rattle.pool_history.specs.Headers.{rolled_length};
 ghost use Rattle.share_check.specs.Submitted.{submitted_header};
@@ -46,7 +46,9 @@ impl ForeseenShares {
     /// None is foreseen yet. There is no table where `CommonText`
     /// is none of such coinbases.
     pub fn by(alloc: Global, parts: &Parts<'_>) -> Result<Option<ForeseenShares>, AllocError>
-        ensures { IfOk result (λ made. IfSome made (λ foreseen. foreseen ≡ parts.now)) }
+        ensures some { IfOk result (λ made. IfSome made (λ foreseen. foreseen ≡ parts.now)) }
+        ensures none { IfOk result (λ made. IfNone made
+            (length parts.now.prefix % 64 + length parts.now.suffix + 21 ≤ 64)) }
     {
         let root = &**parts.root;
         let coinbase = CommonText::of(alloc, root.coinbase.prefix(), root.coinbase.suffix())?;
@@ -62,7 +64,7 @@ impl ForeseenShares {
 
     /// Whether they are shares of this brief.
     pub fn is_by(&self, parts: &Parts<'_>) -> bool
-        ensures { IsTrue result → self.now ≡ parts.now }
+        ensures { IsTrue result ↔ (self.now ≡ parts.now) }
     {
         is_brief_of(&self.brief, parts)
     }
