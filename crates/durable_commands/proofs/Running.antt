@@ -89,4 +89,6 @@ others = record {
   unready = λ rules idle_turns old new cause found is serves. stands_on rules old.disk new.disk found cause is serves.2;
   unservable = λ settings disk old new status found is stands. unserved settings disk stands.back found stands.cause is stands.none;
   audited = opened_at_most;
+  unstreamed = λ rules disk old new error found is lacks. (lacks.disks, untouched rules disk found is);
+  unprinted = λ rules disk old new error found is lacks. (lacks.disks, untouched rules disk found is);
 }

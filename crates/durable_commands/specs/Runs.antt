@@ -1,5 +1,6 @@
 -- That what the commands over a disk do is a run on it (this project's own).
 use Rattle.std.specs.Prelude.{ℕ, ◌≡◌, List, Some}
+use Rattle.pool_io.specs.declared.host.HostError.{HostError}
 use Rattle.pool_io.specs.Seen.{SinkSeen}
 use Rattle.disk_io.specs.Calls.{DiskSeen}
 use Rattle.disk_io.specs.Disks.{opened_disk}
@@ -13,9 +14,11 @@ use Rattle.serve_command.specs.Serving.{ReachedSeen, Served, Unserved}
 use Rattle.disk_book.specs.declared.cause.NoBook.{NoBook}
 use Rattle.disk_book.specs.Runs.{HasGoneOn, HasStood}
 use Rattle.durable_commands.specs.declared.session.DiskEnd.TheVariants as end
-use Rattle.durable_commands.specs.Auditing.{AuditsDisk}
+use Rattle.durable_commands.specs.Auditing.{AuditsDisk, HasNoSink}
+use Rattle.durable_commands.specs.Given.{with_disk_back}
 use Rattle.durable_commands.specs.Serving.{GivesBookBack, IsUnservable, ServedByDisk}
 use Rattle.durable_commands.specs.Sessions.{DiskOutsides, ServedOnDisk, ServesOnDisk}
+use Rattle.durable_commands.specs.Soloing.{HostAndDisks, LacksStreams}
 use Rattle.durable_commands.specs.Surroundings.{Surroundings}
 
 -- A session on a disk is a run that went on with what was found there, to the session's history,
@@ -68,8 +71,13 @@ StandsOn rules found disk =
       left = left;
     })
 
--- So is what else is done with a disk: where no book was ready for a session, or for many; and where an
--- audit opened it.
+-- a disk that came back is one on which such a run has stood
+abbrev pub ComesBackStood : Rules → List ℕ → DiskSeen → HostAndDisks → HostAndDisks → Type 0
+ComesBackStood rules found back old new =
+    (new.disks ≡ with_disk_back old.disks back) × StandsOn rules found back
+
+-- So is what else is done with a disk: where no book was ready for a session, or for many; where an
+-- audit opened it; and where the host then gave no streams for a session, or no output for an audit.
 pub record OthersStand : Type 0 where
   pub unready : (rules : Rules) (idle_turns : ℕ) (old new : DiskOutsides) (cause : NoBook)
       (found : List ℕ) → old.disk ≡ opened_disk (Some found)
@@ -81,3 +89,9 @@ pub record OthersStand : Type 0 where
   pub audited : (rules : Rules) (disk back : DiskSeen) (old new : SinkSeen) (status : Status)
       (found : List ℕ) → disk ≡ opened_disk (Some found) → AuditsDisk disk back old new status
       → StandsOn rules found back
+  pub unstreamed : (rules : Rules) (disk : DiskSeen) (old new : HostAndDisks) (error : HostError)
+      (found : List ℕ) → disk ≡ opened_disk (Some found) → LacksStreams disk old new error
+      → ComesBackStood rules found disk old new
+  pub unprinted : (rules : Rules) (disk : DiskSeen) (old new : HostAndDisks) (error : HostError)
+      (found : List ℕ) → disk ≡ opened_disk (Some found) → HasNoSink disk old new error
+      → ComesBackStood rules found disk old new
