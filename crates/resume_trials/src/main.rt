@@ -1,6 +1,7 @@
 //! Trials of books that are resumed: each case has records, and says what comes of them.
 #![tactic(auto)]
 
+mod asking;
 mod resumed;
 
 use anyhow::{Result, bail};

@@ -1,7 +1,7 @@
-//! A book of records that were kept before.
+//! A book of records that were kept before, and what it answers.
 
+use crate::asking::{ask, summary};
 use ledger_resume::{ResumeError, resume};
-use pool_history::{Reply, Request};
 use pool_io::{Keeper, KeeperFailed};
 use share_ledger::Book;
 use std::alloc::Global;
@@ -10,7 +10,7 @@ use trial_support::{Subject, bytes, number, told, word};
 
 /// A keeper that tells nothing of what it keeps, as a file doesn't.
 #[derive(Drop)]
-struct MuteKeeper;
+pub(crate) struct MuteKeeper;
 
 impl Keeper for MuteKeeper {
     ghost use Rattle.std.specs.Prelude.{None};
@@ -22,16 +22,18 @@ impl Keeper for MuteKeeper {
     }
 }
 
-/// The records of one case.
+/// The records of one case, and the book that was resumed from them last.
 #[derive(Drop)]
 pub(crate) struct Resumed {
     records: Vec<Blob>,
+    book: Option<Book<MuteKeeper>>,
 }
 
 impl Subject for Resumed {
     fn begin(alloc: Global) -> Option<Resumed> {
         Some(Resumed {
             records: Vec::new(alloc),
+            book: None,
         })
     }
 
@@ -42,37 +44,34 @@ impl Subject for Resumed {
                 self.records.push(record).ok()?;
                 told(alloc, "kept")
             }
-            "resume" => outcome_of(alloc, &self.records, number(words, 1)?),
+            "resume" => self.resume_all(alloc),
+            "ask" => {
+                let record = bytes(alloc, words, 2)?;
+                ask(
+                    alloc,
+                    self.book.as_mut()?,
+                    number(words, 1)?,
+                    record.as_slice(),
+                )
+            }
+            "summary" => summary(alloc, self.book.as_ref()?),
             _ => None,
         }
     }
 }
 
-/// What comes of records, and of the Leave of a worker that is then asked for.
-fn outcome_of(alloc: Global, records: &[Blob], worker: u32) -> Option<String> {
-    match resume(alloc, MuteKeeper, records) {
-        Ok(book) => tell_book(alloc, book, worker),
-        Err((_, error)) => tell_error(alloc, error),
+impl Resumed {
+    /// Resumes a book from the records so far, and says how many events it has, or why there is none.
+    fn resume_all(&mut self, alloc: Global) -> Option<String> {
+        match resume(alloc, MuteKeeper, self.records.as_slice()) {
+            Ok(book) => {
+                let count = book.len();
+                self.book = Some(book);
+                format!(in alloc; "{count} events").ok()
+            }
+            Err((_, error)) => tell_error(alloc, error),
+        }
     }
-}
-
-/// What a book answers to a worker's Leave, how many events it then has, and its summary.
-fn tell_book(alloc: Global, book: Book<MuteKeeper>, worker: u32) -> Option<String> {
-    let mut book = book;
-    let has_left = matches!(book.act(worker, Request::Leave), Ok(Reply::Left));
-    let events = book.len();
-    let mut summary = Vec::new(alloc);
-    let is_told = book.summary(&mut summary).is_ok();
-    let (_keeper, _history) = book.into_parts();
-    if !is_told {
-        return None;
-    }
-    let summary = String::from_utf8(summary).ok()?;
-    let mut said = format!(in alloc; "{has_left} {events}").ok()?;
-    for line in summary.as_str().lines() {
-        write!(&mut said, "; {line}").ok()?;
-    }
-    Some(said)
 }
 
 /// The words of a refusal.
