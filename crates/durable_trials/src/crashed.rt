@@ -7,10 +7,12 @@ ghost use Rattle.disk_book.specs.Books.{IsJustOpened};
 use disk_book::NoBook;
 use disk_io::{Failures, MemDisk};
 use durable_commands::{DiskEnd, ServedDisk, serve_disk};
+use ledger_audit::{verdict_of, write_verdict};
 use ledger_disk::DiskLedger;
 use pool_core::SessionEnd;
 use pool_io::{Limits, Piece, SureSink, SureSource, Turn};
 use std::alloc::Global;
+use std::str;
 use sv2_types::Blob;
 use trial_support::{Subject, bytes, example_rules, number, told, word};
 
@@ -78,17 +80,19 @@ impl Subject for Crashed {
 }
 
 impl Crashed {
-    /// How a session ends over the disk that fails so; which records are found behind a crash; and how
-    /// a session without input then ends, and how many records there are behind it.
+    /// How a session ends over the disk that fails so; which records are found behind a crash; how a
+    /// session without input then ends, and which records there are behind it; and the verdict on these.
     fn outcome(&self, alloc: Global, failures: Failures, pick: u64) -> Option<String> {
         let (end, disk) = session(alloc, &self.disk, Some(failures), &self.input)?;
         let left = disk.crash(pick);
-        let found = found_on(alloc, left.content(), &self.records)?;
+        let found = counts_of(alloc, &entries_on(alloc, left.content())?, &self.records)?;
         let (later, disk) = session(alloc, left.content(), None, &[])?;
-        let stand = found_on(alloc, disk.content(), &self.records)?;
+        let entries = entries_on(alloc, disk.content())?;
+        let stand = counts_of(alloc, &entries, &self.records)?;
+        let verdict = verdict_line(alloc, &entries)?;
         let end = end_word(end);
         let later = end_word(later);
-        format!(in alloc; "{end} {found}; {later} {stand}").ok()
+        format!(in alloc; "{end} {found}; {later} {stand} {verdict}").ok()
     }
 }
 
@@ -128,17 +132,27 @@ fn disk_of(alloc: Global, content: &[u8], failures: Option<Failures>) -> Option<
     }
 }
 
-/// How many of the entries on a disk are the first of these records, and how many there are.
-fn found_on(alloc: Global, content: &[u8], records: &[Blob]) -> Option<String> {
-    let disk = disk_of(alloc, content, None)?;
-    match DiskLedger::open(alloc, disk) {
-        Ok((_ledger, entries)) => {
-            let same = same_in_front(&entries, records);
-            let all = entries.len();
-            format!(in alloc; "{same} of {all}").ok()
-        }
-        Err((_disk, _error)) => told(alloc, "none"),
+/// The entries that are found on a disk; none where it holds no ledger.
+fn entries_on(alloc: Global, content: &[u8]) -> Option<Vec<Blob>> {
+    match DiskLedger::open(alloc, disk_of(alloc, content, None)?) {
+        Ok((_ledger, entries)) => Some(entries),
+        Err((_disk, _error)) => None,
     }
+}
+
+/// How many of these entries are the first of these records, and how many there are.
+fn counts_of(alloc: Global, entries: &[Blob], records: &[Blob]) -> Option<String> {
+    let same = same_in_front(entries, records);
+    let all = entries.len();
+    format!(in alloc; "{same} of {all}").ok()
+}
+
+/// What an audit says of entries, one behind the other.
+fn verdict_line(alloc: Global, entries: &[Blob]) -> Option<String> {
+    let mut line = Vec::new(alloc);
+    write_verdict(verdict_of(alloc, entries).ok()?, &mut line).ok()?;
+    let line = str::from_utf8(line.as_slice()).ok()?;
+    told(alloc, line.trim_end())
 }
 
 /// How many of the first entries are these records.
