@@ -6,7 +6,7 @@ use command_line::Word;
 use std::alloc::Global;
 
 /// What a line may begin with. Those from `status` on say what is wanted.
-const KEYS: [&str; 31] = [
+const KEYS: [&str; 33] = [
     "words",
     "sizes",
     "file",
@@ -22,6 +22,8 @@ const KEYS: [&str; 31] = [
     "fail-put",
     "fail-append",
     "fail-accept",
+    "fail-link-take",
+    "fail-link-put",
     "disk",
     "fail-open-disk",
     "fail-disk",

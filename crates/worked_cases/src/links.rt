@@ -1,6 +1,6 @@
 //! Links that wait for each other, so that sessions meet in one process, and the doors to them.
 
-use pool_io::{SinkFailed, Took};
+use pool_io::{FailingCalls, SinkFailed, Took};
 use pool_network::{Came, Door, Link, MemDoor};
 use std::collections::VecDeque;
 use std::sync::atomic::{AtomicU64, Ordering};
@@ -51,7 +51,8 @@ pub struct Gated {
     pub given: usize,
 }
 
-/// Brings frames, each once its gate is open, and is Idle until then. It tells nothing.
+/// Brings frames, each once its gate is open, and is Idle until then; some of its calls fail. It tells nothing
+/// else.
 #[derive(Drop)]
 pub struct GatedLink<'a> {
     pub coming: VecDeque<Gated>,
@@ -59,6 +60,8 @@ pub struct GatedLink<'a> {
     pub place: usize,
     /// How many frames were given whole.
     pub given: u64,
+    pub takes: FailingCalls,
+    pub puts: FailingCalls,
     /// How far each link is, by its place.
     pub progress: &'a [Progress],
 }
@@ -88,12 +91,15 @@ impl GatedLink<'_> {
 impl Link for GatedLink<'_> {
     ghost use Rattle.std.specs.Prelude.{None};
 
-    ghost seen = { λ _. record {
-      source = record { faults = 0; left = None };
-      sink = record { faults = 0; held = None };
+    ghost seen = { λ link. record {
+      source = record { faults = link.takes.faults; left = None };
+      sink = record { faults = link.puts.faults; held = None };
     } };
 
     fn take(&mut self, buffer: &mut [u8]) -> Took {
+        if self.takes.next_fails() {
+            return Took::Failed;
+        }
         self.meet();
         let Some(mut gated) = self.coming.pop_front() else {
             return Took::End;
@@ -124,6 +130,9 @@ impl Link for GatedLink<'_> {
     }
 
     fn put(&mut self, piece: &[u8]) -> Result<usize, SinkFailed> {
+        if self.puts.next_fails() {
+            return Err(SinkFailed::Failed);
+        }
         if self.held.extend_from_slice(piece).is_err() {
             return Err(SinkFailed::Memory);
         }

@@ -1,11 +1,11 @@
 //! The host and the network that a case describes.
 
-use crate::case::Case;
+use crate::case::{Case, numbers};
 use crate::expressions::{Names, number};
 use crate::links::{CaseDoor, Gate, Gated, GatedLink, Progress};
 use anyhow::{Result, bail};
 use ledger_records::{MAGIC, chain, magic_hash};
-use pool_io::{MemFile, MemHost, Name, Piece, Script, Turn};
+use pool_io::{FailingCalls, MemFile, MemHost, Name, Piece, Script, Turn};
 use pool_network::{Arrival, MemDoor, MemNetwork};
 use std::alloc::Global;
 use std::collections::VecDeque;
@@ -134,7 +134,7 @@ pub fn network_of<'a>(
 ) -> Result<CaseNetwork<'a>> {
     let mut to_dial = VecDeque::new(alloc);
     if let Some(frames) = case.last("feed") {
-        to_dial.push_back(link_of(alloc, names, frames, 0, progress)?)?;
+        to_dial.push_back(link_of(alloc, names, case, frames, 0, progress)?)?;
     }
     let mut doors = Vec::new(alloc);
     for door in 0..number(case.last("doors").unwrap_or("0"))? {
@@ -162,7 +162,7 @@ fn coming_to<'a>(
         if line.key == "caller" {
             place = place.saturating_add(1);
             if number(at)? == door {
-                let link = link_of(alloc, names, frames, place, progress)?;
+                let link = link_of(alloc, names, case, frames, place, progress)?;
                 coming.push_back(Arrival::Caller(link))?;
             }
         } else if line.key == "nobody" && number(at)? == door {
@@ -177,6 +177,7 @@ fn coming_to<'a>(
 fn link_of<'a>(
     alloc: Global,
     names: &Names,
+    case: &Case<'_>,
     frames: &str,
     place: usize,
     progress: &'a [Progress],
@@ -207,8 +208,21 @@ fn link_of<'a>(
         held: Vec::new(alloc),
         place,
         given: 0,
+        takes: FailingCalls::of(failing_at(alloc, case, "fail-link-take", place)?),
+        puts: FailingCalls::of(failing_at(alloc, case, "fail-link-put", place)?),
         progress,
     })
+}
+
+/// The numbers of the calls that fail, which the last line with a key lists behind a link's place.
+fn failing_at(alloc: Global, case: &Case<'_>, key: &str, place: usize) -> Result<Vec<u64>> {
+    for line in case.lines().iter().rev() {
+        let (at, calls) = line.rest.split_once(' ').unwrap_or((line.rest, ""));
+        if line.key == key && number(at)? == place as u64 {
+            return numbers(alloc, calls);
+        }
+    }
+    Ok(Vec::new(alloc))
 }
 
 /// A gate, `PLACE:BYTES` or `PLACE#FRAMES`, before a frame without bytes.
