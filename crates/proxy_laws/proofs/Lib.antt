@@ -1,7 +1,9 @@
 pub mod Growing
+pub mod Keeping
 pub mod Outputs
 pub mod Polls
 pub mod Gaps
+pub mod Setups
 pub mod Traces
 pub mod Owed
 pub mod Upstreams

@@ -1,6 +1,8 @@
 //! The laws, each a function without a body.
 
+ghost use Rattle.proxy_laws.specs.Laws.{ProxiesKeepLaws};
 ghost use Rattle.proxy_laws.specs.Puts.{MinersArePutOutput, UpstreamsArePutOutput};
+ghost use Rattle.proxy_laws.specs.Setups.{BadSetupsAreExact};
 
 /// What the upstream's link was put is what the proxy had written upstream when it was polled last, or, where
 /// a put failed or found no memory, a front of that.
@@ -12,4 +14,15 @@ pub fn upstreams_are_put_output()
 /// or, where a put failed or found no memory, a front of that.
 pub fn miners_are_put_output()
     ensures { MinersArePutOutput }
+{}
+
+/// A proxy that began with a Start and was run over links has that Start and inputs, for which the laws of
+/// `proxy_rules` hold.
+pub fn proxies_keep_laws()
+    ensures { ProxiesKeepLaws }
+{}
+
+/// A proxy ends its upstream by BadSetup exactly where the messages that it was told of it are such.
+pub fn bad_setups_are_exact()
+    ensures { BadSetupsAreExact }
 {}

@@ -1,6 +1,9 @@
-//! Laws of a proxy over links: what each link was put is the output of the proxy's rules up to its last poll.
+//! Laws of a proxy over links: it keeps the laws of all proxies, and what each link was put is
+//! the output of the proxy's rules up to its last poll.
 #![tactic(auto)]
 
 mod laws;
 
-pub use laws::{miners_are_put_output, upstreams_are_put_output};
+pub use laws::{
+    bad_setups_are_exact, miners_are_put_output, proxies_keep_laws, upstreams_are_put_output,
+};
