@@ -1,47 +1,53 @@
 //! Shares that stand behind one another, and what was worked out of them.
 
-ghost use Rattle.std.specs.Prelude.{◌≡◌};
+ghost use Rattle.std.specs.Prelude.{◌≡◌, ◌≤◌};
 ghost use Rattle.block_header.specs.Hash.{dsha};
 ghost use Rattle.pool_history.specs.Headers.{rolled_length};
 ghost use Rattle.share_check.specs.Submitted.{submitted_header};
 
+use crate::four::Candidate;
 use crate::shares::ForeseenShares;
 use pool_history::{Brief, Checked, Submission};
 use share_check::{Parts, check, header_of};
 use std::alloc::Global;
 use std::marker::Model;
 
-/// Up to four shares of one channel and job that stand behind one another.
+/// Up to four shares of one job that stand behind one another.
 #[derive(Drop)]
 pub struct SharesAhead {
     // The places behind the last are filled with the first.
-    subs: [Submission; 4],
+    candidates: [Candidate; 4],
     // How many there are beside the first.
     others: usize,
+    ghost others_fit: { others ≤ 3 },
 }
 
 impl SharesAhead {
-    pub fn of(first: Submission) -> SharesAhead {
+    pub fn of(first: Candidate) -> SharesAhead {
         SharesAhead {
-            subs: [first; 4],
+            candidates: [first; 4],
             others: 0,
         }
     }
 
-    /// One share more, which is taken where there is room and it is of the same channel and job.
-    pub fn push(&mut self, sub: Submission) -> bool {
-        let first = self.subs[0];
-        if self.others >= 3 || sub.channel != first.channel || sub.job != first.job {
+    /// One share more, which is taken where there is room and it is of the same job.
+    pub fn push(&mut self, candidate: Candidate) -> bool {
+        if self.others >= 3 || candidate.sub.job != self.candidates[0].sub.job {
             return false;
         }
         self.others += 1;
-        self.subs[self.others] = sub;
+        self.candidates[self.others] = candidate;
         true
     }
 
-    /// The first of them.
-    pub fn first(&self) -> Submission {
-        self.subs[0]
+    /// The one at a place, and behind the last the first.
+    pub fn at(&self, place: usize) -> Candidate {
+        self.candidates[place.min(3)]
+    }
+
+    /// How many they are, one to four.
+    pub fn len(&self) -> usize {
+        self.others + 1
     }
 
     /// Whether there is one alone, which isn't worth foreseeing.
@@ -85,14 +91,14 @@ impl Foresight {
     }
 
     /// Works out the headers of the shares that come next, where there are two or more, by what
-    /// their channel and job give.
+    /// their job gives, and a channel of which nothing is taken.
     pub fn foresee(&mut self, alloc: Global, parts: &Parts<'_>, ahead: &SharesAhead) {
         if ahead.is_alone() {
             return;
         }
         self.turn_to(alloc, parts);
         if let Some(shares) = &mut self.shares {
-            shares.foresee(&ahead.subs);
+            shares.foresee(&ahead.candidates);
         }
         self.ahead = ahead.others;
     }
@@ -123,7 +129,7 @@ impl Foresight {
         }
     }
 
-    /// Has a table for what a channel and a job give.
+    /// Has a table for what a job gives.
     fn turn_to(&mut self, alloc: Global, parts: &Parts<'_>) {
         let is_there = match &self.shares {
             Some(shares) => shares.is_by(parts),

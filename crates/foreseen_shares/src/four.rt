@@ -1,30 +1,38 @@
 //! Four shares with their headers.
 
-ghost use Rattle.std.specs.Prelude.{◌≡◌, IsTrue, IfSome, take};
+ghost use Rattle.std.specs.Prelude.{◌≡◌, IsTrue, IfSome};
 ghost use Rattle.block_header.specs.Hash.{dsha};
 ghost use Rattle.pool_history.specs.Headers.{Briefing};
-ghost use Rattle.share_check.specs.Submitted.{submitted_extranonce, submitted_header};
-ghost use Rattle.foreseen_shares.specs.Foreseeing.{HaveHeaders};
+ghost use Rattle.foreseen_shares.specs.Foreseeing.{HaveHeaders, share_header};
 
-use pool_history::Submission;
+use pool_history::{Kind, Lead, Submission};
 
-/// Four shares of one brief, the header of each and its double hash.
+/// A share that may come, and what its channel gives to its header.
+#[derive(Clone, Copy, Debug)]
+pub struct Candidate {
+    pub sub: Submission,
+    pub lead: Lead,
+    pub kind: Kind,
+}
+
+/// Four shares of one job, the header of each and its double hash.
 #[derive(Drop)]
 pub(crate) struct Four {
-    pub(crate) subs: [Submission; 4],
+    pub(crate) candidates: [Candidate; 4],
     pub(crate) headers: [[u8; 80]; 4],
     pub(crate) hashes: [[u8; 32]; 4],
 }
 
 impl Four {
     /// The header of a share that is one of them, with its double hash.
-    pub(crate) fn find(&self, sub: &Submission) -> Option<([u8; 80], [u8; 32])>
-        ensures { (brief : Briefing) → HaveHeaders brief self.now.subs self.now.headers self.now.hashes
-            → IfSome result (λ found. (found.0 ≡ submitted_header brief sub.now)
+    pub(crate) fn find(&self, candidate: &Candidate) -> Option<([u8; 80], [u8; 32])>
+        ensures { (brief : Briefing)
+            → HaveHeaders brief self.now.candidates self.now.headers self.now.hashes
+            → IfSome result (λ found. (found.0 ≡ share_header brief candidate.now)
             × (found.1 ≡ dsha found.0)) }
     {
         'lanes: for i in 0..4 {
-            if is_same(&self.subs[i], sub) {
+            if is_same(&self.candidates[i], candidate) {
                 return Some((self.headers[i], self.hashes[i]));
             }
         }
@@ -32,14 +40,16 @@ impl Four {
     }
 }
 
-/// Whether two shares have the same header by each brief.
-fn is_same(sub: &Submission, other: &Submission) -> bool
+/// Whether two shares have the same header by each job.
+fn is_same(candidate: &Candidate, other: &Candidate) -> bool
     ensures { IsTrue result
-        → (brief : Briefing) → submitted_header brief sub.now ≡ submitted_header brief other.now }
+        → (brief : Briefing) → share_header brief candidate.now ≡ share_header brief other.now }
 {
-    sub.version == other.version
-        && sub.ntime == other.ntime
-        && sub.nonce == other.nonce
-        && sub.extranonce_len == other.extranonce_len
-        && sub.extranonce == other.extranonce
+    candidate.kind == other.kind
+        && candidate.lead.bytes() == other.lead.bytes()
+        && candidate.sub.version == other.sub.version
+        && candidate.sub.ntime == other.sub.ntime
+        && candidate.sub.nonce == other.sub.nonce
+        && candidate.sub.extranonce_len == other.sub.extranonce_len
+        && candidate.sub.extranonce == other.sub.extranonce
 }

@@ -8,4 +8,5 @@ mod roots;
 mod shares;
 
 pub use foresight::{Foresight, SharesAhead};
+pub use four::Candidate;
 pub use shares::ForeseenShares;

@@ -1,15 +1,15 @@
-//! The shares of one brief.
+//! The shares of one job.
 
-ghost use Rattle.std.specs.Prelude.{◌≡◌, ◌↔◌, ◌+◌, ◌%◌, ◌≤◌, ◌++◌, IsTrue, IfNone, IfOk, IfSome, length, map};
+ghost use Rattle.std.specs.Prelude.{◌≡◌, ◌↔◌, ◌+◌, ◌%◌, ◌≤◌, IsTrue, IfNone, IfOk, IfSome, length, map};
 ghost use Rattle.block_header.specs.Hash.{dsha};
 ghost use Rattle.pool_history.specs.Headers.{rolled_length};
 ghost use Rattle.share_check.specs.Submitted.{submitted_header};
-ghost use Rattle.foreseen_shares.specs.Foreseeing.{HaveRolledLength, HaveHeaders, share_extranonce, share_root};
+ghost use Rattle.foreseen_shares.specs.Foreseeing.{HasRolledLength, HaveRolledLength, HaveHeaders, share_extranonce, share_header, share_root};
 
-use crate::four::Four;
+use crate::four::{Candidate, Four};
 use crate::roots::roots_of;
 use block_header::Header;
-use pool_history::{Brief, Checked, Submission};
+use pool_history::{Brief, Checked, Kind, Submission};
 use sha256_lanes::{CommonText, double_80};
 use share_check::{
     Parts, brief_of, header_of, is_brief_of, parts_of, rolled_length, whole_extranonce,
@@ -17,8 +17,8 @@ use share_check::{
 use std::alloc::{AllocError, Global};
 use std::marker::Model;
 
-/// Shares of one brief whose headers were worked out before they are asked for. Contracts see the
-/// brief.
+/// Shares of one job whose headers were worked out before they are asked for. Contracts see a brief
+/// of that job.
 #[derive(Drop)]
 pub struct ForeseenShares {
     brief: Brief,
@@ -39,7 +39,7 @@ impl Model for ForeseenShares {
 
     ghost invariant = { λ foreseen. IsAround foreseen.brief.prefix foreseen.brief.suffix foreseen.coinbase
         × IfSome foreseen.four
-        (λ four. HaveHeaders foreseen.brief four.subs four.headers four.hashes) };
+        (λ four. HaveHeaders foreseen.brief four.candidates four.headers four.hashes) };
 }
 
 impl ForeseenShares {
@@ -62,20 +62,35 @@ impl ForeseenShares {
         }
     }
 
-    /// Whether they are shares of this brief.
+    /// Whether they are shares of this job. What a channel gives isn't looked at.
     pub fn is_by(&self, parts: &Parts<'_>) -> bool
-        ensures { IsTrue result ↔ (self.now ≡ parts.now) }
+        ensures { IsTrue result
+            ↔ (record self.now { lead = parts.now.lead; kind = parts.now.kind } ≡ parts.now) }
     {
-        is_brief_of(&self.brief, parts)
+        is_brief_of(&self.brief, &self.on_own_channel(parts))
     }
 
-    /// Works out the headers of four shares, and forgets those before; of shares that can't be the
-    /// channel's, none.
-    pub fn foresee(&mut self, subs: &[Submission; 4])
+    /// The parts, but for the channel of the brief that is kept.
+    fn on_own_channel<'a>(&self, parts: &Parts<'a>) -> Parts<'a>
+        ensures { result
+            ≡ record parts.now { lead = self.now.lead; kind = self.now.kind } }
+    {
+        Parts {
+            root: parts.root,
+            prev_hash: parts.prev_hash,
+            nbits: parts.nbits,
+            lead: self.brief.lead,
+            kind: self.brief.kind,
+        }
+    }
+
+    /// Works out the headers of four shares, and forgets those before; of shares that can't be those
+    /// of their channels, none.
+    pub fn foresee(&mut self, candidates: &[Candidate; 4])
         ensures { self.new ≡ self.old }
     {
-        self.four = if have_rolled_length(&self.brief, subs) {
-            Some(self.four_of(subs))
+        self.four = if have_rolled_length(candidates) {
+            Some(self.four_of(candidates))
         } else {
             None
         };
@@ -115,28 +130,28 @@ impl ForeseenShares {
             × (found.1 ≡ dsha found.0)) }
     {
         match &self.four {
-            Some(four) if self.is_by(parts) => four.find(sub),
+            Some(four) if self.is_by(parts) => four.find(&candidate_of(parts, sub)),
             _ => None,
         }
     }
 
-    fn four_of(&self, subs: &[Submission; 4]) -> Four
-        requires { HaveRolledLength self.now subs.now }
-        ensures { HaveHeaders self.now result.subs result.headers result.hashes }
+    fn four_of(&self, candidates: &[Candidate; 4]) -> Four
+        requires { HaveRolledLength candidates.now }
+        ensures { HaveHeaders self.now result.candidates result.headers result.hashes }
     {
-        let headers = headers_of(&self.brief, subs, &self.roots_of(subs));
+        let headers = headers_of(&self.brief, candidates, &self.roots_of(candidates));
         Four {
-            subs: *subs,
+            candidates: [candidates[0], candidates[1], candidates[2], candidates[3]],
             headers,
             hashes: double_80(&headers),
         }
     }
 
-    fn roots_of(&self, subs: &[Submission; 4]) -> [[u8; 32]; 4]
-        requires { HaveRolledLength self.now subs.now }
-        ensures { result ≡ map (share_root self.now) subs.now }
+    fn roots_of(&self, candidates: &[Candidate; 4]) -> [[u8; 32]; 4]
+        requires { HaveRolledLength candidates.now }
+        ensures { result ≡ map (share_root self.now) candidates.now }
     {
-        let ids = self.coinbase.double(&extranonces_of(&self.brief, subs));
+        let ids = self.coinbase.double(&extranonces_of(candidates));
         roots_of(&ids, path_of(&self.brief))
     }
 }
@@ -147,64 +162,73 @@ fn path_of(brief: &Brief) -> &[[u8; 32]]
     brief.root.path.items()
 }
 
-fn have_rolled_length(brief: &Brief, subs: &[Submission; 4]) -> bool
-    ensures { IsTrue result → HaveRolledLength brief.now subs.now }
+/// A share by what its channel gives.
+fn candidate_of(parts: &Parts<'_>, sub: &Submission) -> Candidate
+    ensures { result ≡ record { sub = sub.now; lead = parts.now.lead; kind = parts.now.kind } }
 {
-    has_rolled_length(brief, &subs[0])
-        && has_rolled_length(brief, &subs[1])
-        && has_rolled_length(brief, &subs[2])
-        && has_rolled_length(brief, &subs[3])
+    Candidate {
+        sub: *sub,
+        lead: parts.lead,
+        kind: parts.kind,
+    }
 }
 
-fn has_rolled_length(brief: &Brief, sub: &Submission) -> bool
-    ensures { IsTrue result → sub.now.extranonce_len ≡ rolled_length brief.now.kind brief.now.lead }
+fn have_rolled_length(candidates: &[Candidate; 4]) -> bool
+    ensures { IsTrue result → HaveRolledLength candidates.now }
 {
-    sub.extranonce_len == rolled_length(brief.kind, &brief.lead)
+    candidates.iter().all(has_rolled_length)
 }
 
-fn extranonces_of(brief: &Brief, subs: &[Submission; 4]) -> [[u8; 12]; 4]
-    requires { HaveRolledLength brief.now subs.now }
-    ensures { result ≡ map (share_extranonce brief.now) subs.now }
+fn has_rolled_length(candidate: &Candidate) -> bool
+    ensures { IsTrue result → HasRolledLength candidate.now }
+{
+    candidate.sub.extranonce_len == rolled_length(candidate.kind, &candidate.lead)
+        && (candidate.kind != Kind::Standard || candidate.lead.len() == 4)
+}
+
+fn extranonces_of(candidates: &[Candidate; 4]) -> [[u8; 12]; 4]
+    requires { HaveRolledLength candidates.now }
+    ensures { result ≡ map share_extranonce candidates.now }
 {
     [
-        extranonce_of(brief, &subs[0]),
-        extranonce_of(brief, &subs[1]),
-        extranonce_of(brief, &subs[2]),
-        extranonce_of(brief, &subs[3]),
+        extranonce_of(&candidates[0]),
+        extranonce_of(&candidates[1]),
+        extranonce_of(&candidates[2]),
+        extranonce_of(&candidates[3]),
     ]
 }
 
-fn extranonce_of(brief: &Brief, sub: &Submission) -> [u8; 12]
-    requires { sub.now.extranonce_len ≡ rolled_length brief.now.kind brief.now.lead }
-    ensures { result ≡ share_extranonce brief.now sub.now }
+fn extranonce_of(candidate: &Candidate) -> [u8; 12]
+    requires { HasRolledLength candidate.now }
+    ensures { result ≡ share_extranonce candidate.now }
 {
-    let sent = &sub.extranonce[..usize::from(sub.extranonce_len)];
-    whole_extranonce(brief.kind, &brief.lead, sent)
+    let sent = &candidate.sub.extranonce[..usize::from(candidate.sub.extranonce_len)];
+    whole_extranonce(candidate.kind, &candidate.lead, sent)
 }
 
-fn headers_of(brief: &Brief, subs: &[Submission; 4], roots: &[[u8; 32]; 4]) -> [[u8; 80]; 4]
-    requires { roots.now ≡ map (share_root brief.now) subs.now }
-    ensures { result ≡ map (submitted_header brief.now) subs.now }
+fn headers_of(brief: &Brief, candidates: &[Candidate; 4], roots: &[[u8; 32]; 4]) -> [[u8; 80]; 4]
+    requires { roots.now ≡ map (share_root brief.now) candidates.now }
+    ensures { result ≡ map (share_header brief.now) candidates.now }
 {
     [
-        header_with(brief, &subs[0], &roots[0]),
-        header_with(brief, &subs[1], &roots[1]),
-        header_with(brief, &subs[2], &roots[2]),
-        header_with(brief, &subs[3], &roots[3]),
+        header_with(brief, &candidates[0], &roots[0]),
+        header_with(brief, &candidates[1], &roots[1]),
+        header_with(brief, &candidates[2], &roots[2]),
+        header_with(brief, &candidates[3], &roots[3]),
     ]
 }
 
-fn header_with(brief: &Brief, sub: &Submission, root: &[u8; 32]) -> [u8; 80]
-    ensures { root.now ≡ share_root brief.now sub.now
-        → result ≡ submitted_header brief.now sub.now }
+fn header_with(brief: &Brief, candidate: &Candidate, root: &[u8; 32]) -> [u8; 80]
+    ensures { root.now ≡ share_root brief.now candidate.now
+        → result ≡ share_header brief.now candidate.now }
 {
     Header {
-        version: sub.version,
+        version: candidate.sub.version,
         prev_hash: brief.prev_hash,
         root: *root,
-        ntime: sub.ntime,
+        ntime: candidate.sub.ntime,
         nbits: brief.nbits,
-        nonce: sub.nonce,
+        nonce: candidate.sub.nonce,
     }
     .bytes()
 }

@@ -3,16 +3,16 @@
 
 ghost use Rattle.std.specs.Prelude.{◌≡◌};
 
-use foreseen_shares::SharesAhead;
+use foreseen_shares::{Candidate, SharesAhead};
 use ledger_records::read_record;
 use ledger_replay::{Credited, Replay, submission_of};
-use pool_history::{Event, Kind, Submission};
+use pool_history::{Event, Kind, Lead, Submission};
 use std::alloc::Global;
 
 /// The kind of a Credit's record, the first of its bytes.
 const CREDIT: u8 = 9;
 
-/// Up to four credits of one session, channel and job.
+/// Up to four credits of one session and job.
 #[derive(Drop)]
 pub struct CreditsAhead {
     /// The session, and the shares.
@@ -30,9 +30,9 @@ impl CreditsAhead {
     pub fn push(&mut self, alloc: Global, bytes: &[u8]) -> Option<usize> {
         let (session, sub, len) = credit_at(alloc, bytes)?;
         let goes_on = match &mut self.credits {
-            Some((first, shares)) => session == *first && shares.push(sub),
+            Some((first, shares)) => session == *first && shares.push(unplaced(sub)),
             None => {
-                self.credits = Some((session, SharesAhead::of(sub)));
+                self.credits = Some((session, SharesAhead::of(unplaced(sub))));
                 true
             }
         };
@@ -51,6 +51,15 @@ impl CreditsAhead {
     }
 }
 
+/// A share whose channel isn't known here: the replay knows it.
+fn unplaced(sub: Submission) -> Candidate {
+    Candidate {
+        sub,
+        lead: Lead::of(1, [0; 4]),
+        kind: Kind::Extended,
+    }
+}
+
 /// The session and the share of the Credit whose record the bytes begin with, and how many bytes
 /// the record has.
 fn credit_at(alloc: Global, bytes: &[u8]) -> Option<(u32, Submission, usize)> {
@@ -66,7 +75,7 @@ fn credit_at(alloc: Global, bytes: &[u8]) -> Option<(u32, Submission, usize)> {
     }
 }
 
-/// The session and the share of a Credit. The kind of its channel isn't known here.
+/// The session and the share of a Credit.
 fn credit_of(event: &Event) -> Option<(u32, Submission)> {
     match event {
         Event::Credit {

@@ -3,8 +3,8 @@
 ghost use Rattle.std.specs.Prelude.{◌≡◌};
 
 use crate::replay::Replay;
-use crate::share_events::kind_of;
-use foreseen_shares::SharesAhead;
+use channels::Channels;
+use foreseen_shares::{Candidate, SharesAhead};
 use share_judging::admit;
 
 impl Replay {
@@ -16,14 +16,41 @@ impl Replay {
     }
 
     /// Works out the headers of a session's credits that stand behind one another, by what their
-    /// channel and job are now. Nothing is told, and nothing is told otherwise for it.
+    /// channels and their job are now. Nothing is told, and nothing is told otherwise for it.
     pub fn foresee(&mut self, session: u32, ahead: &SharesAhead)
         ensures { self.new ≡ self.old }
     {
-        let mut sub = ahead.first();
-        sub.kind = kind_of(self.channels.channel(sub.channel));
+        let placed = on_their_channels(&self.channels, ahead);
+        let sub = placed.at(0).sub;
         if let Ok(found) = admit(&self.rules, &self.channels, &self.jobs, session, &sub) {
-            self.foresight.foresee(self.alloc, &found.parts(), ahead);
+            self.foresight.foresee(self.alloc, &found.parts(), &placed);
         }
+    }
+}
+
+/// The same shares, by what their channels give.
+fn on_their_channels(channels: &Channels, ahead: &SharesAhead) -> SharesAhead {
+    let mut placed = SharesAhead::of(on_its_channel(channels, ahead.at(0)));
+    'others: for place in 1..ahead.len() {
+        if !placed.push(on_its_channel(channels, ahead.at(place))) {
+            break 'others;
+        }
+    }
+    placed
+}
+
+/// The same share, by what its channel gives. Where that isn't open, it stays as it is.
+fn on_its_channel(channels: &Channels, candidate: Candidate) -> Candidate {
+    match channels.channel(candidate.sub.channel) {
+        Some(channel) => {
+            let mut sub = candidate.sub;
+            sub.kind = channel.kind;
+            Candidate {
+                sub,
+                lead: channel.lead,
+                kind: channel.kind,
+            }
+        }
+        None => candidate,
     }
 }

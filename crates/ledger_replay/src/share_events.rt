@@ -198,7 +198,7 @@ fn push(
 }
 
 /// The kind of a share's channel.
-pub(crate) fn kind_of(there: Option<&Channel>) -> Kind
+fn kind_of(there: Option<&Channel>) -> Kind
     ensures { is_standard result ≡ is_standard_kept (option_map kept_of (option_copied there.entry)) }
 {
     match there {

@@ -8,22 +8,32 @@ ghost use Rattle.share_check.specs.Submitted.{submitted_header};
 
 use crate::asking::mining_meaning;
 use crate::meaning::Meaning;
-use foreseen_shares::{Foresight, SharesAhead};
-use pool_history::{Brief, Checked, Submission};
+use foreseen_shares::{Candidate, Foresight, SharesAhead};
+use pool_history::{Brief, Checked, Kind, Lead, Submission};
 use session_steps::About;
-use share_check::{Parts, brief_of, is_brief_of, parts_of};
+use share_check::{Parts, brief_of, parts_of};
 use std::alloc::Global;
 use sv2_messages::kinds;
 
 /// As many bytes as two frames of shares have at least.
 const TWO_SHARES: usize = 60;
 
-/// What a share was briefed by, and the channel and the job that this brief is of.
+/// Of so many channels a session keeps what they give to a header.
+const MOST_CHANNELS: usize = 64;
+
+/// What a share was briefed by, and the job that this brief is of.
 #[derive(Drop)]
 struct Briefed {
-    channel: u32,
     job: u32,
     brief: Brief,
+}
+
+/// An open channel, and what it gives to a header.
+#[derive(Clone, Copy)]
+struct Known {
+    channel: u32,
+    lead: Lead,
+    kind: Kind,
 }
 
 /// What a session knows of the shares that come next.
@@ -31,15 +41,18 @@ struct Briefed {
 pub(crate) struct Foreseeing {
     /// The last brief.
     briefed: Option<Briefed>,
+    /// The channels whose shares were briefed.
+    channels: Vec<Known>,
     foresight: Foresight,
     /// Whether bytes stand behind the frame that is met now.
     goes_on: bool,
 }
 
 impl Foreseeing {
-    pub(crate) fn new() -> Foreseeing {
+    pub(crate) fn new(alloc: Global) -> Foreseeing {
         Foreseeing {
             briefed: None,
+            channels: Vec::new(alloc),
             foresight: Foresight::none(),
             goes_on: false,
         }
@@ -54,7 +67,8 @@ impl Foreseeing {
         ensures hash { result.hash ≡ dsha result.header }
     {
         if self.goes_on {
-            self.keep_brief(&parts_of(&brief), &sub);
+            self.keep_brief(&parts_of(&brief), sub.job);
+            self.keep_channel(sub.channel, brief.lead, brief.kind);
         }
         self.foresight.check(brief, sub)
     }
@@ -64,32 +78,35 @@ impl Foreseeing {
         self.briefed = None;
     }
 
-    fn keep_brief(&mut self, parts: &Parts<'_>, sub: &Submission) {
-        if !self.knows(parts, sub) {
-            self.briefed = match brief_of(parts) {
-                Ok(brief) => Some(Briefed {
-                    channel: sub.channel,
-                    job: sub.job,
-                    brief,
-                }),
-                Err(_) => None,
-            };
+    fn keep_brief(&mut self, parts: &Parts<'_>, job: u32) {
+        if let Some(known) = &self.briefed
+            && known.job == job
+        {
+            return;
         }
+        self.briefed = match brief_of(parts) {
+            Ok(brief) => Some(Briefed { job, brief }),
+            Err(_) => None,
+        };
     }
 
-    fn knows(&self, parts: &Parts<'_>, sub: &Submission) -> bool {
-        match &self.briefed {
-            Some(known) => {
-                known.channel == sub.channel
-                    && known.job == sub.job
-                    && is_brief_of(&known.brief, parts)
-            }
-            None => false,
+    /// Where there is no memory for it, the channel stays unknown.
+    fn keep_channel(&mut self, channel: u32, lead: Lead, kind: Kind) {
+        if known_channel(&self.channels, channel).is_some() {
+            return;
         }
+        if self.channels.len() >= MOST_CHANNELS {
+            self.channels.clear();
+        }
+        let _done = self.channels.push(Known {
+            channel,
+            lead,
+            kind,
+        });
     }
 
-    /// Looks at the bytes behind a frame. Where they begin with two shares or more of the channel
-    /// and job that were briefed last, the headers of the first four are worked out.
+    /// Looks at the bytes behind a frame. Where they begin with two shares or more of the job that was
+    /// briefed last, on channels that are known, the headers of the first four are worked out.
     pub(crate) fn look_ahead(&mut self, alloc: Global, bytes: &[u8]) {
         self.goes_on = bytes.len() >= TWO_SHARES;
         if self.foresight.count_down() || !self.goes_on {
@@ -98,7 +115,7 @@ impl Foreseeing {
         let Some(known) = &self.briefed else {
             return;
         };
-        let found = shares_ahead(alloc, bytes, known.channel, known.job);
+        let found = shares_ahead(alloc, &self.channels, bytes, known.job);
         if let Some(ahead) = &found {
             self.foresight
                 .foresee(alloc, &parts_of(&known.brief), ahead);
@@ -106,20 +123,36 @@ impl Foreseeing {
     }
 }
 
-/// The first four shares of a channel and job with which the bytes begin.
-fn shares_ahead(alloc: Global, bytes: &[u8], channel: u32, job: u32) -> Option<SharesAhead> {
+/// The first four shares of a job with which the bytes begin.
+fn shares_ahead(alloc: Global, channels: &[Known], bytes: &[u8], job: u32) -> Option<SharesAhead> {
     let (first, mut rest) = share_at(alloc, bytes)?;
-    if first.channel != channel || first.job != job {
+    if first.job != job {
         return None;
     }
-    let mut ahead = SharesAhead::of(first);
+    let mut ahead = SharesAhead::of(on_its_channel(channels, first)?);
     'others: for _ in 1..4 {
-        match share_at(alloc, rest) {
-            Some((sub, behind)) if ahead.push(sub) => rest = behind,
+        let Some((sub, behind)) = share_at(alloc, rest) else {
+            break 'others;
+        };
+        match on_its_channel(channels, sub) {
+            Some(candidate) if ahead.push(candidate) => rest = behind,
             _ => break 'others,
         }
     }
     Some(ahead)
+}
+
+/// A share by what its channel gives, where that is known.
+fn on_its_channel(channels: &[Known], sub: Submission) -> Option<Candidate> {
+    let Known { lead, kind, .. } = known_channel(channels, sub.channel)?;
+    Some(Candidate { sub, lead, kind })
+}
+
+fn known_channel(channels: &[Known], channel: u32) -> Option<Known> {
+    channels
+        .iter()
+        .find(|known| known.channel == channel)
+        .copied()
 }
 
 /// The share with whose frame the bytes begin, and what stands behind it.

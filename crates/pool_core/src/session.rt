@@ -83,7 +83,7 @@ impl Session {
             number: SessionNumber::of(0),
             about: About::Nothing,
             declarer: Declarer::new(alloc),
-            foreseeing: Foreseeing::new(),
+            foreseeing: Foreseeing::new(alloc),
         }
     }
 
