@@ -119,6 +119,31 @@ impl Mining<'_> {
             ++ message_frame mining_table (mining_message self.now)) }
         ensures err { OnErr result (out.new.items ≡ out.old.items) }
     {
+        // Most frames are answers to shares, which don't wait until there is room for the fields of
+        // any other message.
+        match self {
+            Mining::SubmitSharesSuccess(message) => put_frame(
+                out,
+                kinds::SUBMIT_SHARES_SUCCESS,
+                &message.fields(),
+            ),
+            Mining::SubmitSharesError(message) => put_frame(
+                out,
+                kinds::SUBMIT_SHARES_ERROR,
+                &message.fields(),
+            ),
+            _ => self.any_frame(out),
+        }
+    }
+
+    /// The same of any message.
+    #[inline(never)]
+    fn any_frame(&self, out: &mut Vec<u8>) -> Result<(), AllocError>
+        requires { FitsFrame mining_table (mining_message self.now) }
+        ensures ok { OnOk result (out.new.items ≡ out.old.items
+            ++ message_frame mining_table (mining_message self.now)) }
+        ensures err { OnErr result (out.new.items ≡ out.old.items) }
+    {
         let kind = self.kind();
         match self {
             Mining::SetupConnection(message) => put_frame(out, kind, &message.fields()),
