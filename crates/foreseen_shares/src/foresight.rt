@@ -1,29 +1,42 @@
 //! Shares that stand behind one another, and what was worked out of them.
 
-ghost use Rattle.std.specs.Prelude.{◌≡◌, ◌≤◌};
+ghost use Rattle.std.specs.Prelude.{◌≡◌, ◌++◌, ◌∷◌, [], IsFalse, IsTrue, take};
 ghost use Rattle.block_header.specs.Hash.{dsha};
 ghost use Rattle.pool_history.specs.Headers.{rolled_length};
 ghost use Rattle.share_check.specs.Submitted.{submitted_header};
+ghost use Rattle.foreseen_shares.specs.Ahead.{goes_on};
 
 use crate::four::Candidate;
 use crate::shares::ForeseenShares;
 use pool_history::{Brief, Checked, Submission};
 use share_check::{Parts, check, header_of};
-use std::alloc::Global;
+use std::alloc::{AllocError, Global};
 use std::marker::Model;
 
-/// Up to four shares of one job that stand behind one another.
+/// Up to four shares of one job that stand behind one another. Contracts see them as a list.
 #[derive(Drop)]
 pub struct SharesAhead {
     // The places behind the last are filled with the first.
     candidates: [Candidate; 4],
     // How many there are beside the first.
     others: usize,
-    ghost others_fit: { others ≤ 3 },
+}
+
+impl Model for SharesAhead {
+    ghost use Rattle.std.specs.Prelude.{◌+◌, ◌≤◌, List, take};
+    ghost use Rattle.foreseen_shares.specs.declared.four.Candidate.{Candidate};
+
+    ghost Value = { List Candidate };
+
+    ghost view = { λ ahead. take (ahead.others + 1) ahead.candidates };
+
+    ghost invariant = { λ ahead. ahead.others ≤ 3 };
 }
 
 impl SharesAhead {
-    pub fn of(first: Candidate) -> SharesAhead {
+    pub fn of(first: Candidate) -> SharesAhead
+        ensures { result ≡ first ∷ [] }
+    {
         SharesAhead {
             candidates: [first; 4],
             others: 0,
@@ -31,28 +44,31 @@ impl SharesAhead {
     }
 
     /// One share more, which is taken where there is room and it is of the same job.
-    pub fn push(&mut self, candidate: Candidate) -> bool {
-        if self.others >= 3 || candidate.sub.job != self.candidates[0].sub.job {
-            return false;
+    pub fn push(&mut self, candidate: Candidate) -> bool
+        ensures taken { result ≡ goes_on self.old candidate }
+        ensures one { IsTrue result → self.new ≡ self.old ++ candidate ∷ [] }
+        ensures same { IsFalse result → self.new ≡ self.old }
+    {
+        let is_taken = self.others < 3 && candidate.sub.job == self.candidates[0].sub.job;
+        if is_taken {
+            self.others += 1;
+            self.candidates[self.others] = candidate;
         }
-        self.others += 1;
-        self.candidates[self.others] = candidate;
-        true
+        is_taken
     }
 
-    /// The one at a place, and behind the last the first.
-    pub fn at(&self, place: usize) -> Candidate {
-        self.candidates[place.min(3)]
+    /// The first of them, of which there is one at least.
+    pub fn first(&self) -> Candidate
+        ensures { take 1 self.now ≡ result ∷ [] }
+    {
+        self.candidates[0]
     }
 
-    /// How many they are, one to four.
-    pub fn len(&self) -> usize {
-        self.others + 1
-    }
-
-    /// Whether there is one alone, which isn't worth foreseeing.
-    pub fn is_alone(&self) -> bool {
-        self.others == 0
+    /// All of them, in their order.
+    pub fn shares(&self) -> &[Candidate]
+        ensures { result.now ≡ self.now }
+    {
+        &self.candidates[..self.others + 1]
     }
 }
 
@@ -62,7 +78,7 @@ impl SharesAhead {
 pub struct Foresight {
     shares: Option<ForeseenShares>,
     // How many are still to come of those that were foreseen.
-    ahead: usize,
+    still_to_come: usize,
 }
 
 impl Model for Foresight {
@@ -76,31 +92,37 @@ impl Foresight {
     pub fn none() -> Foresight {
         Foresight {
             shares: None,
-            ahead: 0,
+            still_to_come: 0,
         }
     }
 
-    /// Whether the share that comes next was foreseen. It is to be asked once before each share that
-    /// comes, and counts them.
+    /// Whether what comes next was foreseen as a share. It is to be asked once before all that comes
+    /// whole, and counts that.
     pub fn count_down(&mut self) -> bool {
-        if self.ahead == 0 {
+        if self.still_to_come == 0 {
             return false;
         }
-        self.ahead -= 1;
+        self.still_to_come -= 1;
         true
     }
 
     /// Works out the headers of the shares that come next, where there are two or more, by what
-    /// their job gives, and a channel of which nothing is taken.
-    pub fn foresee(&mut self, alloc: Global, parts: &Parts<'_>, ahead: &SharesAhead) {
-        if ahead.is_alone() {
-            return;
+    /// their job gives, and a channel of which nothing is taken. Without memory none is foreseen.
+    pub fn foresee(
+        &mut self,
+        alloc: Global,
+        parts: &Parts<'_>,
+        ahead: &SharesAhead,
+    ) -> Result<(), AllocError> {
+        if ahead.others == 0 {
+            return Ok(());
         }
-        self.turn_to(alloc, parts);
+        self.turn_to(alloc, parts)?;
         if let Some(shares) = &mut self.shares {
             shares.foresee(&ahead.candidates);
         }
-        self.ahead = ahead.others;
+        self.still_to_come = ahead.others;
+        Ok(())
     }
 
     /// What `check` of `share_check` gives. Nothing is hashed where it was foreseen.
@@ -130,16 +152,15 @@ impl Foresight {
     }
 
     /// Has a table for what a job gives.
-    fn turn_to(&mut self, alloc: Global, parts: &Parts<'_>) {
+    fn turn_to(&mut self, alloc: Global, parts: &Parts<'_>) -> Result<(), AllocError> {
         let is_there = match &self.shares {
             Some(shares) => shares.is_by(parts),
             None => false,
         };
         if !is_there {
-            self.shares = match ForeseenShares::by(alloc, parts) {
-                Ok(made) => made,
-                Err(_) => None,
-            };
+            self.shares = None;
+            self.shares = ForeseenShares::by(alloc, parts)?;
         }
+        Ok(())
     }
 }

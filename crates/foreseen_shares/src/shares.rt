@@ -43,8 +43,7 @@ impl Model for ForeseenShares {
 }
 
 impl ForeseenShares {
-    /// None is foreseen yet. There is no table where `CommonText`
-    /// is none of such coinbases.
+    /// None is foreseen yet. There is no table where there is no `CommonText` of such coinbases.
     pub fn by(alloc: Global, parts: &Parts<'_>) -> Result<Option<ForeseenShares>, AllocError>
         ensures some { IfOk result (λ made. IfSome made (λ foreseen. foreseen ≡ parts.now)) }
         ensures none { IfOk result (λ made. IfNone made

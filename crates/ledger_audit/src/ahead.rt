@@ -4,31 +4,34 @@
 ghost use Rattle.std.specs.Prelude.{◌≡◌};
 
 use foreseen_shares::{Candidate, SharesAhead};
-use ledger_records::read_record;
+use ledger_records::{RecordError, read_record};
 use ledger_replay::{Credited, Replay, submission_of};
 use pool_history::{Event, Kind, Lead, Submission};
-use std::alloc::Global;
+use std::alloc::{AllocError, Global};
+use sv2_types::Blob;
 
 /// The kind of a Credit's record, the first of its bytes.
 const CREDIT: u8 = 9;
 
 /// Up to four credits of one session and job.
 #[derive(Drop)]
-pub struct CreditsAhead {
+struct CreditsAhead {
     /// The session, and the shares.
     credits: Option<(u32, SharesAhead)>,
 }
 
 impl CreditsAhead {
     /// None yet.
-    pub fn none() -> CreditsAhead {
+    fn none() -> CreditsAhead {
         CreditsAhead { credits: None }
     }
 
     /// Takes the credit whose record the bytes begin with, where it goes on those before it, and
     /// says how many bytes the record has.
-    pub fn push(&mut self, alloc: Global, bytes: &[u8]) -> Option<usize> {
-        let (session, sub, len) = credit_at(alloc, bytes)?;
+    fn push(&mut self, alloc: Global, bytes: &[u8]) -> Result<Option<usize>, AllocError> {
+        let Some((session, sub, len)) = credit_at(alloc, bytes)? else {
+            return Ok(None);
+        };
         let goes_on = match &mut self.credits {
             Some((first, shares)) => session == *first && shares.push(unplaced(sub)),
             None => {
@@ -36,17 +39,18 @@ impl CreditsAhead {
                 true
             }
         };
-        if goes_on { Some(len) } else { None }
+        Ok(if goes_on { Some(len) } else { None })
     }
 
     /// Has a replay work out their headers, where there are two or more.
-    pub fn foresee_by(&self, replay: &mut Replay)
+    fn foresee_by(&self, replay: &mut Replay) -> Result<(), AllocError>
         ensures { replay.new ≡ replay.old }
     {
-        if let Some((session, shares)) = &self.credits
-            && !shares.is_alone()
-        {
-            replay.foresee(*session, shares);
+        match &self.credits {
+            Some((session, shares)) if shares.shares().len() > 1 => {
+                replay.foresee(*session, shares)
+            }
+            _ => Ok(()),
         }
     }
 }
@@ -62,16 +66,14 @@ fn unplaced(sub: Submission) -> Candidate {
 
 /// The session and the share of the Credit whose record the bytes begin with, and how many bytes
 /// the record has.
-fn credit_at(alloc: Global, bytes: &[u8]) -> Option<(u32, Submission, usize)> {
+fn credit_at(alloc: Global, bytes: &[u8]) -> Result<Option<(u32, Submission, usize)>, AllocError> {
     if bytes.first().copied() != Some(CREDIT) {
-        return None;
+        return Ok(None);
     }
     match read_record(alloc, bytes) {
-        Ok((event, len)) => {
-            let (session, sub) = credit_of(&event)?;
-            Some((session, sub, len))
-        }
-        Err(_) => None,
+        Ok((event, len)) => Ok(credit_of(&event).map(|(session, sub)| (session, sub, len))),
+        Err(RecordError::Memory) => Err(AllocError),
+        Err(_) => Ok(None),
     }
 }
 
@@ -103,21 +105,47 @@ fn credit_of(event: &Event) -> Option<(u32, Submission)> {
 
 /// Looks at the bytes behind the records that a replay was told, each of which has a hash of so many
 /// bytes behind it: the headers of the credits with which they begin may be worked out now.
-pub(crate) fn look_ahead(replay: &mut Replay, alloc: Global, bytes: &[u8], hash_len: usize)
+pub(crate) fn look_ahead(
+    replay: &mut Replay,
+    alloc: Global,
+    bytes: &[u8],
+    hash_len: usize,
+) -> Result<(), AllocError>
     ensures { replay.new ≡ replay.old }
 {
     if replay.count_down() {
-        return;
+        return Ok(());
     }
     let mut ahead = CreditsAhead::none();
     let mut rest = bytes;
     'credits: for _ in 0..4 {
-        let Some(len) = ahead.push(alloc, rest) else {
+        let Some(len) = ahead.push(alloc, rest)? else {
             break 'credits;
         };
         rest = behind(behind(rest, len), hash_len);
     }
-    ahead.foresee_by(replay);
+    ahead.foresee_by(replay)
+}
+
+/// Looks at the records that a replay is told next: the headers of the credits with which they begin
+/// may be worked out now. What comes of them doesn't change by it, also where there is no memory.
+pub fn look_ahead_in_records(
+    replay: &mut Replay,
+    alloc: Global,
+    records: &[Blob],
+) -> Result<(), AllocError>
+    ensures { replay.new ≡ replay.old }
+{
+    if replay.count_down() {
+        return Ok(());
+    }
+    let mut ahead = CreditsAhead::none();
+    'credits: for record in records.iter().take(4) {
+        if ahead.push(alloc, record.bytes())?.is_none() {
+            break 'credits;
+        }
+    }
+    ahead.foresee_by(replay)
 }
 
 /// What stands behind so many bytes.

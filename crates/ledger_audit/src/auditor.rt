@@ -48,14 +48,14 @@ impl Auditor {
         }
     }
 
-    /// The bytes that come next may begin with a record.
+    /// The bytes that come next may begin with a record. Without memory none is looked at.
     fn look_ahead(&mut self, piece: &[u8])
         ensures { self.new ≡ self.old }
     {
         if let Some(records) = &mut self.records
             && self.held.is_empty()
         {
-            records.look_ahead(self.alloc, piece);
+            let _looked = records.look_ahead(self.alloc, piece);
         }
     }
 

@@ -13,7 +13,7 @@ mod laws;
 mod records;
 mod verdict;
 
-pub use ahead::CreditsAhead;
+pub use ahead::look_ahead_in_records;
 pub use auditing::audit;
 pub use auditor::Auditor;
 pub use causes::cause_words;

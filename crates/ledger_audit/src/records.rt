@@ -174,12 +174,13 @@ impl Records {
     }
 
     /// Looks at the bytes behind the records so far. What comes of them doesn't change by it.
-    pub(crate) fn look_ahead(&mut self, alloc: Global, bytes: &[u8])
+    pub(crate) fn look_ahead(&mut self, alloc: Global, bytes: &[u8]) -> Result<(), AllocError>
         ensures { self.new ≡ self.old }
     {
         let hash_len = self.format.hash_len();
-        if let Some(replay) = &mut self.replay {
-            look_ahead(replay, alloc, bytes, hash_len);
+        match &mut self.replay {
+            Some(replay) => look_ahead(replay, alloc, bytes, hash_len),
+            None => Ok(()),
         }
     }
 

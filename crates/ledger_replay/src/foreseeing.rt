@@ -6,6 +6,7 @@ use crate::replay::Replay;
 use channels::Channels;
 use foreseen_shares::{Candidate, SharesAhead};
 use share_judging::admit;
+use std::alloc::AllocError;
 
 impl Replay {
     /// Whether the record that comes next was foreseen. It is to be asked once before each record.
@@ -17,22 +18,23 @@ impl Replay {
 
     /// Works out the headers of a session's credits that stand behind one another, by what their
     /// channels and their job are now. Nothing is told, and nothing is told otherwise for it.
-    pub fn foresee(&mut self, session: u32, ahead: &SharesAhead)
+    pub fn foresee(&mut self, session: u32, ahead: &SharesAhead) -> Result<(), AllocError>
         ensures { self.new ≡ self.old }
     {
         let placed = on_their_channels(&self.channels, ahead);
-        let sub = placed.at(0).sub;
-        if let Ok(found) = admit(&self.rules, &self.channels, &self.jobs, session, &sub) {
-            self.foresight.foresee(self.alloc, &found.parts(), &placed);
+        let sub = placed.first().sub;
+        match admit(&self.rules, &self.channels, &self.jobs, session, &sub) {
+            Ok(found) => self.foresight.foresee(self.alloc, &found.parts(), &placed),
+            Err(_) => Ok(()),
         }
     }
 }
 
 /// The same shares, by what their channels give.
 fn on_their_channels(channels: &Channels, ahead: &SharesAhead) -> SharesAhead {
-    let mut placed = SharesAhead::of(on_its_channel(channels, ahead.at(0)));
-    'others: for place in 1..ahead.len() {
-        if !placed.push(on_its_channel(channels, ahead.at(place))) {
+    let mut placed = SharesAhead::of(on_its_channel(channels, ahead.first()));
+    'others: for candidate in ahead.shares().iter().skip(1) {
+        if !placed.push(on_its_channel(channels, *candidate)) {
             break 'others;
         }
     }

@@ -8,7 +8,7 @@ ghost use Rattle.ledger_resume.specs.Restoring.{BeginsNothing, HaveNoHistory, Is
 
 use crate::units::{behind_magic, read_again, read_unit};
 use event_store::History;
-use ledger_audit::CreditsAhead;
+use ledger_audit::look_ahead_in_records;
 use ledger_records::magic_hash;
 use ledger_replay::{Replay, ReplayError, ReplayedTables};
 use pool_history::Event;
@@ -80,21 +80,12 @@ impl Restored {
     }
 
     /// Of all records, those behind what was read may be credits whose headers are worked out now,
-    /// side by side. What comes of them doesn't change by it.
+    /// side by side. What comes of them doesn't change by it, and without memory none is.
     pub(crate) fn look_ahead(&mut self, records: &[Blob])
         ensures { self.new ≡ self.old }
     {
-        if self.replay.count_down() {
-            return;
-        }
         let read = records.len().min(self.history.len() as usize);
-        let mut ahead = CreditsAhead::none();
-        'credits: for record in records[read..].iter().take(4) {
-            if ahead.push(self.alloc, record.bytes()).is_none() {
-                break 'credits;
-            }
-        }
-        ahead.foresee_by(&mut self.replay);
+        let _looked = look_ahead_in_records(&mut self.replay, self.alloc, &records[read..]);
     }
 
     /// The history, and the tables that were told it.

@@ -12,7 +12,7 @@ use foreseen_shares::{Candidate, Foresight, SharesAhead};
 use pool_history::{Brief, Checked, Kind, Lead, Submission};
 use session_steps::About;
 use share_check::{Parts, brief_of, parts_of};
-use std::alloc::Global;
+use std::alloc::{AllocError, Global};
 use sv2_messages::kinds;
 
 /// As many bytes as two frames of shares have at least.
@@ -90,7 +90,7 @@ impl Foreseeing {
         };
     }
 
-    /// Where there is no memory for it, the channel stays unknown.
+    /// It takes no memory: where no room was made, the channel stays unknown.
     fn keep_channel(&mut self, channel: u32, lead: Lead, kind: Kind) {
         if known_channel(&self.channels, channel).is_some() {
             return;
@@ -98,27 +98,34 @@ impl Foreseeing {
         if self.channels.len() >= MOST_CHANNELS {
             self.channels.clear();
         }
-        let _done = self.channels.push(Known {
-            channel,
-            lead,
-            kind,
-        });
+        if self.channels.len() < self.channels.capacity() {
+            let _kept = self.channels.push(Known {
+                channel,
+                lead,
+                kind,
+            });
+        }
     }
 
     /// Looks at the bytes behind a frame. Where they begin with two shares or more of the job that was
-    /// briefed last, on channels that are known, the headers of the first four are worked out.
-    pub(crate) fn look_ahead(&mut self, alloc: Global, bytes: &[u8]) {
+    /// briefed last, on channels that are known, the headers of the first four are worked out. Room
+    /// for what is kept of channels is made here.
+    pub(crate) fn look_ahead(&mut self, alloc: Global, bytes: &[u8]) -> Result<(), AllocError> {
         self.goes_on = bytes.len() >= TWO_SHARES;
         if self.foresight.count_down() || !self.goes_on {
-            return;
+            return Ok(());
+        }
+        if self.channels.capacity() == 0 {
+            self.channels.reserve(MOST_CHANNELS)?;
         }
         let Some(known) = &self.briefed else {
-            return;
+            return Ok(());
         };
-        let found = shares_ahead(alloc, &self.channels, bytes, known.job);
-        if let Some(ahead) = &found {
-            self.foresight
-                .foresee(alloc, &parts_of(&known.brief), ahead);
+        match shares_ahead(alloc, &self.channels, bytes, known.job) {
+            Some(ahead) => self
+                .foresight
+                .foresee(alloc, &parts_of(&known.brief), &ahead),
+            None => Ok(()),
         }
     }
 }

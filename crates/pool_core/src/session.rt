@@ -107,11 +107,12 @@ impl Session {
     }
 
     /// Looks at the bytes that stand behind the frame that came last: the shares with which they go
-    /// on may be worked out now, side by side. Nothing is asked or answered otherwise for it.
-    pub fn look_ahead(&mut self, alloc: Global, bytes: &[u8])
+    /// on may be worked out now, side by side. Nothing is asked or answered otherwise for it, also
+    /// where there is no memory.
+    pub fn look_ahead(&mut self, alloc: Global, bytes: &[u8]) -> Result<(), AllocError>
         ensures { self.new ≡ self.old }
     {
-        self.foreseeing.look_ahead(alloc, bytes);
+        self.foreseeing.look_ahead(alloc, bytes)
     }
 
     /// Hears the reply to its last request. Where that is what a share's header is computed from,

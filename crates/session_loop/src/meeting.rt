@@ -117,12 +117,12 @@ impl Conversation {
         }
     }
 
-    /// The bytes that are still to be met may begin with a frame.
+    /// The bytes that are still to be met may begin with a frame. Without memory none is looked at.
     fn look_ahead(&mut self, splitter: &Splitter, rest: &[u8])
         ensures { self.new ≡ self.old }
     {
         if splitter.held() == 0 {
-            self.session.look_ahead(self.alloc, rest);
+            let _looked = self.session.look_ahead(self.alloc, rest);
         }
     }
 
