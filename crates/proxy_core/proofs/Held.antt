@@ -2,7 +2,7 @@
 use Rattle.std.proofs.Common.{◌≡◌, ℕ, zero, suc, ◌+◌, ◌<◌, ◌≤◌, Bool, true, false, None, Some, Result, Ok, Err, IfOk, List, [], ◌∷◌, ◌++◌, length, get_or, map, take, filter, position, inl, inr, refl, sym, ap, ◌∙◌, arith}
 use Rattle.std.specs.List.{position_or_len, remove}
 use Rattle.std.proofs.lemmas.Bool.{cases_Bool, cases_lt, lt-ltb}
-use Rattle.std.proofs.lemmas.List.{map-append, take_more}
+use Rattle.std.proofs.lemmas.List.{append-nil, map-append, take_more}
 use Rattle.std.proofs.lemmas.List.Elements.{filter-append}
 use Rattle.std.proofs.lemmas.List.Quantifiers.{position-Some}
 use Rattle.v1_rules.specs.Heard.{Told}
@@ -77,15 +77,11 @@ passes_more terms told test jobs i d miner within passes =
     )
     (told_all-append terms (map told (filter test (take i jobs))) (told (get_or jobs i d) ∷ []) miner)
 
-append_none : {A : Type 0} (xs : List A) → xs ++ [] ≡ xs
-append_none [] = refl
-append_none (x ∷ xs) = ap (λ ys. x ∷ ys) (append_none xs)
-
 pub fails_more : (test : RelayedJob → Bool) (jobs : List RelayedJob) (i : ℕ) (d : RelayedJob) → i < length jobs → test (get_or jobs i d) ≡ false
     → filter test (take (i + 1) jobs) ≡ filter test (take i jobs)
 fails_more test jobs i d within fails =
     rw (take_more jobs i d within, filter-append test (take i jobs) (get_or jobs i d ∷ []), one_fails test (get_or jobs i d) fails)
-    (append_none (filter test (take i jobs)))
+    (append-nil (filter test (take i jobs)))
 
 -- ---- steps of loops over jobs
 

@@ -6,4 +6,3 @@ pub mod Messages
 pub mod Openings
 pub mod Rising
 pub mod Runs
-pub mod Verdicts

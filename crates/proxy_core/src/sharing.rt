@@ -22,8 +22,7 @@ fn sent_by(
     requires { length share.now.extranonce ≡ seat.now.rolled }
     ensures { IfOk result (λ up. up ≡ steps.sent_by seat.now number share.now) }
 {
-    let _rolled = seat.rolled();
-    let mut extranonce = Vec::new(alloc);
+    let mut extranonce = Vec::with_capacity(alloc, 2 + usize::from(seat.rolled()))?;
     extranonce.extend_from_slice(&seat.lead().to_be_bytes())?;
     extranonce.extend_from_slice(share.extranonce())?;
     Ok(share.passed_on(seat.channel(), number, extranonce))

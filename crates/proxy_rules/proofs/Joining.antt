@@ -3,6 +3,7 @@ use Rattle.std.proofs.Common.{◌≡◌, ℕ, ◌==◌, Bool, true, false, not, 
 use Rattle.std.specs.List.{filter}
 use Rattle.std.specs.Prelude.{is_some, nat_le}
 use Rattle.std.proofs.lemmas.Bool.{cases_Bool, eq-eqb, eqb-true}
+use Rattle.std.proofs.lemmas.List.{append-nil}
 use Rattle.serde_json.specs.Data.{Data}
 use Rattle.v1_rules.specs.Heard.{Told, Opened, NotOpened, Target, Accepted, Refused, Future, Live, Tipped, Nothing}
 use Rattle.v1_rules.specs.State.{SentShare, Saying, Answer, CodeRefusal, Asking, Silence, Open, Update, Share, Name}
@@ -224,9 +225,15 @@ after_wait relay (input ∷ inputs) wait = after_wait (step relay input) inputs 
 
 -- ---- what is said to each
 
-append_none : {A : Type 0} (xs : List A) → xs ++ [] ≡ xs
-append_none [] = refl
-append_none (x ∷ xs) = ap (λ ys. x ∷ ys) (append_none xs)
+-- of two numbers a third is the one and not the other, so these differ
+pub is_another : (number who caller : ℕ) → (number == who) ≡ false → (number == caller) ≡ true
+    → (who == caller) ≡ false
+is_another number who caller other own = elim (cases_Bool (who == caller)) [
+  | inl both ↦
+      let again : (number == who) ≡ true = eq-eqb number who (eqb-true number caller own ∙ sym (eqb-true who caller both)) in
+      absurd (cc)
+  | inr differ ↦ differ
+]
 
 line_at : (caller : ℕ) (said : Saying) (who : ℕ) (miners : List Miner) → is_joined who miners ≡ true
     → output_in (miner_of caller (at_caller who (with_line said) miners))
@@ -237,19 +244,14 @@ line_at caller said who (miner ∷ miners) is = elim (cases_Bool (miner.caller =
       let same : miner.caller ≡ who = eqb-true miner.caller who here in
       elim (cases_Bool (miner.caller == caller)) [
         | inl own ↦ let too : (who == caller) ≡ true = ap (λ c. c == caller) (sym same) ∙ own in rw (here, own, too) refl
-        | inr away ↦ let too : (who == caller) ≡ false = ap (λ c. c == caller) (sym same) ∙ away in rw (here, away, too) (sym (append_none _))
+        | inr away ↦ let too : (who == caller) ≡ false = ap (λ c. c == caller) (sym same) ∙ away in rw (here, away, too) (sym (append-nil _))
       ]
   | inr there ↦
       let behind : is_joined who miners ≡ true = rw there at is in
       elim (cases_Bool (miner.caller == caller)) [
         | inl own ↦
-            let not_who : (who == caller) ≡ false = elim (cases_Bool (who == caller)) [
-              | inl both ↦
-                  let again : (miner.caller == who) ≡ true = eq-eqb miner.caller who (eqb-true miner.caller caller own ∙ sym (eqb-true who caller both)) in
-                  absurd (cc)
-              | inr differ ↦ differ
-            ] in
-            rw (there, own, not_who) (sym (append_none _))
+            let not_who : (who == caller) ≡ false = is_another miner.caller who caller there own in
+            rw (there, own, not_who) (sym (append-nil _))
         | inr away ↦ rw (there, away) (line_at caller said who miners behind)
       ]
 ]
@@ -257,7 +259,7 @@ line_at caller said who (miner ∷ miners) is = elim (cases_Bool (miner.caller =
 each_said : (said : Data → Saying) (list : List SentOn) (miners : List Miner) (caller : ℕ) → AreJoined list miners
     → output_in (miner_of caller (said_each said list miners))
     ≡ output_in (miner_of caller miners) ++ lines_for caller (map (answer_to said) list)
-each_said said [] miners caller are = sym (append_none _)
+each_said said [] miners caller are = sym (append-nil _)
 each_said said (sent ∷ list) miners caller are =
     let rows = at_rows sent.caller (with_line (said sent.id)) miners (line_row (said sent.id)) in
     each_said said list (at_caller sent.caller (with_line (said sent.id)) miners) caller (joined_rows list miners _ rows are.1)

@@ -4,7 +4,7 @@ use Rattle.std.specs.List.{filter, flat_map}
 use Rattle.std.specs.Prelude.{nat_le, nat_lt}
 use Rattle.std.proofs.lemmas.Bool.{cases_Bool, eq-eqb, eqb-false, eqb-true, ltb-false, ltb-true}
 use Rattle.std.proofs.lemmas.Grind.{flat_map-append}
-use Rattle.std.proofs.lemmas.List.{length-append}
+use Rattle.std.proofs.lemmas.List.{append-nil, length-append}
 use Rattle.serde_json.specs.Data.{Data}
 use Rattle.sv2_messages.specs.Messages.{Message}
 use Rattle.v1_rules.specs.Asked.{share_message}
@@ -22,10 +22,6 @@ use Rattle.proxy_rules.specs.Miners.{is_joined, seat_in, session_of}
 use Rattle.proxy_rules.specs.Refusals.{code_of}
 use Rattle.proxy_rules.specs.State.{Relay, Seat, SentOn, terms_of}
 use Rattle.proxy_rules.specs.Steps.{after, after_line, answer_those, asked, asks_by, changed, ended, handed_over, heard, heard_up, most_sent, opening_message, sent_by, sent_from, share_id, shared_by, started, step}
-
-append_none : {A : Type 0} (xs : List A) → xs ++ [] ≡ xs
-append_none [] = refl
-append_none (x ∷ xs) = ap (λ ys. x ∷ ys) (append_none xs)
 
 -- ---- counts
 
@@ -73,7 +69,7 @@ quiet : (relay new : Relay) (answers : List Answered) (dropped : List SentOn) �
     → Does relay new [] [] answers dropped
 quiet relay new answers dropped output sent balance =
     record {
-      output = output ∙ sym (append_none relay.output);
+      output = output ∙ sym (append-nil relay.output);
       sent = omega (arith, sent);
       numbers = tt;
       few = λ few. omega (arith, sent, few);
@@ -114,7 +110,7 @@ set_up_does : (relay : Relay) (is : Bool)
 set_up_does relay true = still relay relay refl refl refl
 set_up_does relay false =
     record {
-      output = ap (λ bytes. relay.output ++ bytes) (sym (append_none _));
+      output = ap (λ bytes. relay.output ++ bytes) (sym (append-nil _));
       sent = omega arith;
       numbers = tt;
       few = λ few. few;
@@ -155,7 +151,7 @@ shared_does relay caller (Err refusal) (Some id) numbered = still relay _ refl r
 shared_does relay caller (Ok share) (Some id) numbered =
     let is = numbered share refl in
     record {
-      output = ap (λ bytes. relay.output ++ bytes) (sym (append_none _));
+      output = ap (λ bytes. relay.output ++ bytes) (sym (append-nil _));
       sent = refl;
       numbers = (is.0, tt);
       few = λ few. omega (arith, is.1);

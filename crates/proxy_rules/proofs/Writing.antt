@@ -5,6 +5,7 @@ use Rattle.std.specs.List.{filter}
 use Rattle.std.specs.Option.{option_and_then}
 use Rattle.std.specs.Prelude.{option_map, nat_le}
 use Rattle.std.proofs.lemmas.Bool.{cases_Bool, eq-eqb, eqb-true}
+use Rattle.std.proofs.lemmas.List.{append-nil}
 use Rattle.serde_json.specs.Data.{Data}
 use Rattle.v1_rules.specs.Heard.{Told, Opened, NotOpened, Target, Accepted, Refused, Future, Live, Tipped, Nothing, OpenedChannel, ToldJob, ToldTip}
 use Rattle.v1_rules.specs.Laws.{answered_in, answered_by, request_of}
@@ -26,14 +27,10 @@ use Rattle.proxy_rules.specs.Sayings.{SessionsSayTheirOwn, ids_for, output_by, r
 use Rattle.proxy_rules.specs.State.{Miner, RelayedJob, Relay, Seat, SentOn, Session, terms_of}
 use Rattle.proxy_rules.specs.Steps.{Offer, after, after_line, answer_those, asked, asks_by, changed, handed_over, heard, heard_up, line_heard, line_said, may_take, named, offer, opening_message, said_each, seat_of, sent_from, share_id, shared_by, started, step, subscribed}
 use Rattle.proxy_rules.proofs.Asking.{IsClear, IsNamed, HandsOn, LeavesBy, Replies, Subscribes, leaves}
-use Rattle.proxy_rules.proofs.Joining.{Wait, after_wait, step_wait, subscribed_joined, those_said}
+use Rattle.proxy_rules.proofs.Joining.{Wait, after_wait, is_another, step_wait, subscribed_joined, those_said}
 use Rattle.proxy_rules.proofs.Rows.{handed_row, named_row, relayed_row, said_row}
 
 -- ---- lists
-
-append_none : {A : Type 0} (xs : List A) → xs ++ [] ≡ xs
-append_none [] = refl
-append_none (x ∷ xs) = ap (λ ys. x ∷ ys) (append_none xs)
 
 answered-append : (says more : List Saying) → answered_in (says ++ more) ≡ answered_in says ++ answered_in more
 answered-append [] more = refl
@@ -158,11 +155,11 @@ record Ends (before : List ℕ) (ids : List Data) (says own : List Saying) (wait
 one_answer : (ids : List Data) (says own : List Saying) (id : Data) → ids ≡ id ∷ [] → says ≡ [] → answered_in own ≡ id ∷ []
     → answered_in (says ++ own) ++ [] ≡ ids
 one_answer ids says own id only silent answers =
-    append_none (answered_in (says ++ own)) ∙ ap (λ before. answered_in (before ++ own)) silent ∙ answers ∙ sym only
+    append-nil (answered_in (says ++ own)) ∙ ap (λ before. answered_in (before ++ own)) silent ∙ answers ∙ sym only
 
 -- nothing more is said
 no_more : (ids : List Data) (says : List Saying) → answered_in says ≡ ids → answered_in (says ++ []) ++ [] ≡ ids
-no_more ids says answers = append_none (answered_in (says ++ [])) ∙ ap answered_in (append_none says) ∙ answers
+no_more ids says answers = append-nil (answered_in (says ++ [])) ∙ ap answered_in (append-nil says) ∙ answers
 
 opened_said : (answer : Data) (difficulty : ℕ) (id : Data) (subscriber : Option Data) → subscriber ≡ Some id
     → answered_in (to_subscriber subscriber (λ id. Answer id answer) ++ Difficulty difficulty ∷ []) ≡ id ∷ []
@@ -332,12 +329,7 @@ found_at caller who change (miner ∷ miners) keeps = elim (cases_Bool (miner.ca
       rw (here, too, first) (elim (cases_Bool (who == caller)) [ inl own ↦ rw own refl | inr away ↦ rw away refl ])
   | inr there ↦ rw there (elim (cases_Bool (miner.caller == caller)) [
     | inl own ↦
-        let not_who : (who == caller) ≡ false = elim (cases_Bool (who == caller)) [
-          | inl both ↦
-              let again : (miner.caller == who) ≡ true = eq-eqb miner.caller who (eqb-true miner.caller caller own ∙ sym (eqb-true who caller both)) in
-              absurd (cc)
-          | inr differ ↦ differ
-        ] in
+        let not_who : (who == caller) ≡ false = is_another miner.caller who caller there own in
         rw (own, not_who) refl
     | inr away ↦ rw away (found_at caller who change miners keeps)
   ])
@@ -359,12 +351,7 @@ found_behind caller who (miner ∷ miners) none = elim (cases_Bool (miner.caller
       let behind : miner_of who miners ≡ None = rw there at none in
       elim (cases_Bool (miner.caller == caller)) [
         | inl own ↦
-            let not_who : (who == caller) ≡ false = elim (cases_Bool (who == caller)) [
-              | inl both ↦
-                  let again : (miner.caller == who) ≡ true = eq-eqb miner.caller who (eqb-true miner.caller caller own ∙ sym (eqb-true who caller both)) in
-                  absurd (cc)
-              | inr differ ↦ differ
-            ] in
+            let not_who : (who == caller) ≡ false = is_another miner.caller who caller there own in
             rw (own, not_who) refl
         | inr away ↦ rw away (found_behind caller who miners behind)
       ]
@@ -399,7 +386,7 @@ record Writes (relay : Relay) (event : ProxyEvent) (caller : ℕ) (new : Relay) 
 
 -- nothing is said, and nothing asked
 nothing : (relay : Relay) (caller : ℕ) → output_at caller relay ≡ with_lines (output_at caller relay) [] ++ []
-nothing relay caller = sym (append_none (output_at caller relay))
+nothing relay caller = sym (append-nil (output_at caller relay))
 
 abbrev session_in : Option Miner → Option Session
 session_in miner = option_and_then (λ miner. miner.session) miner
@@ -443,12 +430,12 @@ all_speak : (relay new : Relay) (told : Told) (caller : ℕ) → IsNotice told �
 all_speak relay new told caller notice is clear =
     let found = ap (miner_of caller) is ∙ found_all caller (relayed_to (terms_of relay.base) told) relay.miners (λ miner. (relayed_row (terms_of relay.base) told miner).caller) in
     let parts = found_speaks relay told caller new.miners (miner_of caller relay.miners) notice clear found in
-    record { output = parts.0 ∙ sym (append_none _); none = parts.1; clear = parts.2 }
+    record { output = parts.0 ∙ sym (append-nil _); none = parts.1; clear = parts.2 }
 
 nothing_speaks : (relay new : Relay) (caller : ℕ) → new.miners ≡ relay.miners → ClearAt caller relay → Speaks relay [] caller [] new
 nothing_speaks relay new caller is clear =
     record {
-      output = ap (λ (miners : List Miner). output_in (miner_of caller miners)) is ∙ sym (append_none _);
+      output = ap (λ (miners : List Miner). output_in (miner_of caller miners)) is ∙ sym (append-nil _);
       none = refl;
       clear = subst (λ (miners : List Miner). ClearIn (session_of caller miners)) (sym is) clear;
     }
@@ -608,13 +595,13 @@ record WritesOwn (relay : Relay) (who : ℕ) (line : List ℕ) (miner : Option M
 
 joined_writes : (relay : Relay) (who : ℕ) (line : List ℕ) (caller : ℕ) (output : List ℕ) (session : Option Session) → ClearIn session
     → WritesOwn relay who line (Some (record { caller = caller; output = output; session = session }))
-joined_writes relay who line caller output None clear = record { output = sym (append_none output); answers = refl; clear = tt }
+joined_writes relay who line caller output None clear = record { output = sym (append-nil output); answers = refl; clear = tt }
 joined_writes relay who line caller output (Some session) clear =
     let reaction : Reaction = line_reaction (terms_of relay.base) session.v1 line in
     let ends = asked_ends (after_line relay who line) who caller (with_lines output reaction.says) session.seat session.v1 reaction.after
     (request_of line) reaction.says reaction.asks (leaves (terms_of relay.base) session.v1 line) clear in
     record {
-      output = ends.output ∙ sym (lines-append output reaction.says _) ∙ sym (append_none _);
+      output = ends.output ∙ sym (lines-append output reaction.says _) ∙ sym (append-nil _);
       answers = ends.answers;
       clear = subst ClearIn (sym ends.session) ends.clear;
     }
@@ -715,7 +702,7 @@ step_writes : (relay : Relay) (input : ProxyEvent) (caller : ℕ) → Wait relay
 step_writes relay (event.Start user base) caller wait clear = record { output = nothing relay caller; answers = refl; clear = clear }
 step_writes relay (event.Up bytes) caller wait clear =
     let speaks = up_speaks relay (told_up bytes) caller wait clear in
-    record { output = speaks.output; answers = append_none _ ∙ speaks.none; clear = speaks.clear }
+    record { output = speaks.output; answers = append-nil _ ∙ speaks.none; clear = speaks.clear }
 step_writes relay event.UpEnd caller wait clear =
     let speaks = answers_speak (λ sent. true) (λ id. CodeRefusal id (code_of UpstreamLost)) relay caller wait clear in
     record { output = speaks.output; answers = refl; clear = speaks.clear }
