@@ -8,16 +8,19 @@ use Rattle.pool_history.specs.declared.events.Event.TheVariants as event
 use Rattle.pool_history.specs.declared.settings.Rules.{Rules}
 use Rattle.pool_settings.specs.declared.opening.NoSettings.{NoSettings}
 use Rattle.pool_settings.specs.declared.settings.Settings.{Settings}
+use Rattle.session_steps.specs.States.{new_state}
+use Rattle.session_steps.specs.Steps.{Follows}
 use Rattle.solo_command.specs.Row.{GoesOnFrom, KeeperRow, SessionRow}
 use Rattle.solo_session.specs.Solo.{IsServed, Outsides, solo_manner, sole_worker}
 use Rattle.solo_session.specs.declared.serving.SoloEnd.{SoloEnd}
 use Rattle.solo_session.specs.declared.serving.SoloEnd.TheVariants as solo
 use Rattle.stream_commands.specs.declared.status.Status.{Status}
+use Rattle.declare_laws.specs.Laws.{DeclarationsAreByRules}
 use Rattle.declared_ledgers.specs.Declared.{FixesDeclared}
 use Rattle.declared_ledgers.specs.Laws.{DeclarationsAreAnswered, DeclareLeavesDeclared, HistoriesFixListedPaths}
 use Rattle.declared_ledgers.specs.Rows.{LeavesByEnd, LeavesByKeeper, LeavesBySession, LeavesBySettings}
 
-module _ (fix : HistoriesFixListedPaths) (answer : DeclarationsAreAnswered) where
+module _ (rule : DeclarationsAreByRules) (fix : HistoriesFixListedPaths) (answer : DeclarationsAreAnswered) where
   by_end : (rules : Rules) (idle_turns : ℕ) (old new : Outsides) (end : SoloEnd)
       (did : IsServed rules true idle_turns old new end) → LeavesByEnd rules idle_turns old new end did
   by_end rules idle_turns old new (solo.Unbegun cause) did = tt
@@ -26,6 +29,9 @@ module _ (fix : HistoriesFixListedPaths) (answer : DeclarationsAreAnswered) wher
       let start : List Event = event.Start rules ∷ [] in
       let session = did.1 in
       record {
+        ruled = λ before later met parts. rule sole_worker manner before later met session.last refl
+            (subst (λ steps. Follows sole_worker (new_state manner) steps session.last) parts
+            session.follows);
         fixed = subst (AllByRecursion (FixesDeclared session.steps)) (sym session.begins)
             (tt, fix sole_worker manner start session.steps session.last refl session.follows session.turns);
         answered = answer sole_worker manner start session.steps session.last reason rules refl refl

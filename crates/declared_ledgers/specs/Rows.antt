@@ -1,6 +1,6 @@
 -- What the command `declare SETTINGS LEDGER` leaves, by its row (this project's own).
 use Rattle.std.proofs.Common.{inl, inr}
-use Rattle.std.specs.Prelude.{ℕ, true, Result, Ok, Err, List}
+use Rattle.std.specs.Prelude.{◌≡◌, ℕ, true, Result, Ok, Err, List, ◌∷◌, ◌++◌}
 use Rattle.std.specs.List.{AllByRecursion}
 use Rattle.pool_io.specs.Hosts.{HostSeen}
 use Rattle.pool_io.specs.Seen.{KeeperSeen}
@@ -8,16 +8,23 @@ use Rattle.pool_history.specs.declared.events.Event.{Event}
 use Rattle.pool_history.specs.declared.settings.Rules.{Rules}
 use Rattle.pool_settings.specs.declared.opening.NoSettings.{NoSettings}
 use Rattle.pool_settings.specs.declared.settings.Settings.{Settings}
-use Rattle.session_steps.specs.Steps.{SessionStep}
+use Rattle.session_steps.specs.declared.manner.Manner.{Manner}
+use Rattle.session_steps.specs.Steps.{Framed, Met, SessionStep}
 use Rattle.solo_command.specs.Row.{DeclareRow, GoesOnFrom, KeeperRow, SessionRow}
-use Rattle.solo_session.specs.Solo.{IsServed, Outsides}
+use Rattle.solo_session.specs.Solo.{IsServed, Outsides, solo_manner, sole_worker}
 use Rattle.solo_session.specs.declared.serving.SoloEnd.{SoloEnd}
 use Rattle.solo_session.specs.declared.serving.SoloEnd.TheVariants as solo
 use Rattle.stream_commands.specs.declared.status.Status.{Status}
+use Rattle.declare_laws.specs.Answers.{MeetsByRules}
 use Rattle.declared_ledgers.specs.Declared.{AnswersDeclarations, FixesDeclared}
 
--- each path that a history fixes was declared in these steps, and each declaration was answered
-pub record LeavesDeclared (steps : List SessionStep) (history : List Event) : Type 0 where
+-- Each frame of a declaration that is met among these steps is answered by the rules, over all that
+-- the session heard before; each path that a history fixes was declared in them, and each declaration
+-- was answered.
+pub record LeavesDeclared (manner : Manner) (steps : List SessionStep) (history : List Event) :
+    Type 0 where
+  pub ruled : (before later : List SessionStep) (met : Met) → steps ≡ before ++ Framed met ∷ later
+      → MeetsByRules sole_worker manner before met
   pub fixed : AllByRecursion (FixesDeclared steps) history
   pub answered : AnswersDeclarations steps
 
@@ -25,7 +32,8 @@ pub record LeavesDeclared (steps : List SessionStep) (history : List Event) : Ty
 abbrev pub LeavesByEnd : (rules : Rules) (idle_turns : ℕ) (old new : Outsides) (end : SoloEnd)
     → IsServed rules true idle_turns old new end → Type 0
 LeavesByEnd rules idle_turns old new (solo.Unbegun cause) did = Unit {0}
-LeavesByEnd rules idle_turns old new (solo.Over reason) did = LeavesDeclared did.1.steps did.0
+LeavesByEnd rules idle_turns old new (solo.Over reason) did =
+    LeavesDeclared (solo_manner rules true idle_turns) did.1.steps did.0
 
 -- where the host gave all that a session needs
 abbrev pub LeavesBySession : (settings : Settings) (keeper : KeeperSeen) (old new : HostSeen)

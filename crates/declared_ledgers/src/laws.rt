@@ -3,7 +3,8 @@
 ghost use Rattle.declared_ledgers.specs.Laws.{DeclarationsAreAnswered, DeclareLeavesDeclared, HistoriesFixListedPaths};
 
 use declare_laws::{
-    declared_grants_are_answered, fixed_paths_are_asked_for, fixed_paths_are_of_listed_transactions,
+    declarations_are_by_the_rules, declared_grants_are_answered, fixed_paths_are_asked_for,
+    fixed_paths_are_of_listed_transactions,
 };
 
 /// Each path that the history of a session fixes is that of the transactions which a declaration of
@@ -15,8 +16,8 @@ pub fn histories_fix_listed_paths()
     fixed_paths_are_of_listed_transactions();
 }
 
-/// Each declaration that has a Grant asked for is answered by the next step, unless the ledger or
-/// memory fails there.
+/// Each declaration that has a Grant asked for is answered by the next step, unless the ledger, the
+/// write or memory fails there.
 pub fn declarations_are_answered()
     ensures { DeclarationsAreAnswered }
 {
@@ -24,10 +25,11 @@ pub fn declarations_are_answered()
 }
 
 /// So it is with what each row of the command `declare` leaves: with its whole history, and with each
-/// declaration of its session.
+/// declaration of its session. Each frame of one is answered by the rules.
 pub fn declare_leaves_declared()
     ensures { DeclareLeavesDeclared }
 {
+    declarations_are_by_the_rules();
     declarations_are_answered();
     histories_fix_listed_paths();
 }

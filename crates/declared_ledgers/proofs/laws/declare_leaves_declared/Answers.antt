@@ -3,4 +3,4 @@ use Rattle.declared_ledgers.proofs.laws.declare_leaves_declared.Goals as goal
 
 pub returns : goal.returns
 returns c =
-    by_row c.histories_fix_listed_paths.ensures c.declarations_are_answered.ensures
+    by_row c.declarations_are_by_the_rules.ensures c.histories_fix_listed_paths.ensures c.declarations_are_answered.ensures
