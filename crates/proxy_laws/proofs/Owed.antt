@@ -17,6 +17,7 @@ use Rattle.proxy_rules.specs.Outputs.{output_for}
 use Rattle.proxy_links.specs.Calls.{GoodProxyCalls, ProxyCall, RepliesSo, wants_memory}
 use Rattle.proxy_links.specs.Links.{IsPutEnd}
 use Rattle.proxy_laws.specs.Puts.{IsOutputUpTo, is_polled, is_reply_to_poll, last_polled, output_at_call, polled_or}
+use Rattle.proxy_laws.proofs.Outputs.{begins_after}
 use Rattle.proxy_laws.proofs.Polls.{AreQuiet, PutsPolls}
 
 abbrev bytes_of : ProxyReply → List ℕ
@@ -24,9 +25,6 @@ bytes_of (reply.Bytes bytes) = bytes
 bytes_of reply.Taken = []
 bytes_of reply.NotJoined = []
 bytes_of reply.Again = []
-
-begins_both : (xs ys zs : List ℕ) → Begins xs ys → Begins ys zs → Begins xs zs
-begins_both xs ys zs one two = (one.0 ++ two.0, sym (append_assoc xs one.0 two.0) ∙ ap (λ (l : List ℕ). l ++ two.0) one.1 ∙ two.1)
 
 none_last : (calls : List ProxyCall) → AreQuiet calls → last_polled calls ≡ None
 none_last [] none = refl
@@ -89,7 +87,7 @@ module _ (events : List ProxyEvent) where
         → Begins so_far before → length so_far ≡ cursor → PutsPolls (IsPutEnd reason) cursor calls bytes → Owes reason so_far bytes (last_polled calls)
     owed [] before so_far bytes cursor good grows begins at puts = puts
     owed (call ∷ calls) before so_far bytes cursor good grows begins at puts =
-        let front : Begins so_far (owed_at call) = begins_both so_far before (owed_at call) begins grows.0 in
+        let front : Begins so_far (owed_at call) = begins_after so_far before (owed_at call) begins grows.0 in
         let behind : (news : List ℕ) → RepliesSo (request.Poll cursor) (reply.Bytes news) call → so_far ++ news ≡ owed_at call = λ news so.
         ap (λ (l : List ℕ). so_far ++ l) (poll_answer call cursor news good.0 so ∙ ap (drop cursor) (sym front.1) ∙ drop_at so_far front.0 cursor at) ∙ front.1 in
         elim puts [

@@ -105,14 +105,6 @@ call_told : (asked : ProxyRequest) (outcome : Outcome ProxyReply AllocError) (ca
     → frame_told call.asked call.outcome ≡ frame_told asked outcome
 call_told asked outcome call is came = ap (λ request. frame_told request call.outcome) is ∙ ap (λ o. frame_told asked o) came
 
-failed_told : (asked : ProxyRequest) (fault : AllocError) → frame_told asked (Faulted fault) ≡ []
-failed_told (request.Up bytes) fault = refl
-failed_told request.UpEnd fault = refl
-failed_told request.Join fault = refl
-failed_told (request.Line line) fault = refl
-failed_told request.Leave fault = refl
-failed_told (request.Poll from) fault = refl
-
 -- the messages of deeds
 record Tells (phase : UpPhase) (calls : Calls) (new : UpPhase) : Type 0 where
   messages : List Message
