@@ -1,15 +1,22 @@
 -- A proxy that was run keeps the laws of all proxies.
-use Rattle.std.proofs.Common.{◌≡◌, ℕ, List, [], ◌∷◌, ◌++◌, sym, ap, ◌∙◌}
-use Rattle.pool_base.specs.Lists.{Begins}
+use Rattle.std.proofs.Common.{◌≡◌, ℕ, List, [], ◌∷◌, ◌++◌, length, ap}
+use Rattle.std.specs.List.{AllByRecursion}
+use Rattle.pool_base.specs.Calls.{IsOutcome}
+use Rattle.pool_base.proofs.Behind.{all-kept}
 use Rattle.proxy_rules.specs.declared.events.ProxyEvent.{ProxyEvent}
 use Rattle.proxy_rules.specs.declared.events.ProxyEvent.TheVariants as event
+use Rattle.proxy_rules.specs.Answering.{ProxyAnswers}
 use Rattle.proxy_rules.proofs.Joining.{own_answers}
 use Rattle.proxy_rules.proofs.Keeping.{are_answered}
 use Rattle.proxy_rules.proofs.Sending.{answered_once, goes_up}
 use Rattle.proxy_rules.proofs.Spaces.{spaces_apart}
 use Rattle.proxy_rules.proofs.Stepping.{leads_apart}
 use Rattle.proxy_rules.proofs.Writing.{sessions_say}
-use Rattle.proxy_laws.specs.Laws.{KeepsLaws, ProxiesKeepLaws, RunsByLaws}
+use Rattle.proxy_links.specs.Calls.{ProxyCall, wants_memory}
+use Rattle.pool_proxy.specs.Serving.{all_calls}
+use Rattle.proxy_laws.specs.Laws.{IsInput, KeepsLaws, ProxiesKeepLaws, RunsByLaws}
+use Rattle.proxy_laws.proofs.Inputs.{Brings, all_bring, outcome_inputs}
+use Rattle.proxy_laws.proofs.Lists.{all_join}
 
 keeps_laws : (user : List ℕ) (base : ℕ) (inputs : List ProxyEvent) → KeepsLaws user base inputs
 keeps_laws user base inputs =
@@ -23,13 +30,19 @@ keeps_laws user base inputs =
       says = λ event caller. sessions_say user base inputs event caller;
     }
 
-runs_by_laws : (user : List ℕ) (base : ℕ) (old new : List ProxyEvent) → old ≡ event.Start user base ∷ [] → Begins old new → RunsByLaws user base new
-runs_by_laws user base old new start begins =
-    record {
-      inputs = begins.0;
-      events_are = sym begins.1 ∙ ap (λ front. front ++ begins.0) start;
-      laws = λ front _. keeps_laws user base front;
-    }
+runs_by_laws : (user : List ℕ) (base doors : ℕ) (events inputs : List ProxyEvent) → events ≡ event.Start user base ∷ inputs → AllByRecursion (IsInput doors) inputs
+    → RunsByLaws user base doors events
+runs_by_laws user base doors events inputs is are =
+    record { inputs = inputs; events_are = is; inputs_are = are; laws = λ front _. keeps_laws user base front }
+
+goes_on : (user : List ℕ) (base doors : ℕ) (before : List ProxyEvent) (call : ProxyCall) → Brings doors call → IsOutcome ProxyAnswers wants_memory before call call.outcome
+    → RunsByLaws user base doors before → RunsByLaws user base doors (before ++ call.added)
+goes_on user base doors before call by is runs =
+    runs_by_laws user base doors (before ++ call.added) (runs.inputs ++ call.added) (ap (λ (l : List ProxyEvent). l ++ call.added) runs.events_are)
+    (all_join (IsInput doors) runs.inputs call.added runs.inputs_are (outcome_inputs doors before call call.outcome by is))
 
 pub keep_laws : ProxiesKeepLaws
-keep_laws service old new reason door_faults user base start ran = runs_by_laws user base old.events new.events start ran.begins
+keep_laws service old new reason door_faults user base start ran =
+    all-kept ProxyAnswers wants_memory (RunsByLaws user base (length old.doors)) (Brings (length old.doors)) (goes_on user base (length old.doors)) old.events new.events 0 0
+    (all_calls ran.up_calls ran.shifts) ran.parted ran.good (all_bring service old new reason door_faults ran)
+    (runs_by_laws user base (length old.doors) old.events [] start tt)

@@ -1,9 +1,11 @@
+pub mod Lists
 pub mod Growing
 pub mod Keeping
 pub mod Outputs
 pub mod Polls
 pub mod Gaps
 pub mod Setups
+pub mod Inputs
 pub mod Traces
 pub mod Owed
 pub mod Upstreams

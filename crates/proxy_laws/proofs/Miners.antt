@@ -17,18 +17,11 @@ use Rattle.pool_proxy.specs.Parts.{ProxyService}
 use Rattle.pool_proxy.specs.Serving.{AreShiftsFrom, MinersShift}
 use Rattle.proxy_laws.specs.Puts.{ArePutTheirOutput, MinersArePutOutput}
 use Rattle.proxy_laws.proofs.Gaps.{GapsBehind, gaps_behind, no_gaps}
+use Rattle.proxy_laws.proofs.Lists.{all_join, all_later}
 use Rattle.proxy_laws.proofs.Visits.{visit_put}
 
 abbrev Calls : Type 0
 Calls = List ProxyCall
-
-all_join : (P : ProxyCall → Type 0) (xs ys : Calls) → AllByRecursion P xs → AllByRecursion P ys → AllByRecursion P (xs ++ ys)
-all_join P [] ys one other = other
-all_join P (x ∷ xs) ys one other = (one.0, all_join P xs ys one.1 other)
-
-all_later : (P : ProxyCall → Type 0) (xs ys : Calls) → AllByRecursion P (xs ++ ys) → AllByRecursion P ys
-all_later P [] ys all = all
-all_later P (x ∷ xs) ys all = all_later P xs ys all.1
 
 -- ---- one shift
 

@@ -2,6 +2,7 @@
 use Rattle.std.proofs.Common.{◌≡◌, ℕ, ◌==◌, Bool, true, false, Option, None, Some, List, [], ◌∷◌, ◌++◌, refl, ap, sym, subst, ◌∙◌, append_assoc, append-nil, inl, inr}
 use Rattle.std.proofs.lemmas.Bool.{cases_Bool}
 use Rattle.std.specs.declared.alloc.AllocError.{AllocError}
+use Rattle.std.specs.List.{AllByRecursion}
 use Rattle.pool_base.specs.Calls.{Faulted, Outcome, Replied}
 use Rattle.pool_io.specs.Seen.{SinkSeen}
 use Rattle.pool_io.specs.declared.turn.Turn.{Turn}
@@ -30,6 +31,7 @@ use Rattle.proxy_links.specs.Serving.{LeavesAtEnd, end_unleft}
 use Rattle.proxy_links.specs.Upstreams.{HearsUpstream, LeadsUp, PhasesThrough, ServesUpstream, UpStand}
 use Rattle.proxy_workers.specs.Visits.{Notes}
 use Rattle.proxy_laws.specs.Setups.{AreFramesOf, BadSetupsAreExact, EndsByItsMessages, frame_told, frames_told, is_bad_upstream, is_badly_opened}
+use Rattle.proxy_laws.proofs.Lists.{all_join}
 use Rattle.proxy_laws.proofs.Traces.{noted_behind}
 
 -- ---- phases
@@ -105,7 +107,47 @@ call_told : (asked : ProxyRequest) (outcome : Outcome ProxyReply AllocError) (ca
     → frame_told call.asked call.outcome ≡ frame_told asked outcome
 call_told asked outcome call is came = ap (λ request. frame_told request call.outcome) is ∙ ap (λ o. frame_told asked o) came
 
--- the messages of deeds
+-- ---- what is asked for the upstream: nothing that has a worker's number
+
+abbrev pub asks_up : ProxyRequest → Bool
+asks_up (request.Up bytes) = true
+asks_up request.UpEnd = true
+asks_up (request.Poll from) = true
+asks_up _ = false
+
+abbrev AllAskUp : Calls → Type 0
+AllAskUp calls = AllByRecursion (λ (call : ProxyCall). asks_up call.asked ≡ true) calls
+
+all_ask : (calls more : Calls) → AllAskUp calls → AllAskUp more → AllAskUp (calls ++ more)
+all_ask calls more one other = all_join (λ (call : ProxyCall). asks_up call.asked ≡ true) calls more one other
+
+deeds_ask : (deeds : List Deed) (s t : LinkState) → Leads Frames s deeds t → AllAskUp (calls_in deeds)
+deeds_ask [] s t leads = tt
+deeds_ask (Told item call ∷ deeds) s t leads = (ap asks_up leads.1.3.1.0, deeds_ask deeds leads.0 t leads.2)
+deeds_ask (Passed item ∷ deeds) s t leads = deeds_ask deeds leads.0 t leads.2
+deeds_ask (Polled bytes call ∷ deeds) s t leads = (ap asks_up leads.1.1.0, deeds_ask deeds leads.0 t leads.2)
+
+stop_asks : (last : LinkState) (stop : Stop) (reason : SessionEnd) → StopsBy Frames last stop reason → AllAskUp (calls_at (Some stop))
+stop_asks last Overran reason stops = tt
+stop_asks last Broke reason stops = tt
+stop_asks last Refused reason stops = tt
+stop_asks last Lacked reason stops = tt
+stop_asks last (Untold item call) reason stops = (ap asks_up stops.3.1, tt)
+stop_asks last (Unpolled call) reason stops = (ap asks_up stops.1.1, tt)
+stop_asks last (Unput front call) reason stops = (ap asks_up stops.2.0, tt)
+
+ends_ask : (last new : LinkState) (stop : Option Stop) (over : Option SessionEnd) → EndsSo Frames last stop over new → AllAskUp (calls_at stop)
+ends_ask last new None over ends = tt
+ends_ask last new (Some stop) None ends = absurd ends
+ends_ask last new (Some stop) (Some reason) ends = stop_asks last stop reason ends
+
+leads_ask : (old new : LinkState) (a b : Calls) (k l : SinkSeen) (over : Option SessionEnd) → (leads : LeadsOn Frames Notes old a k over new b l)
+    → AllAskUp (calls_in leads.deeds ++ calls_at leads.stop)
+leads_ask old new a b k l over leads =
+    all_ask (calls_in leads.deeds) (calls_at leads.stop) (deeds_ask leads.deeds old leads.last leads.leads) (ends_ask leads.last new leads.stop over leads.ends)
+
+-- ---- the messages of deeds
+
 record Tells (phase : UpPhase) (calls : Calls) (new : UpPhase) : Type 0 where
   messages : List Message
   frames : AreFramesOf (frames_told calls) messages
@@ -192,6 +234,7 @@ ends_told last new (Some stop) (Some reason) ends = stop_told last stop reason e
 record Goes (old : UpPhase) (noted : Calls) (over : Option SessionEnd) (new : UpPhase) (noted' : Calls) : Type 0 where
   calls : Calls
   noted_is : noted' ≡ noted ++ calls
+  asks : AllAskUp calls
   tells : Tells old calls new
   unfit : over ≡ Some end.BadSetup → new ≡ Unfit
   bad : new ≡ Unfit → over ≡ Some end.BadSetup
@@ -202,6 +245,7 @@ leads_go old new a b k l over up =
     record {
       calls = calls_in leads.deeds ++ calls_at leads.stop;
       noted_is = noted_behind a b (calls_in leads.deeds ++ calls_at leads.stop) leads.acts;
+      asks = leads_ask old.link new.link a b k l over leads;
       tells = both_tell old.phase new.phase new.phase (calls_in leads.deeds) (calls_at leads.stop)
           (deeds_tell leads.deeds old.link leads.last old.phase new.phase leads.leads up.phases)
           (none_told new.phase new.phase (calls_at leads.stop) (ends_told leads.last new.link leads.stop over leads.ends) refl);
@@ -221,6 +265,7 @@ turn_goes old new k l turn.End over fit hears =
     record {
       calls = [];
       noted_is = ap (λ (s : UpStand Calls). s.asking) hears.1 ∙ sym (append-nil old.asking);
+      asks = tt;
       tells = none_told old.phase new.phase [] refl (ap (λ (s : UpStand Calls). s.phase) hears.1);
       unfit = λ over_is. let same : Some (input_end old.held) ≡ Some end.BadSetup = sym hears.0 ∙ over_is in
           let ended : input_end old.held ≡ end.BadSetup = cc in
@@ -234,6 +279,7 @@ both_go one two three a b c over first rest =
     record {
       calls = first.calls ++ rest.calls;
       noted_is = rest.noted_is ∙ ap (λ (l : Calls). l ++ rest.calls) first.noted_is ∙ append_assoc a first.calls rest.calls;
+      asks = all_ask first.calls rest.calls first.asks rest.asks;
       tells = both_tell one two three first.calls rest.calls first.tells rest.tells;
       unfit = rest.unfit;
       bad = rest.bad;
@@ -251,6 +297,7 @@ over_none phase noted fit =
     record {
       calls = [];
       noted_is = sym (append-nil noted);
+      asks = tt;
       tells = none_told phase phase [] refl refl;
       unfit = λ is. let never : None ≡ Some end.BadSetup = is in absurd (cc);
       bad = λ is. absurd (fit is);
@@ -262,6 +309,7 @@ over_other phase new a b reason other goes =
     record {
       calls = goes.calls;
       noted_is = goes.noted_is;
+      asks = goes.asks;
       tells = goes.tells;
       unfit = λ is. let same : reason ≡ end.BadSetup = cc in absurd (other same);
       bad = λ is. absurd (still_fit phase new a b goes is);
@@ -313,6 +361,7 @@ polled_goes phase old new a b k l over fit empty other leads =
     record {
       calls = calls_in leads.deeds ++ calls_at leads.stop;
       noted_is = noted_behind a b (calls_in leads.deeds ++ calls_at leads.stop) leads.acts;
+      asks = leads_ask old new a b k l over leads;
       tells = none_told phase phase (calls_in leads.deeds ++ calls_at leads.stop)
           (told-append (calls_in leads.deeds) (calls_at leads.stop)
           ∙ ap (λ first. first ++ frames_told (calls_at leads.stop)) (empty_told leads.deeds old leads.last empty leads.leads)
@@ -376,15 +425,34 @@ stays_bad calls heard reason ended leaves is = elim leaves.ends [
   | inr fails ↦ fails.1 ∙ ap end_unleft is
 ]
 
+left_asks : (calls heard : Calls) (reason ended : SessionEnd) → (leaves : LeavesAtEnd Notes request.UpEnd heard reason ended calls)
+    → asks_up leaves.call.asked ≡ true
+left_asks calls heard reason ended leaves = elim leaves.ends [
+  | inl replies ↦ ap asks_up replies.0.1.0
+  | inr fails ↦ ap asks_up fails.0.1
+]
+
 some_reason : (reason other : SessionEnd) → Some reason ≡ Some other → reason ≡ other
 some_reason reason other is = cc
+
+left_calls : (idle_turns : ℕ) (before : LinkSeen) (ended : SessionEnd) (phase : UpPhase) (calls : Calls) (after : LinkSeen)
+    → (served : ServesUpstream Notes idle_turns [] before ended phase calls after)
+    → calls ≡ (heard_goes idle_turns before ended phase calls after served).calls ++ served.leaves.call ∷ []
+left_calls idle_turns before ended phase calls after served =
+    served.leaves.done ∙ ap (λ (l : Calls). l ++ served.leaves.call ∷ []) (heard_goes idle_turns before ended phase calls after served).noted_is
+
+pub up_asks : (idle_turns : ℕ) (before : LinkSeen) (ended : SessionEnd) (phase : UpPhase) (calls : Calls) (after : LinkSeen)
+    → ServesUpstream Notes idle_turns [] before ended phase calls after → AllAskUp calls
+up_asks idle_turns before ended phase calls after served =
+    let goes = heard_goes idle_turns before ended phase calls after served in
+    subst AllAskUp (sym (left_calls idle_turns before ended phase calls after served))
+    (all_ask goes.calls (served.leaves.call ∷ []) goes.asks (left_asks calls served.heard served.reason ended served.leaves, tt))
 
 served_ends : (idle_turns : ℕ) (before : LinkSeen) (ended : SessionEnd) (phase : UpPhase) (calls : Calls) (after : LinkSeen)
     → ServesUpstream Notes idle_turns [] before ended phase calls after → EndsByItsMessages calls ended
 served_ends idle_turns before ended phase calls after served =
     let goes = heard_goes idle_turns before ended phase calls after served in
-    let left : calls ≡ goes.calls ++ served.leaves.call ∷ [] =
-    served.leaves.done ∙ ap (λ (l : Calls). l ++ served.leaves.call ∷ []) goes.noted_is in
+    let left : calls ≡ goes.calls ++ served.leaves.call ∷ [] = left_calls idle_turns before ended phase calls after served in
     let told : frames_told calls ≡ frames_told goes.calls =
     ap frames_told left ∙ told-append goes.calls (served.leaves.call ∷ [])
     ∙ ap (λ frames. frames_told goes.calls ++ (frames ++ [])) (left_told calls served.heard served.reason ended served.leaves)

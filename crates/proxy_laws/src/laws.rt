@@ -16,8 +16,9 @@ pub fn miners_are_put_output()
     ensures { MinersArePutOutput }
 {}
 
-/// A proxy that began with a Start and was run over links has that Start and inputs, for which the laws of
-/// `proxy_rules` hold.
+/// The events of a proxy that began with a Start and was run over links are that Start and inputs,
+/// those of who called at a door under the number of its worker; the laws of `proxy_rules` hold for
+/// them.
 pub fn proxies_keep_laws()
     ensures { ProxiesKeepLaws }
 {}
