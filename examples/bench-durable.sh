@@ -113,9 +113,9 @@ def kept(stream):
         os.remove(ledger)
     return solo(stream, ledger)[0]
 
-# Each is timed three times, in turns, and the least time counts; what it takes to begin a program and a session without
-# shares doesn't.
-rounds = [(kept(f"{work}/shares") - kept(f"{work}/few"), bare()) for _ in range(3)]
+# Each is timed nine times, in turns, and the least time counts, since on a machine that others use too the same work
+# takes up to half as long again; what it takes to begin a program and a session without shares doesn't count.
+rounds = [(kept(f"{work}/shares") - kept(f"{work}/few"), bare()) for _ in range(9)]
 durable, pattern = (min(times[which] for times in rounds) for which in range(2))
 print(f"credits kept for good      {appends / durable:>10,.0f} a second")
 print(f"the bare pattern alone     {appends / pattern:>10,.0f} a second")
@@ -124,7 +124,7 @@ print(f"ratio {pattern / durable:.2f}, credits a second that are kept for good t
 laid(f"{work}/many", many)
 laid(f"{work}/none", 0)
 rounds = [(solo(f"{work}/nothing", f"{work}/many")[1] - solo(f"{work}/nothing", f"{work}/none")[1],
-           audited(f"{work}/many", many) - audited(f"{work}/none", 0)) for _ in range(3)]
+           audited(f"{work}/many", many) - audited(f"{work}/none", 0)) for _ in range(9)]
 resumed, audit = (min(times[which] for times in rounds) for which in range(2))
 print(f"records resumed            {many / resumed:>10,.0f} a second")
 print(f"records audited            {many / audit:>10,.0f} a second")
