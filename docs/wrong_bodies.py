@@ -1,0 +1,178 @@
+"""The repository's wrong bodies: edits of a crate's code that its contract, or a test, refuses.
+
+Those under crates/CRATE/must-fail are tried by the gate, at each run; those under wrong-bodies/CRATE by
+hand, with docs/try-edits. What was tried, and against which contract, stands in docs/tried-edits.
+"""
+import hashlib
+import pathlib
+import re
+from dataclasses import dataclass
+
+TOP = pathlib.Path(__file__).resolve().parent.parent
+RECORD = TOP / "docs" / "tried-edits"
+RECORD_HEAD = """\
+# Which wrong bodies were tried, a crate a line: its name, the sum of its contract and of its wrong bodies
+# when they were tried, how many were tried, how many were refused, and the day. docs/try-edits writes it;
+# docs/edits --stale prints the crates whose sums have changed since.
+"""
+
+
+@dataclass(frozen=True)
+class WrongBody:
+    """An edit: the crate that it changes, who tries it, what it breaks, what refuses it, and its changes."""
+
+    path: pathlib.Path
+    crate: str
+    is_by_gate: bool
+    promise: str
+    refused_by: str
+    changes: tuple[tuple[str, str, str], ...]
+
+    @property
+    def name(self):
+        return self.path.stem
+
+    @property
+    def is_refused_by_run(self):
+        """Whether a test or the stored run refuses it, and no clause."""
+        return self.refused_by.startswith(("test ", "the stored run"))
+
+    def texts(self, folder):
+        """The files that it changes in a crate's folder, as they are then; None where it can't be applied."""
+        found = {}
+        for file, old, new in self.changes:
+            text = found.get(file)
+            if text is None:
+                path = folder / file
+                text = path.read_text() if path.is_file() else ""
+            if text.count(old) != 1:
+                return None
+            found[file] = text.replace(old, new)
+        return found or None
+
+
+def read_body(path, is_by_gate):
+    """The wrong body of a file: `# promise:`, `# refused by:`, and then lines `file:`, `old:` and `new:`."""
+    promise, refused_by, file, changes = "-", "-", "", []
+    old = None
+    for line in path.read_text().splitlines():
+        if line.startswith("# promise:"):
+            promise = line[len("# promise:"):].strip()
+        elif line.startswith("# refused by:"):
+            refused_by = line[len("# refused by:"):].strip()
+        elif line.startswith("file: "):
+            file = line[len("file: "):].strip()
+        elif line.startswith("old: "):
+            old = line[len("old: "):]
+        elif line.startswith("new:"):
+            changes.append((file, old, line[len("new:"):].removeprefix(" ")))
+    crate = path.parts[-3] if is_by_gate else path.parts[-2]
+    return WrongBody(path, crate, is_by_gate, promise, refused_by, tuple(changes))
+
+
+def all_bodies(crates=()):
+    """The wrong bodies of these crates, or of all, by crate; those that the gate tries come first."""
+    found = [read_body(path, True) for path in TOP.glob("crates/*/must-fail/*.edit")]
+    found += [read_body(path, False) for path in TOP.glob("wrong-bodies/*/*.edit")]
+    chosen = [body for body in found if not crates or body.crate in crates]
+    return sorted(chosen, key=lambda body: (body.crate, not body.is_by_gate, body.name))
+
+
+CLAUSE = re.compile(r"\b(fn|requires|ensures|ghost)\b\*?\s*(\w*)")
+
+
+def code_of(text):
+    """A source without its comments, so that a word of one is no clause."""
+    return re.sub(r"(?m)(?<![:\w])//.*$", "", text)
+
+
+def closing(text, at):
+    """The place behind the brace that closes the one that opens at or behind a place."""
+    depth = 0
+    for place in range(at, len(text)):
+        if text[place] == "{":
+            depth += 1
+        elif text[place] == "}":
+            depth -= 1
+            if depth == 0:
+                return place + 1
+    return len(text)
+
+
+def clauses_of(text):
+    """Each clause and ghost member of a source, behind the name of the function that stood before it."""
+    text = code_of(text)
+    found, function, at = [], "", 0
+    while match := CLAUSE.search(text, at):
+        word, name = match[1], match[2]
+        at = match.end()
+        if word == "fn":
+            function = name
+        elif word == "ghost" and name != "use":
+            at = text.find(";", closing(text, at) - 1)
+            at = len(text) if at < 0 else at
+            found.append(f"{function} {text[match.start():at]}")
+        elif word in ("requires", "ensures"):
+            at = closing(text, at)
+            found.append(f"{function} {text[match.start():at]}")
+    return [" ".join(clause.split()) for clause in found]
+
+
+def is_of_tests(path):
+    return path.stem == "tests" or path.stem.endswith("_tests")
+
+
+def contract_of(crate):
+    """The lines of which a crate's contract is made: its definitions, clauses and ghost members, without
+    comments and layout."""
+    folder = TOP / "crates" / crate
+    for path in sorted(folder.glob("specs/**/*.antt")):
+        yield str(path.relative_to(folder))
+        for line in path.read_text().splitlines():
+            if line.strip() and not line.lstrip().startswith("--"):
+                yield " ".join(line.split())
+    for path in sorted(folder.glob("src/**/*.rt")):
+        if not is_of_tests(path):
+            yield from clauses_of(path.read_text())
+
+
+def sum_of(lines):
+    return hashlib.sha256("\n".join(lines).encode()).hexdigest()[:16]
+
+
+def sum_of_contract(crate):
+    return sum_of(contract_of(crate))
+
+
+def sum_of_bodies(bodies):
+    """The sum of what wrong bodies change, whoever tries them."""
+    return sum_of(repr((body.name, body.changes)) for body in sorted(bodies, key=lambda body: body.name))
+
+
+@dataclass(frozen=True)
+class Tried:
+    """What became of a crate's wrong bodies when they were last tried."""
+
+    contract: str
+    bodies: str
+    tried: int
+    refused: int
+    day: str
+
+
+def read_record():
+    """What was tried, by crate."""
+    found = {}
+    for line in RECORD.read_text().splitlines() if RECORD.is_file() else []:
+        if line and not line.startswith("#"):
+            crate, contract, bodies, tried, refused, day = line.split()
+            found[crate] = Tried(contract, bodies, int(tried), int(refused), day)
+    return found
+
+
+def write_record(record):
+    lines = [
+        f"{crate} {it.contract} {it.bodies} {it.tried} {it.refused} {it.day}\n"
+        for crate, it in sorted(record.items())
+    ]
+    RECORD.write_text(RECORD_HEAD + "".join(lines))
