@@ -44,4 +44,4 @@ status=0
 echo "what is answered, status $status:"
 "$program" frames < "$work/output"
 echo "the ledger:"
-python3 examples/read-ledger.py "$work/ledger"
+python3 operate/read-ledger.py "$work/ledger"

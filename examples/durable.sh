@@ -60,7 +60,7 @@ echo "    told; once there are fifty credits the pool is killed (kill -9)"
 start mine-alice 60 "$program" mine "$pool" alice.rig1 4 1000000
 alice=$pid
 last=$(($(date +%s) + 40))
-until [ "$(python3 examples/read-ledger.py "$work/ledger" | grep -c ': Credit ')" -ge 50 ]; do
+until [ "$(python3 operate/read-ledger.py "$work/ledger" | grep -c ': Credit ')" -ge 50 ]; do
     [ "$(date +%s)" -le "$last" ] || fail "there were no fifty credits within 40 seconds"
     sleep 0.1
 done
@@ -82,7 +82,7 @@ credits=$(counted credits audit-killed.out)
 echo "    alice was told of $told"
 [ "$told" -le "$credits" ] || fail "alice was told of $told credits, and the ledger has $credits"
 [ "$credits" -le $((told + 1)) ] || fail "the ledger has $credits credits, and alice was told of $told"
-python3 examples/read-ledger.py "$work/ledger" > "$work/events-killed"
+python3 operate/read-ledger.py "$work/ledger" > "$work/events-killed"
 
 echo
 echo "durable serve, with the same words: it goes on with that history. The sessions that were under way are over, and"
@@ -104,7 +104,7 @@ ended "$feeding"
 
 echo
 echo "the ledger: its events from before are all there, and then a Leave for each of the two sessions"
-python3 examples/read-ledger.py "$work/ledger" > "$work/events"
+python3 operate/read-ledger.py "$work/ledger" > "$work/events"
 count=$(($(wc -l < "$work/events-killed") - 1))
 head -n "$count" "$work/events-killed" > "$work/front-killed"
 head -n "$count" "$work/events" > "$work/front"

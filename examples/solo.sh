@@ -25,5 +25,5 @@ status=0
 echo "what is answered, status $status:"
 "$program" frames < "$work/output"
 echo "the ledger:"
-python3 examples/read-ledger.py "$work/ledger"
+python3 operate/read-ledger.py "$work/ledger"
 cmp "$work/ledger" examples/worked.ledger && echo "it is examples/worked.ledger, byte for byte"

@@ -58,7 +58,7 @@ const hex = (bytes) => Array.from(bytes, (byte) => byte.toString(16).padStart(2,
 const words = (number) => number.toLocaleString("en-US");
 const same = (one, other) => one.every((byte, i) => byte === other[i]);
 
-// The ledger's bytes, and where each event's record begins and ends.
+// The ledger's bytes, and where each event's record begins and ends. A page may have none.
 const ledger = Uint8Array.from(atob(document.getElementById("ledger").textContent), (c) => c.charCodeAt(0));
 const kinds = JSON.parse(document.getElementById("kinds").textContent);
 const chained = ledger[MAGIC - 1] === 0x32;
@@ -71,12 +71,72 @@ const endOf = (event) => (event + 1 < places.length ? places[event + 1] : ledger
 const recordOf = (event) => ledger.subarray(places[event], endOf(event) - (chained ? HASH : 0));
 const hashOf = (event) => (chained ? ledger.subarray(endOf(event) - HASH, endOf(event)) : new Uint8Array(0));
 
+// A body's fields, from front to back.
+class Body {
+  constructor(content) {
+    this.content = content;
+    this.view = new DataView(content.buffer, content.byteOffset, content.length);
+    this.at = 0;
+  }
+
+  take(length) {
+    this.at += length;
+    return this.content.subarray(this.at - length, this.at);
+  }
+
+  number(length) {
+    this.at += length;
+    const at = this.at - length;
+    if (length === 8) return this.view.getBigUint64(at, true);
+    if (length === 4) return this.view.getUint32(at, true);
+    return length === 2 ? this.view.getUint16(at, true) : this.view.getUint8(at);
+  }
+
+  list(count, read) {
+    return Array.from({ length: count }, () => read(this));
+  }
+}
+
+const textOf = (body) => JSON.stringify(new TextDecoder().decode(body.take(body.number(1))));
+const hexOf = (bytes) => hex(bytes) || "none";
+// How each form of a field is read and shown, as `read-ledger.py` does.
+const FORMS = {
+  u8: (body) => body.number(1),
+  u16: (body) => body.number(2),
+  u32: (body) => body.number(4),
+  u64: (body) => body.number(8),
+  digits: (body) => body.number(4).toString(16).padStart(8, "0"),
+  hash: (body) => hex(body.take(HASH)),
+  b0_255: (body) => hexOf(body.take(body.number(1))),
+  b0_32: (body) => hexOf(body.take(body.number(1))),
+  b0_64k: (body) => hexOf(body.take(body.number(2))),
+  text: textOf,
+  texts: (body) => body.list(body.number(2), textOf).join(" ") || "all",
+  path: (body) => body.list(body.number(1), (one) => hex(one.take(HASH))).join(" ") || "none",
+  choice: (body, choices) => choices[body.number(1)],
+};
+
+// The numbers that events get by their order.
+const numbers = {};
+const numbersOf = places.map((at) => kinds[ledger[at]].numbers.map(([what, first]) => {
+  numbers[what] = what in numbers ? numbers[what] + 1 : first;
+  return `, ${what} ${numbers[what]}`;
+}).join(""));
+
+function wordsOf(event) {
+  const record = recordOf(event);
+  const kind = kinds[record[0]];
+  const body = new Body(record.subarray(4));
+  const said = kind.fields.map(([name, form, choices]) => ` ${name} ${FORMS[form](body, choices)}`);
+  return kind.name + said.join("") + numbersOf[event];
+}
+
 // One sheet of a table at a time, so that a long one costs no more than a short one.
 class Sheets {
   constructor(box, count, cellsOf) {
     this.body = box.querySelector("tbody");
     this.turn = box.querySelector(".turn");
-    this.heads = Array.from(box.querySelectorAll("th"), (head) => head.textContent);
+    this.heads = Array.from(box.querySelectorAll("th"));
     this.count = count;
     this.cellsOf = cellsOf;
     this.show(0);
@@ -92,7 +152,10 @@ class Sheets {
       if (i === sought) line.className = "sought";
       this.cellsOf(i, line);
       // On a narrow page a row is no line, and each of its cells has its own head.
-      Array.from(line.cells).forEach((cell, at) => { cell.dataset.head = this.heads[at]; });
+      Array.from(line.cells).forEach((cell, at) => {
+        cell.dataset.head = this.heads[at].textContent;
+        if (this.heads[at].className) cell.classList.add(this.heads[at].className);
+      });
     }
     this.showTurn(last);
   }
@@ -114,22 +177,35 @@ class Sheets {
 // What the page's maker wrote is markup, in which names are escaped.
 function fill(box) {
   const rows = JSON.parse(box.querySelector("script").textContent);
-  return new Sheets(box, rows.length, (i, line) => {
-    for (const cell of rows[i]) line.insertCell().innerHTML = cell;
+  let shown = rows;
+  const sheets = new Sheets(box, rows.length, (i, line) => {
+    for (const cell of shown[i]) line.insertCell().innerHTML = cell;
   });
+  const pick = box.querySelector(".pick");
+  if (pick) {
+    const column = sheets.heads.findIndex((head) => head.textContent === "account");
+    const nameIn = (cell) => new DOMParser().parseFromString(cell, "text/html").body.textContent;
+    pick.oninput = () => {
+      shown = pick.value ? rows.filter((row) => nameIn(row[column]) === pick.value) : rows;
+      sheets.count = shown.length;
+      sheets.show(0);
+    };
+  }
 }
 
 let broken = -1;
 function fillEvents(box) {
   return new Sheets(box, places.length, (event, line) => {
-    const cells = [event, places[event], kinds[ledger[places[event]]], hex(recordOf(event)), hex(hashOf(event))];
+    const cells = [event, places[event], wordsOf(event), hex(recordOf(event)), hex(hashOf(event))];
     for (const cell of cells) line.insertCell().textContent = cell;
     if (event === broken) line.cells[4].className = "bad";
   });
 }
 
 document.querySelectorAll(".sheets script").forEach((rows) => fill(rows.parentElement));
-const events = fillEvents(document.getElementById("events"));
+const status = document.getElementById("chain");
+const asking = document.getElementById("seek");
+let events = null;
 
 function seek() {
   const found = /^#event-(\d+)$/.exec(location.hash);
@@ -138,17 +214,8 @@ function seek() {
   events.show(event, event);
   events.body.querySelector(".sought").scrollIntoView({ block: "center" });
 }
-addEventListener("hashchange", seek);
-const asking = document.getElementById("seek");
-asking.number.max = places.length - 1;
-asking.onsubmit = (asked) => {
-  asked.preventDefault();
-  location.hash = `event-${Number(asking.number.value)}`;
-  seek();
-};
 
 // The chain of hashes, some thousand records at a time, so that the page can be read meanwhile.
-const status = document.getElementById("chain");
 let chain = sha256(ledger.subarray(0, MAGIC));
 function check(from) {
   const to = Math.min(places.length, from + 4000);
@@ -166,8 +233,27 @@ function check(from) {
     return setTimeout(check, 0, to);
   }
   status.className = "holds";
-  status.textContent = `The chain of hashes holds: this page's script computed each of them from the records below, ${words(places.length)} in all.`;
+  status.textContent = `The chain of hashes holds: this page's script computed each of them from the records below, ${words(places.length)} in all, up to the head.`;
 }
-if (chained) check(0);
-else status.textContent = "This ledger is of format 1, which has no hashes.";
-seek();
+
+function showEvents() {
+  document.getElementById("no-events").remove();
+  events = fillEvents(document.getElementById("events"));
+  addEventListener("hashchange", seek);
+  asking.number.max = places.length - 1;
+  asking.onsubmit = (asked) => {
+    asked.preventDefault();
+    location.hash = `event-${Number(asking.number.value)}`;
+    seek();
+  };
+  if (chained) check(0);
+  else status.remove();
+  seek();
+}
+
+if (ledger.length > 0) {
+  showEvents();
+} else {
+  document.querySelectorAll(".with-events").forEach((part) => part.remove());
+  status.textContent = "The events aren't on this page, so its script can't compute their hashes: report.py did.";
+}
