@@ -162,6 +162,8 @@ class LedgerFile:
         self.path = path
         self.row = Row()
         self.durable = False
+        # Whether each entry of a durable ledger is one event, as a pool writes it.
+        self.regular = True
         # The place in the file up to which it was read, and the bytes there that were read last.
         self._place = 0
         self._last = b""
@@ -223,7 +225,10 @@ class LedgerFile:
         begin = self._place
         for at, end in entries_in(piece, 0):
             self._read_up_to(begin + end, piece[at - 5:end])
+            count = self.row.count
             yield from self.row.feed(piece[at:end])
+            if self.row.rest or self.row.count != count + 1:
+                self.regular = False
 
 
 def entries_in(content: bytes, at: int = MAGIC_LENGTH) -> Iterator[tuple[int, int]]:
