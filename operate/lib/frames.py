@@ -41,6 +41,34 @@ def setup(protocol: int) -> bytes:
     return frame(SETUP, bytes([protocol]) + versions + bytes(4) + bytes(1) + bytes(2) + bytes(4))
 
 
+def constraints(size: int, sigops: int) -> bytes:
+    """CoinbaseOutputConstraints: what a pool's outputs take in a coinbase."""
+    return frame(CONSTRAINTS, little(size, 4) + little(sigops, 2))
+
+
+@dataclass(slots=True)
+class Solution:
+    """SubmitSolution: a template's block that was found."""
+
+    template_id: int
+    version: int
+    ntime: int
+    nonce: int
+    coinbase: bytes
+
+    def frame(self) -> bytes:
+        numbers = (little(number, 4) for number in (self.version, self.ntime, self.nonce))
+        size = little(len(self.coinbase), 2)
+        return frame(SUBMIT_SOLUTION, little(self.template_id, 8) + b"".join(numbers) + size + self.coinbase)
+
+    @classmethod
+    def read(cls, payload: bytes) -> "Solution":
+        if len(payload) < 22 or len(payload) != 22 + int.from_bytes(payload[20:22], "little"):
+            raise BadFrame("a SubmitSolution of it is no message")
+        numbers = (int.from_bytes(payload[at:at + 4], "little") for at in (8, 12, 16))
+        return cls(int.from_bytes(payload[:8], "little"), *numbers, payload[22:])
+
+
 class Frames:
     """A connection whose bytes are frames."""
 
