@@ -11,11 +11,14 @@ count=${3:-65536}
 work=$(mktemp -d)
 trap 'rm -rf "$work"' EXIT
 
-echo "building"
-(cd crates/bench && rt run -- book 1 1 < /dev/null > "$work/build" 2>&1) || { cat "$work/build"; exit 1; }
+bench=$(bench/build)
+echo "proving and building the benchmarks of hashes and frames"
+(cd crates/bench && rt run -- shares 0 1 < /dev/null > "$work/build" 2>&1) || { cat "$work/build"; exit 1; }
 
-python3 - "$few" "$many" "$count" <<'PY'
+python3 - "$bench" "$few" "$many" "$count" <<'PY'
 import subprocess, sys, time
+
+bench = sys.argv[1]
 
 def memory_of(program):
     """The memory of a running program that is in use, in bytes."""
@@ -25,7 +28,7 @@ def memory_of(program):
 def credits(held, count):
     """How long so many credits took beside the held ones, and the memory in bytes before them."""
     program = subprocess.Popen(
-        ["crates/bench/out/bench", "book", str(held), str(count)], stdout=subprocess.PIPE)
+        [bench, "book", str(held), str(count)], stdout=subprocess.PIPE)
     assert program.stdout.readline() == b"credits %d\n" % held
     memory = memory_of(program)
     start = time.monotonic()
@@ -40,7 +43,7 @@ def hashes(count):
     subprocess.run(["crates/bench/out/bench", "shares", "0", str(count)], stdout=subprocess.DEVNULL, check=True)
     return time.monotonic() - start
 
-few, many, count = map(int, sys.argv[1:])
+few, many, count = map(int, sys.argv[2:])
 # Each is timed five times, in turns, and the least time counts.
 rounds = [(credits(few, count), credits(many, count), hashes(count)) for _ in range(5)]
 at_few, at_many = (min(times[which][0] for times in rounds) for which in (0, 1))

@@ -6,14 +6,13 @@ set -eu
 cd "$(dirname "$0")/.."
 few=${1:-1000}
 many=${2:-100000}
-work=$(mktemp -d)
-trap 'rm -rf "$work"' EXIT
 
-echo "building"
-(cd crates/bench && rt run -- channels 1 1 < /dev/null > "$work/build" 2>&1) || { cat "$work/build"; exit 1; }
+bench=$(bench/build)
 
-python3 - "$few" "$many" <<'PY'
+python3 - "$bench" "$few" "$many" <<'PY'
 import subprocess, sys, time
+
+bench = sys.argv[1]
 
 def memory_of(program):
     """The memory of a running program that is in use, in bytes."""
@@ -23,7 +22,7 @@ def memory_of(program):
 def run(held, count):
     """How long so many openings took beside the held ones, and the memory in bytes before them."""
     program = subprocess.Popen(
-        ["crates/bench/out/bench", "channels", str(held), str(count)], stdout=subprocess.PIPE)
+        [bench, "channels", str(held), str(count)], stdout=subprocess.PIPE)
     assert program.stdout.readline() == b"open %d\n" % held
     memory = memory_of(program)
     start = time.monotonic()
@@ -32,7 +31,7 @@ def run(held, count):
     assert program.wait() == 0
     return end - start, memory
 
-few, many = int(sys.argv[1]), int(sys.argv[2])
+few, many = int(sys.argv[2]), int(sys.argv[3])
 times, memories = [], []
 for held, count in [(few, 200_000), (many, 2_000)]:
     spent, memory = run(held, count)

@@ -6,19 +6,18 @@ set -eu
 cd "$(dirname "$0")/.."
 open=${1:-100000}
 count=${2:-50000}
-work=$(mktemp -d)
-trap 'rm -rf "$work"' EXIT
 
-echo "building"
-(cd crates/bench && rt run -- close-first 1 1 < /dev/null > "$work/build" 2>&1) || { cat "$work/build"; exit 1; }
+bench=$(bench/build)
 
-python3 - "$open" "$count" <<'PY'
+python3 - "$bench" "$open" "$count" <<'PY'
 import subprocess, sys, time
+
+bench = sys.argv[1]
 
 def run(word, held, count):
     """How long so many closings took."""
     program = subprocess.Popen(
-        ["crates/bench/out/bench", word, str(held), str(count)], stdout=subprocess.PIPE)
+        [bench, word, str(held), str(count)], stdout=subprocess.PIPE)
     assert program.stdout.readline() == b"open %d\n" % held
     start = time.monotonic()
     assert program.stdout.readline().startswith(b"last ")
@@ -26,7 +25,7 @@ def run(word, held, count):
     assert program.wait() == 0
     return end - start
 
-held, count = int(sys.argv[1]), int(sys.argv[2])
+held, count = int(sys.argv[2]), int(sys.argv[3])
 best = {}
 for _ in range(5):
     for word in ("close-first", "close-last"):

@@ -9,7 +9,7 @@ work=$(mktemp -d)
 trap 'rm -rf "$work"' EXIT
 
 sh examples/build.sh
-echo "building bench"
+echo "proving and building the benchmarks of hashes and frames"
 (cd crates/bench && rt run -- bytes 1 1 < /dev/null > "$work/build" 2>&1) || { cat "$work/build"; exit 1; }
 
 python3 - "$count" "$work" <<'PY'

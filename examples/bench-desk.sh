@@ -8,15 +8,13 @@ set -eu
 cd "$(dirname "$0")/.."
 of_counter=${1:-4000000}
 of_book=${2:-400000}
-work=$(mktemp -d)
-trap 'rm -rf "$work"' EXIT
 
-echo "building"
-(cd crates/bench && rt run -- desk 2 1000 < /dev/null > "$work/build" 2>&1) || { cat "$work/build"; exit 1; }
+bench=$(bench/build)
 
-python3 - "$of_counter" "$of_book" <<'PY'
+python3 - "$bench" "$of_counter" "$of_book" <<'PY'
 import subprocess, sys, time
-of_counter, of_book = map(int, sys.argv[1:])
+bench = sys.argv[1]
+of_counter, of_book = map(int, sys.argv[2:])
 names = {"desk": "counter at a desk", "lock": "counter under a lock",
          "book-desk": "book at a desk", "book-lock": "book under a lock"}
 
@@ -29,7 +27,7 @@ def seconds(word, threads):
     each = calls(word) // threads
     start = time.monotonic()
     program = subprocess.Popen(
-        ["crates/bench/out/bench", word, str(threads), str(each)], stdout=subprocess.PIPE)
+        [bench, word, str(threads), str(each)], stdout=subprocess.PIPE)
     want = b"calls %d\n" % (threads * each)
     if word.startswith("book"):
         assert program.stdout.readline() == b"sessions %d\n" % threads

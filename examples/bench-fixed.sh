@@ -8,7 +8,7 @@ job=00000000000000000000000000000000000000000000000000000000000000003ba3edfd7a7b
 work=$(mktemp -d)
 trap 'rm -rf "$work"' EXIT
 
-echo "building"
+echo "proving and building the program, and the benchmarks of hashes and frames"
 (cd crates/pool_cli && rt run -- solo fixed 0 "$job" < /dev/null > "$work/build" 2>&1) || { cat "$work/build"; exit 1; }
 (cd crates/bench && rt run -- hash 1 < /dev/null > "$work/build" 2>&1) || { cat "$work/build"; exit 1; }
 

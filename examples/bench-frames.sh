@@ -7,7 +7,7 @@ cd "$(dirname "$0")/.."
 work=$(mktemp -d)
 trap 'rm -rf "$work"' EXIT
 
-echo "building"
+echo "proving and building the benchmarks of hashes and frames"
 (cd crates/bench && rt run -- frames < /dev/null > "$work/build" 2>&1) || { cat "$work/build"; exit 1; }
 
 python3 examples/stream-of-frames.py 00801a "" 24 8000000 "$work/24"

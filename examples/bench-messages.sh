@@ -7,7 +7,7 @@ cd "$(dirname "$0")/.."
 work=$(mktemp -d)
 trap 'rm -rf "$work"' EXIT
 
-echo "building"
+echo "proving and building the benchmarks of hashes and frames"
 (cd crates/bench && rt run -- messages < /dev/null > "$work/build" 2>&1) || { cat "$work/build"; exit 1; }
 
 share=0100000009000000010000000000000040420f0000000020

@@ -9,7 +9,7 @@ count=${2:-10}
 work=$(mktemp -d)
 trap 'rm -rf "$work"' EXIT
 
-echo "building"
+echo "proving and building the benchmarks of hashes and frames"
 (cd crates/bench && rt run -- path 1 1 < /dev/null > "$work/build" 2>&1) || { cat "$work/build"; exit 1; }
 
 python3 - "$ids" "$count" <<'PY'

@@ -6,19 +6,16 @@
 set -eu
 cd "$(dirname "$0")/.."
 count=${1:-4000000}
-work=$(mktemp -d)
-trap 'rm -rf "$work"' EXIT
 
-echo "building"
-(cd crates/bench && rt run -- payouts 7 2500 < /dev/null > "$work/build" 2>&1) || { cat "$work/build"; exit 1; }
+bench=$(bench/build)
 
-python3 - "$count" <<'PY'
+python3 - "$bench" "$count" <<'PY'
 import resource, subprocess, sys
-count = int(sys.argv[1])
+bench, count = sys.argv[1], int(sys.argv[2])
 
 def seconds(window):
     start = resource.getrusage(resource.RUSAGE_CHILDREN).ru_utime
-    subprocess.run(["crates/bench/out/bench", "payouts", str(window), str(count)],
+    subprocess.run([bench, "payouts", str(window), str(count)],
                    stdout=subprocess.DEVNULL, check=True)
     return resource.getrusage(resource.RUSAGE_CHILDREN).ru_utime - start
 

@@ -5,19 +5,18 @@ set -eu
 cd "$(dirname "$0")/.."
 held=${1:-100000}
 count=${2:-1000000}
-work=$(mktemp -d)
-trap 'rm -rf "$work"' EXIT
 
-echo "building"
-(cd crates/bench && rt run -- polls 1 1 < /dev/null > "$work/build" 2>&1) || { cat "$work/build"; exit 1; }
+bench=$(bench/build)
 
-python3 - "$held" "$count" <<'PY'
+python3 - "$bench" "$held" "$count" <<'PY'
 import subprocess, sys, time
+
+bench = sys.argv[1]
 
 def polls(held, count):
     """How long so many polls took beside the held credits."""
     program = subprocess.Popen(
-        ["crates/bench/out/bench", "polls", str(held), str(count)], stdout=subprocess.PIPE)
+        [bench, "polls", str(held), str(count)], stdout=subprocess.PIPE)
     assert program.stdout.readline() == b"credits %d\n" % held
     start = time.monotonic()
     assert program.stdout.readline() == b"told 0\n"
@@ -25,7 +24,7 @@ def polls(held, count):
     assert program.wait() == 0
     return end - start
 
-held, count = map(int, sys.argv[1:])
+held, count = map(int, sys.argv[2:])
 # Each is timed five times, in turns, and the least time counts.
 rounds = [(polls(0, count), polls(held, count)) for _ in range(5)]
 none, many = (min(times[which] for times in rounds) for which in (0, 1))

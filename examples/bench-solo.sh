@@ -10,7 +10,7 @@ work=$(mktemp -d)
 trap 'rm -rf "$work"' EXIT
 
 sh examples/build.sh
-echo "building the benchmarks"
+echo "proving and building the benchmarks of hashes and frames"
 (cd crates/bench && rt run -- shares 0 1 < /dev/null > "$work/build" 2>&1) || { cat "$work/build"; exit 1; }
 
 python3 - "$count" "$work" <<'PY'

@@ -2,5 +2,4 @@ pub mod Counting
 pub mod Fours
 pub mod Headers
 pub mod Numbered
-pub mod Pushes
 pub mod Shares

@@ -12,9 +12,6 @@ use sha2::{Digest, Sha256};
 use sha256_lanes as lanes;
 use std::alloc::Global;
 
-/// The words for what is hashed, and how often.
-pub const FORMS: [&str; 3] = ["digest-64", "double-64", "double-80"];
-
 /// What is hashed, and how often.
 #[derive(Clone, Copy)]
 pub enum Form {
