@@ -113,3 +113,13 @@ def height_in(script: bytes) -> int | None:
 def with_witness(coinbase: bytes) -> bytes:
     """A coinbase in the form that stands in a block: marker and flag, and its witness."""
     return coinbase[:4] + b"\x00\x01" + coinbase[4:-4] + COINBASE_WITNESS + coinbase[-4:]
+
+
+def without_witness(coinbase: bytes) -> bytes:
+    """A coinbase of this form in that of which the id is the hash."""
+    if coinbase[4:6] != b"\x00\x01":
+        return coinbase
+    begin = len(coinbase) - 4 - len(COINBASE_WITNESS)
+    if begin < 6 or coinbase[begin:-4] != COINBASE_WITNESS:
+        raise ValueError("its witness isn't one item of 32 zero bytes")
+    return coinbase[:4] + coinbase[6:begin] + coinbase[-4:]

@@ -69,6 +69,14 @@ class Solution:
         return cls(int.from_bytes(payload[:8], "little"), *numbers, payload[22:])
 
 
+def head_in(head: bytes) -> tuple[int, int, bool]:
+    """What the six bytes before a payload say: its kind, its length, and whether it is of an extension."""
+    length = int.from_bytes(head[3:HEAD_LENGTH], "little")
+    if length > PAYLOAD_LIMIT:
+        raise BadFrame(f"it says a frame of {length:,} bytes")
+    return head[2], length, bool(int.from_bytes(head[:2], "little") & 0x7FFF)
+
+
 class Frames:
     """A connection whose bytes are frames."""
 
@@ -84,14 +92,12 @@ class Frames:
         behind which it can be asked again."""
         if not self._fill(HEAD_LENGTH):
             return None
-        length = int.from_bytes(self._held[3:HEAD_LENGTH], "little")
-        if length > PAYLOAD_LIMIT:
-            raise BadFrame(f"it says a frame of {length:,} bytes")
+        kind, length, extension = head_in(self._held[:HEAD_LENGTH])
         if not self._fill(HEAD_LENGTH + length):
             raise BadFrame("it ended within a frame")
-        head, payload = self._held[:HEAD_LENGTH], self._held[HEAD_LENGTH:HEAD_LENGTH + length]
+        payload = self._held[HEAD_LENGTH:HEAD_LENGTH + length]
         self._held = self._held[HEAD_LENGTH + length:]
-        return Frame(head[2], payload, bool(int.from_bytes(head[:2], "little") & 0x7FFF))
+        return Frame(kind, payload, extension)
 
     def _fill(self, count: int) -> bool:
         """Reads until so many bytes are held; whether they came."""

@@ -24,6 +24,17 @@ class WithFolder(unittest.TestCase):
         self.addCleanup(folder.cleanup)
         self.folder = folder.name
 
+    def begin(self, *words: str) -> subprocess.Popen[str]:
+        """Begins a script of this folder, which is ended with the test."""
+        program = subprocess.Popen(
+            [sys.executable, os.path.join(OPERATE, words[0]), *words[1:]], stdout=subprocess.PIPE,
+            stderr=subprocess.STDOUT, text=True,
+        )
+        self.addCleanup(program.stdout.close)
+        self.addCleanup(program.wait)
+        self.addCleanup(program.terminate)
+        return program
+
     def file(self, name: str, content: bytes | str = b"") -> str:
         path = os.path.join(self.folder, name)
         with open(path, "wb") as file:

@@ -26,19 +26,10 @@ class Kept(WithFolder):
         settings = self.file("settings.json", SETTINGS % more)
         program = self.file("program", f'#!/bin/sh\nexec {sys.executable} {FAKE} {self.plan} "$@"\n')
         os.chmod(program, 0o755)
-        self.kept = subprocess.Popen(
-            [sys.executable, os.path.join(OPERATE, "keep.py"), "--wait", "0.1", *options, "--", program,
-             "durable", "serve", settings, self.ledger],
-            stdout=subprocess.PIPE, stderr=subprocess.STDOUT, text=True,
+        self.kept = self.begin(
+            "keep.py", "--wait", "0.1", *options, "--", program, "durable", "serve", settings, self.ledger,
         )
-        self.addCleanup(self.stop)
         return self.kept
-
-    def stop(self) -> None:
-        if self.kept.poll() is None:
-            self.kept.terminate()
-            self.kept.wait(20)
-        self.kept.stdout.close()
 
     def said(self) -> list[str]:
         """What was said up to the end, without the times."""

@@ -3,14 +3,13 @@ import json
 import os
 import socket
 import subprocess
-import sys
 import threading
 import unittest
 
 from lib.pace import Pace
 from lib.relaying import Relay
 from lib.stratum_v1 import Job
-from tests.support import OPERATE, WithFolder, coinbase_of, double_hash, tool
+from tests.support import WithFolder, coinbase_of, double_hash, tool
 from tests.writing import NBITS, PREVIOUS, TIME, VERSION, number
 
 # The Stratum V1 session of docs/POOL.md: P and Q in hex, and the lines that are said and told.
@@ -194,13 +193,7 @@ class Paces(unittest.TestCase):
 class Program(WithFolder):
     def relay(self, pool: str, *options: str) -> tuple[socket.socket, subprocess.Popen]:
         """A relay before a pool, and a miner at it."""
-        program = subprocess.Popen(
-            [sys.executable, os.path.join(OPERATE, "vardiff.py"), "127.0.0.1:0", pool, *options],
-            stdout=subprocess.PIPE, text=True,
-        )
-        self.addCleanup(program.stdout.close)
-        self.addCleanup(program.wait)
-        self.addCleanup(program.terminate)
+        program = self.begin("vardiff.py", "127.0.0.1:0", pool, *options)
         port = int(program.stdout.readline().split(":")[3].split(",")[0])
         miner = socket.create_connection(("127.0.0.1", port), timeout=20)
         self.addCleanup(miner.close)

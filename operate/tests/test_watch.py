@@ -4,7 +4,6 @@ import os
 import re
 import shutil
 import subprocess
-import sys
 import unittest
 import urllib.error
 import urllib.request
@@ -12,7 +11,7 @@ import urllib.request
 from lib.watching import Watch
 from lib.words import duration_words, rate_words
 from tests import writing
-from tests.support import OPERATE, WORKED, WithFolder, begun, tool
+from tests.support import WORKED, WithFolder, begun, tool
 from tests.writing import MINER, V1
 
 CHROMIUM = shutil.which("chromium")
@@ -183,13 +182,7 @@ class Program(WithFolder):
 
     def serve(self, ledger: str) -> str:
         """Begins a page, and answers where it is."""
-        program = subprocess.Popen(
-            [sys.executable, os.path.join(OPERATE, "watch.py"), ledger, "--serve", "0"],
-            stdout=subprocess.PIPE, text=True,
-        )
-        self.addCleanup(program.stdout.close)
-        self.addCleanup(program.wait)
-        self.addCleanup(program.terminate)
+        program = self.begin("watch.py", ledger, "--serve", "0")
         return re.search(r"http://127\.0\.0\.1:\d+/", program.stdout.readline())[0]
 
     def test_the_page_and_its_json(self) -> None:
