@@ -1,14 +1,14 @@
 #!/bin/sh
-# Builds the program, and audits three ledgers with it: the worked session's, the same with one bit of its share
-# changed, and the same again with all hashes computed again behind that, as somebody would who tampers with it. Then it
-# keeps the worked session's ledger of format 1 again, in format 2.
+# Audits three ledgers: the worked session's, the same with one bit of its share changed, and the same again with all
+# hashes computed again behind that, as somebody would who tampers with it. Then it keeps the worked session's ledger
+# of format 1 again, in format 2.
+#
+# It takes the program that `sh examples/build.sh` has built, where there is one, and else the program as it is written
+# (`examples/trial.sh`).
 set -eu
 cd "$(dirname "$0")/.."
 
-sh examples/build.sh
-program=$PWD/crates/pool_cli/out/pool_cli
-work=$(mktemp -d)
-trap 'rm -rf "$work"' EXIT
+. examples/trial.sh
 
 python3 - "$work" <<'PY'
 import hashlib, sys

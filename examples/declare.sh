@@ -1,14 +1,14 @@
 #!/bin/sh
-# Builds the program, and serves a miner that declares the transactions of its own block: a declaration, the
-# transaction that it lacks, the token, and the job that spends it. Lists what came, what was answered, and the
-# ledger, in which the token's Grant has the path of what was declared.
+# Serves a miner that declares the transactions of its own block: a declaration, the transaction that it lacks, the
+# token, and the job that spends it. Lists what came, what was answered, and the ledger, in which the token's Grant
+# has the path of what was declared.
+#
+# It takes the program that `sh examples/build.sh` has built, where there is one, and else the program as it is written
+# (`examples/trial.sh`).
 set -eu
 cd "$(dirname "$0")/.."
 
-sh examples/build.sh
-program=$PWD/crates/pool_cli/out/pool_cli
-work=$(mktemp -d)
-trap 'rm -rf "$work"' EXIT
+. examples/trial.sh
 
 bytes() { tr -d ' \n' | sed 's/../\\x&/g' | xargs -0 printf '%b'; }
 

@@ -3,8 +3,8 @@
 # then one with the next nonce. The hash of that block begins with exactly 43 zero bits, so that the first
 # is credited, the second is a duplicate, and the third is too weak.
 #
-# `rt try` runs the program as it is written, before anything of it was proved: no machine has to wait for
-# proofs here. `sh examples/build.sh` proves and builds it, and `rt ci` proves everything.
+# It takes the program that was built, or the program as it is written, before anything of it was proved: no
+# machine has to wait for proofs here. `sh examples/build.sh` proves and builds it, and `rt ci` proves everything.
 set -eu
 cd "$(dirname "$0")/.."
 
@@ -16,14 +16,11 @@ first=00801a1800000100000000000000010000001dac2b7c29ab5f4901000000
 again=00801a1800000100000001000000010000001dac2b7c29ab5f4901000000
 other=00801a1800000100000002000000010000001eac2b7c29ab5f4901000000
 
-work=$(mktemp -d)
-trap 'rm -rf "$work"' EXIT
+. examples/trial.sh
 bytes() { printf '%s' "$1" | sed 's/../\\x&/g' | xargs -0 printf '%b'; }
 
-echo "running the program as it is written (under a minute; nothing is proved by this)"
 bytes "$first$again$other" > "$work/shares"
-(cd crates/pool_cli && rt try -- solo fixed 43 "$job" < "$work/shares" > "$work/answers" 2> "$work/log") \
-    || { cat "$work/log"; exit 1; }
+"$program" solo fixed 43 "$job" < "$work/shares" > "$work/answers" || fail "the program ended with status $?"
 answers=$(od -An -v -tx1 "$work/answers" | tr -d ' \n')
 
 # An answer is 6 bytes of header, of which the fourth says how many follow.

@@ -1,11 +1,13 @@
 #!/bin/sh
-# Builds the program, and lists the frames of a captured session, one line each; then the same with the last
-# frame cut off, and with a payload that is no message of its kind.
+# Lists the frames of a captured session, one line each; then the same with the last frame cut off, and with a
+# payload that is no message of its kind.
+#
+# It takes the program that `sh examples/build.sh` has built, where there is one, and else the program as it is written
+# (`examples/trial.sh`).
 set -eu
 cd "$(dirname "$0")/.."
 
-sh examples/build.sh
-program=crates/pool_cli/out/pool_cli
+. examples/trial.sh
 
 bytes() { tr -d ' \n' | sed 's/../\\x&/g' | xargs -0 printf '%b'; }
 captured() { grep -v '^#' examples/session.hex; }

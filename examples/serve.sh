@@ -1,14 +1,14 @@
 #!/bin/sh
-# Builds the program, and serves a template provider and two miners with it, over loopback sockets and all at once: both
-# miners open a channel, both are told of the template and its tip, and the share of the first finds a block.
-# Lists what each of the three was told, what the program printed, and what an audit says of the ledger that it kept.
+# Serves a template provider and two miners, over loopback sockets and all at once: both miners open a channel, both
+# are told of the template and its tip, and the share of the first finds a block. Lists what each of the three was
+# told, what the program printed, and what an audit says of the ledger that it kept.
+#
+# It takes the program that `sh examples/build.sh` has built, where there is one, and else the program as it is written
+# (`examples/trial.sh`).
 set -eu
 cd "$(dirname "$0")/.."
 
-sh examples/build.sh
-program=$PWD/crates/pool_cli/out/pool_cli
-work=$(mktemp -d)
-trap 'rm -rf "$work"' EXIT
+. examples/trial.sh
 
 status=0
 python3 examples/peers.py "$program" "$work" || status=$?

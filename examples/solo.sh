@@ -1,13 +1,13 @@
 #!/bin/sh
-# Builds the program, and serves the worked session with it: a template provider and a miner on one connection.
-# Lists what they sent, what the pool answered, and the ledger that it kept, which has to be examples/worked.ledger.
+# Serves the worked session: a template provider and a miner on one connection. Lists what they sent, what the pool
+# answered, and the ledger that it kept, which has to be examples/worked.ledger.
+#
+# It takes the program that `sh examples/build.sh` has built, where there is one, and else the program as it is written
+# (`examples/trial.sh`).
 set -eu
 cd "$(dirname "$0")/.."
 
-sh examples/build.sh
-program=$PWD/crates/pool_cli/out/pool_cli
-work=$(mktemp -d)
-trap 'rm -rf "$work"' EXIT
+. examples/trial.sh
 
 bytes() { tr -d ' \n' | sed 's/../\\x&/g' | xargs -0 printf '%b'; }
 
