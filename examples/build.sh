@@ -1,7 +1,7 @@
 #!/bin/sh
 # Proves and builds the program, and says where it lies. From nothing it proves every crate that the program
-# stands on: some two hours on four processors, with 4 GB of memory and 3 GB of disk; longer where others are
-# at work. What was proved is kept, so after a change it proves what the change reaches.
+# stands on: some two hours on four processors, with some GB of memory and four GB of disk; longer where
+# others are at work. What was proved is kept, so after a change it proves what the change reaches.
 #
 # No proof is needed to look at something: the other examples take the program as it is written, which some
 # minutes compile.

@@ -18,7 +18,6 @@ Nothing of it is proved.
 
 Status 0: it was ended. 2: the words are wrong. 2, 9, 11: the program ended so.
 """
-import argparse
 import signal
 import subprocess
 import sys

@@ -8,7 +8,7 @@ hashes again from the records that it shows. It needs Python 3 alone, and nothin
 program: what it knows of a ledger, of blocks and of rewards is what docs/POOL.md says. Both formats
 are read, and durable ledgers.
 
-A page has each event, of which a credit takes some 120 bytes: 100,000 of them make 12 MB. Beyond
+A page has each event, of which a credit takes some 93 bytes: 100,000 of them make 9 MB. Beyond
 50,000 events they are left out, as with --no-events; --events has them all the same. The head, which
 is the hash over all of the ledger, is there in any case. Of sessions, channels and the parts of blocks
 the last 20,000 lines are shown; `payouts.py` lists all parts of all blocks.

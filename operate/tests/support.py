@@ -4,6 +4,7 @@ import os
 import subprocess
 import sys
 import tempfile
+import threading
 import unittest
 from collections.abc import Iterator
 
@@ -25,15 +26,25 @@ class WithFolder(unittest.TestCase):
         self.folder = folder.name
 
     def begin(self, *words: str) -> subprocess.Popen[str]:
-        """Begins a script of this folder, which is ended with the test."""
+        """Begins a script of this folder, which is ended with the test, or after half a minute."""
         program = subprocess.Popen(
             [sys.executable, os.path.join(OPERATE, words[0]), *words[1:]], stdout=subprocess.PIPE,
             stderr=subprocess.STDOUT, text=True,
         )
+        limit = threading.Timer(30.0, program.kill)
+        limit.start()
         self.addCleanup(program.stdout.close)
+        self.addCleanup(limit.cancel)
         self.addCleanup(program.wait)
         self.addCleanup(program.terminate)
         return program
+
+    def line_of(self, program: subprocess.Popen[str], words: str) -> str:
+        """The next line that a script says with these words in it."""
+        for line in program.stdout:
+            if words in line:
+                return line
+        raise AssertionError(f"nothing was said of {words!r}")
 
     def file(self, name: str, content: bytes | str = b"") -> str:
         path = os.path.join(self.folder, name)

@@ -5,7 +5,7 @@ from lib.history import History
 from lib.ledger import Defect, LedgerFile
 from tests import writing
 from tests.support import (
-    WORKED, WithFolder, begun, coinbase_of, double_hash, header_of, nonces, number,
+    WORKED, WithFolder, begun, coinbase_of, double_hash, header_of, nonces,
 )
 
 # A target that one hash of 256 meets.

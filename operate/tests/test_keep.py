@@ -15,7 +15,7 @@ from tests.support import OPERATE, WithFolder, begun, tool
 from tests.writing import FEED, MINER
 
 FAKE = os.path.join(OPERATE, "tests", "fake_pool.py")
-SETTINGS = '{"pool_script":"51","least_class":0,"fee":0,"rule":"proportional"%s}'
+SETTINGS = '{"pool_script":"51","least_class":0,"fee":0,"rule":"proportional","address":"127.0.0.1:0"%s}'
 
 
 class Kept(WithFolder):

@@ -256,9 +256,7 @@ class Program(WithNode):
         super().setUp()
         program = self.begin("node.py", self.rpc, "127.0.0.1:0", "--cookie", self.cookie, "--blocks",
                              self.folder)
-        line = ""
-        while "pools are served at" not in line:
-            line = program.stdout.readline()
+        line = self.line_of(program, "pools are served at")
         self.address = ("127.0.0.1", int(line.rsplit(":", 1)[1]))
 
     def dial(self, setup: bytes = SETUP + CONSTRAINTS) -> Frames:

@@ -194,7 +194,7 @@ class Program(WithFolder):
     def relay(self, pool: str, *options: str) -> tuple[socket.socket, subprocess.Popen]:
         """A relay before a pool, and a miner at it."""
         program = self.begin("vardiff.py", "127.0.0.1:0", pool, *options)
-        port = int(program.stdout.readline().split(":")[3].split(",")[0])
+        port = int(self.line_of(program, "miners come to").split(":")[3].split(",")[0])
         miner = socket.create_connection(("127.0.0.1", port), timeout=20)
         self.addCleanup(miner.close)
         return miner, program
@@ -259,7 +259,7 @@ class Program(WithFolder):
             address = f"127.0.0.1:{listener.getsockname()[1]}"
         miner, program = self.relay(address)
         self.assertEqual(miner.recv(1), b"")
-        self.assertIn("is sent away: the pool isn't reached", program.stdout.readline())
+        self.line_of(program, "is sent away: the pool isn't reached")
 
     def test_statuses(self) -> None:
         with socket.create_server(("127.0.0.1", 0)) as taken:

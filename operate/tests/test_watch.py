@@ -183,7 +183,7 @@ class Program(WithFolder):
     def serve(self, ledger: str) -> str:
         """Begins a page, and answers where it is."""
         program = self.begin("watch.py", ledger, "--serve", "0")
-        return re.search(r"http://127\.0\.0\.1:\d+/", program.stdout.readline())[0]
+        return re.search(r"http://127\.0\.0\.1:\d+/", self.line_of(program, "the page is at"))[0]
 
     def test_the_page_and_its_json(self) -> None:
         url = self.serve(WORKED)
