@@ -51,14 +51,15 @@ def age_words(seen: dict) -> str:
 
 def provider_words(now: dict) -> str:
     provider = now["provider"]
-    if now["pool_runs"] is False:
-        return "THE POOL DOESN'T RUN"
+    # A pool that was killed has left nobody's leaving in its ledger.
+    stopped = "THE POOL DOESN'T RUN" if now["pool_runs"] is False else ""
     if provider["here"]:
-        return "provider here"
-    if provider["since"] is None:
-        return "provider NOT HERE YET"
-    by = "since" if provider["exact"] else "since before"
-    return f"provider GONE {by} {time_words(provider['since'])}"
+        return stopped or "provider here"
+    words = "provider NOT HERE YET"
+    if provider["since"] is not None:
+        by = "since" if provider["exact"] else "since before"
+        words = f"provider GONE {by} {time_words(provider['since'])}"
+    return f"{stopped}, {words}" if stopped else words
 
 
 def credits_words(now: dict) -> str:

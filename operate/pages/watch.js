@@ -35,7 +35,10 @@ function showProvider(now) {
   const bad = now.pool_runs === false || !here;
   let said = here ? `The provider is here${when}.` : `The provider is GONE${when}: what miners find now builds on an old tip, and nobody is there to take it.`;
   if (!here && since === null) said = "The provider wasn't here yet.";
-  if (now.pool_runs === false) said = "The pool doesn't run: no process has its ledger open.";
+  if (now.pool_runs === false) {
+    // A pool that was killed has left nobody's leaving in its ledger.
+    said = `The pool DOESN'T RUN: no process has its ledger open.${here ? "" : ` ${said}`}`;
+  }
   if (now.events === 0) said = "There is no ledger yet.";
   part("provider").textContent = said;
   part("provider").className = `banner ${bad ? "broken" : "holds"}`;

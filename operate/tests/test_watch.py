@@ -1,4 +1,5 @@
 """What `watch.py` shows of a pool, by its own clock."""
+import fcntl
 import json
 import os
 import re
@@ -161,6 +162,16 @@ class Program(WithFolder):
         self.assertEqual((now["accounts"][0]["owed"], now["last_blocks"][0]["height"]), (990, 1))
         line = tool("watch.py", WORKED, "--once").stdout
         self.assertRegex(line, r"provider GONE since before .*, 1 of 3 credits, 0\.00000990 BTC owed")
+
+    def test_a_durable_ledger_that_nobody_has_open(self) -> None:
+        for records, words in ((begun(1_000), "THE POOL DOESN'T RUN, 0 miners"),
+                               (begun(1_000) + [writing.leave(0)],
+                                "THE POOL DOESN'T RUN, provider GONE since before ")):
+            ledger = self.file("ledger", writing.durable(records))
+            self.assertIn(words, tool("watch.py", ledger, "--once").stdout)
+            with open(ledger, "rb") as held:
+                fcntl.flock(held, fcntl.LOCK_EX)
+                self.assertNotIn("RUN", tool("watch.py", ledger, "--once").stdout)
 
     def test_a_monitor_keeps_what_it_knows(self) -> None:
         state = os.path.join(self.folder, "state")
