@@ -32,7 +32,7 @@ import sys
 from collections.abc import Iterable
 
 from lib.commands import parser_of, status_of
-from lib.history import Booked, History, history_of
+from lib.history import Block, History, history_of
 from lib.ledger import Defect, LedgerFile
 from lib.words import time_words
 
@@ -43,33 +43,31 @@ TOTAL_HEADS = ("account", "work", "satoshis")
 PAID_HEADS = ("paid", "owed")
 
 
-def counted(history: History, without: Iterable[str]) -> list[Booked]:
+def counted(history: History, without: Iterable[str]) -> list[Block]:
     """The blocks, but for those that count nothing."""
     left_out = {hash_.lower() for hash_ in without}
-    unknown = left_out - {booked.block.hash for booked in history.blocks}
+    unknown = left_out - {block.hash for block in history.blocks}
     if unknown:
         raise Defect(f"no block of this ledger has the hash {min(unknown)}")
-    return [booked for booked in history.blocks if booked.block.hash not in left_out]
+    return [block for block in history.blocks if block.hash not in left_out]
 
 
-def lines_of(booked: Booked) -> Iterable[tuple]:
+def lines_of(block: Block) -> Iterable[tuple]:
     """A block's lines: one for each account, and the pool's."""
-    block = booked.block
-    height = "" if block.height is None else block.height
     begin = (
-        block.hash, height, time_words(booked.time), booked.number, "own" if block.own else "template",
-        block.reward,
+        block.hash, "" if block.height is None else block.height, time_words(block.share.time),
+        block.share.number, "own" if block.own else "template", block.reward,
     )
     for account, satoshis in block.payouts.items():
         yield *begin, account, block.weights[account], satoshis
     yield *begin, POOL, "", block.pool_part()
 
 
-def totals_of(history: History, blocks: list[Booked]) -> Iterable[tuple[str, int | str, int]]:
+def totals_of(history: History, blocks: list[Block]) -> Iterable[tuple[str, int | str, int]]:
     """A line for each account with a credit, in the order of their first, and the pool's."""
     for name, account in history.accounts.items():
-        yield name, account.work, sum(booked.block.payouts.get(name, 0) for booked in blocks)
-    yield POOL, "", sum(booked.block.pool_part() for booked in blocks)
+        yield name, account.work, sum(block.payouts.get(name, 0) for block in blocks)
+    yield POOL, "", sum(block.pool_part() for block in blocks)
 
 
 def paid_in(path: str) -> dict[str, int]:
@@ -103,7 +101,7 @@ def write(words: argparse.Namespace) -> None:
     history = history_of(LedgerFile(words.ledger))
     blocks = counted(history, words.without)
     heads: tuple[str, ...] = HEADS
-    lines: Iterable[tuple] = (line for booked in blocks for line in lines_of(booked))
+    lines: Iterable[tuple] = (line for block in blocks for line in lines_of(block))
     if words.totals or words.paid:
         heads, lines = TOTAL_HEADS, totals_of(history, blocks)
     if words.paid:

@@ -27,7 +27,7 @@ import sys
 from lib.charts import Axis, Chart, Place, bar
 from lib.commands import parser_of, status_of
 from lib.events import FIELDS, KINDS, NUMBERED
-from lib.history import Booked, History
+from lib.history import Block, History
 from lib.ledger import LedgerFile
 from lib.pages import assembled, name_words, table
 from lib.words import coin_words, count_words, escaped, time_words
@@ -101,21 +101,21 @@ class Report:
             return "<p>There are none.</p>"
         names = {1: "owed to accounts", 2: "the pool's part"}
         chart = Chart(self.axis, BLOCK_COLUMNS, "Rewards in satoshis", names)
-        for booked in blocks:
-            place = Place(booked.number, booked.time)
-            chart.add(place, 1, booked.block.owed())
-            chart.add(place, 2, booked.block.pool_part())
+        for block in blocks:
+            place = Place(block.share.number, block.share.time)
+            chart.add(place, 1, block.owed())
+            chart.add(place, 2, block.pool_part())
         heads = (
             "event", "height>", "hash", "time of its header, UTC", "found by", "reward, BTC>",
             "owed, satoshis>", "pool's part, satoshis>",
         )
-        return chart.page_part() + table("blocks", heads, [block_row(booked) for booked in blocks])
+        return chart.page_part() + table("blocks", heads, [block_row(block) for block in blocks])
 
     def parts(self) -> str:
         blocks = self.history.blocks
         if not blocks:
             return "<p>There are none.</p>"
-        rows = [row for booked in reversed(blocks) for row in part_rows(booked)]
+        rows = [row for block in reversed(blocks) for row in part_rows(block)]
         heads = (
             "event", "height>", "account", "weight>", "part>", "owed, satoshis>", "owed, BTC>",
         )
@@ -175,24 +175,22 @@ def height_words(height: int | None) -> str:
     return "unknown" if height is None else str(height)
 
 
-def block_row(booked: Booked) -> list[str]:
-    block = booked.block
-    count = len(block.payouts)
+def block_row(block: Block) -> list[str]:
+    share, count = block.share, len(block.payouts)
     return [
-        link(booked.number), height_words(block.height),
+        link(share.number), height_words(block.height),
         f'<span class="hash">{block.hash}</span>{OWN_JOB if block.own else ""}',
-        time_words(booked.time), name_words(booked.account), coin_words(block.reward),
+        time_words(share.time), name_words(share.account), coin_words(block.reward),
         f"{count_words(block.owed())}<br>to {count_words(count)} account{'s' if count > 1 else ''}",
         count_words(block.pool_part()),
     ]
 
 
-def part_rows(booked: Booked) -> list[list[str]]:
-    block = booked.block
+def part_rows(block: Block) -> list[list[str]]:
     whole = sum(block.weights.values())
     return [
         [
-            link(booked.number), height_words(block.height), name_words(name),
+            link(block.share.number), height_words(block.height), name_words(name),
             count_words(block.weights[name]), f"{100 * block.weights[name] / whole:.2f}%",
             count_words(payout), coin_words(payout),
         ]

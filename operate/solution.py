@@ -31,7 +31,7 @@ from lib.events import Credit
 from lib.frames import (
     SETUP_SUCCESS, TEMPLATE_DISTRIBUTION, BadFrame, Frames, Solution, constraints, setup,
 )
-from lib.history import Booked, History
+from lib.history import Block, History
 from lib.ledger import Defect, LedgerFile
 
 SECONDS = 10.0
@@ -39,36 +39,40 @@ SECONDS = 10.0
 SIZE, SIGOPS = 109, 400
 
 
-def found_at(path: str, number: int) -> tuple[Booked, Credit]:
-    """The block that is booked at an event."""
+def found_at(path: str, number: int) -> tuple[Block, Credit]:
+    """The block that is booked at an event, and the event."""
     history = History()
     for entry in LedgerFile(path).new_entries():
         booked = history.tell(entry)
         if entry.number == number:
-            if booked is None or booked.block is None:
-                kind = "a credit that is no block" if booked else f"a {type(entry.event).__name__}"
-                raise Defect(f"event {number} is {kind}")
-            return booked, entry.event
+            if booked is None or not isinstance(entry.event, Credit):
+                raise Defect(f"event {number} is a {type(entry.event).__name__}")
+            if booked.block is None:
+                raise Defect(f"event {number} is a credit that is no block")
+            return booked.block, entry.event
     raise Defect(f"the ledger has no event {number}")
 
 
-def solution_of(booked: Booked, credit: Credit) -> Solution | None:
+def coinbase_of(block: Block) -> bytes:
+    return block.share.job.coinbase(block.share.extranonce)
+
+
+def solution_of(block: Block, credit: Credit) -> Solution | None:
     """The message for the provider, where the job is one of a template."""
-    if booked.job.template_id is None:
+    number = block.share.job.template_id
+    if number is None:
         return None
-    coinbase = booked.job.coinbase(booked.extranonce)
-    return Solution(booked.job.template_id, credit.version, credit.ntime, credit.nonce, coinbase)
+    return Solution(number, credit.version, credit.ntime, credit.nonce, coinbase_of(block))
 
 
-def print_solution(booked: Booked, solution: Solution | None) -> None:
-    job, block = booked.job, booked.block
+def print_solution(block: Block, solution: Solution | None) -> None:
     print(f"block {block.hash}")
     print(f"height {'unknown' if block.height is None else block.height}")
     print(f"reward {block.reward}")
-    print(f"account {booked.account}")
-    print(f"header {booked.header.hex()}")
-    print(f"coinbase {job.coinbase(booked.extranonce).hex()}")
-    print(f"path {' '.join(one.hex() for one in job.path) or 'none'}")
+    print(f"account {block.share.account}")
+    print(f"header {block.share.header.hex()}")
+    print(f"coinbase {coinbase_of(block).hex()}")
+    print(f"path {' '.join(one.hex() for one in block.share.job.path) or 'none'}")
     if solution is None:
         print("template none: the job was that miner's own")
     else:
@@ -89,9 +93,9 @@ def hand_in(address: str, solution: Solution) -> None:
 
 
 def work(words: argparse.Namespace) -> None:
-    booked, credit = found_at(words.ledger, words.event)
-    solution = solution_of(booked, credit)
-    print_solution(booked, solution)
+    block, credit = found_at(words.ledger, words.event)
+    solution = solution_of(block, credit)
+    print_solution(block, solution)
     if words.to is None:
         return
     if solution is None:

@@ -65,8 +65,8 @@ class Solution:
     def read(cls, payload: bytes) -> "Solution":
         if len(payload) < 22 or len(payload) != 22 + int.from_bytes(payload[20:22], "little"):
             raise BadFrame("a SubmitSolution of it is no message")
-        numbers = (int.from_bytes(payload[at:at + 4], "little") for at in (8, 12, 16))
-        return cls(int.from_bytes(payload[:8], "little"), *numbers, payload[22:])
+        version, ntime, nonce = (int.from_bytes(payload[at:at + 4], "little") for at in (8, 12, 16))
+        return cls(int.from_bytes(payload[:8], "little"), version, ntime, nonce, payload[22:])
 
 
 def head_in(head: bytes) -> tuple[int, int, bool]:

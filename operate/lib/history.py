@@ -32,13 +32,14 @@ class Job:
         self.number = number
         self.since = place
         self.own = isinstance(said, Custom)
-        self.template_id = None if self.own else said.template_id
+        self.template_id = said.template_id if isinstance(said, Template) else None
         self.version = said.version
         self.path = said.path
         self.height = height_in(said.coinbase_prefix)
-        if not self.own:
+        self.reward = sum(value for value, _ in outputs)
+        if isinstance(said, Template):
             outputs.insert(0, (said.value, script))
-        self.reward = said.value if not self.own else sum(value for value, _ in outputs)
+            self.reward = said.value
         self.commits = any(one.startswith(COMMITMENT) for _, one in outputs)
         self.prefix = (
             little(said.coinbase_version, 4) + b"\x01" + bytes(32) + b"\xff" * 4
@@ -112,25 +113,6 @@ class Account:
 
 
 @dataclass(slots=True)
-class Block:
-    """What came of the reward of a credit that is a block: what its accounts' credits weigh in it, and
-    what each of them is owed."""
-
-    hash: str
-    height: int | None
-    reward: int
-    own: bool
-    weights: dict[str, int] = field(default_factory=dict)
-    payouts: dict[str, int] = field(default_factory=dict)
-
-    def owed(self) -> int:
-        return sum(self.payouts.values())
-
-    def pool_part(self) -> int:
-        return self.reward - self.owed()
-
-
-@dataclass(slots=True)
 class Booked:
     """A credit with what it was booked for, and its block where it is one."""
 
@@ -143,11 +125,44 @@ class Booked:
     header: bytes
     hash: bytes
     extranonce: bytes
-    block: Block | None = None
+    block: "Block | None" = None
 
     @property
     def work(self) -> int:
         return 1 << self.class_
+
+
+@dataclass(slots=True)
+class Block:
+    """A share that is a block, and what came of its reward: what its accounts' credits weigh in it, and
+    what each of them is owed."""
+
+    share: Booked
+    weights: dict[str, int]
+    payouts: dict[str, int]
+
+    @property
+    def hash(self) -> str:
+        return displayed(self.share.hash)
+
+    @property
+    def height(self) -> int | None:
+        return self.share.job.height
+
+    @property
+    def reward(self) -> int:
+        return self.share.job.reward
+
+    @property
+    def own(self) -> bool:
+        """Whether its job was a miner's own."""
+        return self.share.job.own
+
+    def owed(self) -> int:
+        return sum(self.payouts.values())
+
+    def pool_part(self) -> int:
+        return self.reward - self.owed()
 
 
 class Weights:
@@ -216,7 +231,7 @@ class History:
         self.present: dict[int, Session] = {}
         self.channels: list[Channel] = []
         self.accounts: dict[str, Account] = {}
-        self.blocks: list[Booked] = []
+        self.blocks: list[Block] = []
         self.tip: Tip | None = None
         # The jobs that shares may be for, and those that a tip may make so.
         self.jobs: dict[int, Job] = {}
@@ -245,12 +260,12 @@ class History:
                 yield booked
 
     def pool_part(self) -> int:
-        return sum(booked.block.pool_part() for booked in self.blocks)
+        return sum(block.pool_part() for block in self.blocks)
 
     def newest_job(self) -> Job | None:
         """The newest job of a template that shares may be for."""
-        live = (job for job in self.jobs.values() if not job.own)
-        return max(live, key=lambda job: job.since, default=None)
+        live = [job for job in self.jobs.values() if not job.own]
+        return max(live, key=lambda job: job.since) if live else None
 
     def owed_now(self) -> dict[str, int]:
         """What each account would get of a block of the newest template, by the credits so far."""
@@ -322,7 +337,7 @@ class History:
 
     def _book(self, place: int, said: Credit) -> Booked:
         channel, job, tip = self._channel(said.channel), self.jobs[said.job], self.tip
-        if tip is None:
+        if tip is None or self.rules is None:
             raise NotThere
         extranonce = channel.extranonce(said.extranonce)
         head = header(
@@ -334,14 +349,15 @@ class History:
         )
         self._count(booked, self.sessions[said.session])
         if meets(booked.hash, tip.target):
-            self._settle(booked)
+            self._settle(booked, self.rules)
         return booked
 
     def _count(self, booked: Booked, session: Session) -> None:
         account = self.accounts.setdefault(booked.account, Account())
-        for counted in (booked.channel, account):
-            counted.credits += 1
-            counted.work += booked.work
+        account.credits += 1
+        account.work += booked.work
+        booked.channel.credits += 1
+        booked.channel.work += booked.work
         session.credits += 1
         self.credits += 1
         self._weights.add(booked.account, booked.work)
@@ -351,15 +367,13 @@ class History:
         weights = self._weights.now()
         return {name: weights[name] for name in self.accounts if name in weights}
 
-    def _settle(self, booked: Booked) -> None:
-        job, weights = booked.job, self._weights_now()
-        payouts = quotients(job.reward, self.rules.fee, weights)
-        booked.block = Block(
-            displayed(booked.hash), job.height, job.reward, job.own, weights, payouts,
-        )
+    def _settle(self, booked: Booked, rules: Start) -> None:
+        weights = self._weights_now()
+        payouts = quotients(booked.job.reward, rules.fee, weights)
+        booked.block = Block(booked, weights, payouts)
         for name, payout in payouts.items():
             self.accounts[name].balance += payout
-        self.blocks.append(booked)
+        self.blocks.append(booked.block)
         self._weights.settled()
 
 

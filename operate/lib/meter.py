@@ -76,7 +76,8 @@ class Meter:
     def from_json(cls, samples: list) -> "Meter":
         meter = cls()
         for at, sums in samples:
-            meter._samples.append((at, {name: tuple(pair) for name, pair in sums.items()}))
+            sums = {name: (credits, work) for name, (credits, work) in sums.items()}
+            meter._samples.append((at, sums))
         return meter
 
     def _sample_at(self, at: float) -> tuple[float, Sums] | None:

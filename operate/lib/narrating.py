@@ -1,7 +1,7 @@
 """Events that an operator wants to hear of, in words."""
 from lib.events import Enter, Event, Leave, Name, Open, Tip
 from lib.following import Follower, Read
-from lib.history import Booked
+from lib.history import Block, Job
 from lib.watching import connected
 from lib.words import coin_words
 
@@ -16,9 +16,9 @@ class Narrator:
 
     def words(self, read: Read) -> str | None:
         """What is said of an event, where anything is."""
-        if read.booked is not None:
-            return self._block(read.booked) if read.booked.block is not None else None
-        return self._other(read.entry.event)
+        if read.booked is None:
+            return self._other(read.entry.event)
+        return None if read.booked.block is None else self._block(read.booked.block)
 
     def state(self) -> str:
         """Who is here."""
@@ -37,9 +37,7 @@ class Narrator:
             case Leave():
                 return self._left(event.session)
             case Tip():
-                job = history.newest_job()
-                height = "" if job is None or job.height is None else f" at height {job.height}"
-                return f"a new tip: blocks{height} are mined, for {coin_words(job.reward)} BTC"
+                return self._tip(history.newest_job())
         return None
 
     def _came(self, session: int, account: str) -> str | None:
@@ -55,15 +53,20 @@ class Narrator:
         accounts = ", ".join(sorted(self._said.pop(session, set()))) or "no account"
         return f"a miner of {accounts} has left; {self._miners()}"
 
+    def _tip(self, job: Job | None) -> str | None:
+        if job is None:
+            return None
+        height = "" if job.height is None else f" at height {job.height}"
+        return f"a new tip: blocks{height} are mined, for {coin_words(job.reward)} BTC"
+
     def _miners(self) -> str:
         count = sum(one.role != "Feed" for one in self.follower.history.present.values())
         return f"{count} miner{'' if count == 1 else 's'}"
 
-    def _block(self, booked: Booked) -> str:
-        block = booked.block
+    def _block(self, block: Block) -> str:
         height = "" if block.height is None else f" at height {block.height}"
         own = ", on a miner's own job" if block.own else ""
         return (
-            f"A BLOCK{height} of {booked.account}{own}: {block.hash}, {coin_words(block.reward)} BTC; "
-            f"event {booked.number}, which solution.py prints"
+            f"A BLOCK{height} of {block.share.account}{own}: {block.hash}, {coin_words(block.reward)} BTC; "
+            f"event {block.share.number}, which solution.py prints"
         )

@@ -66,7 +66,8 @@ def settings_in(content: bytes) -> Settings:
     defects = defects_in(said)
     if defects:
         raise NoSettings(defects)
-    return Settings(**{**said, "users": tuple(said.get("users", ()))})
+    said["users"] = tuple(said.get("users", ()))
+    return Settings(**said)
 
 
 def refuse(text: str) -> None:

@@ -1,6 +1,7 @@
 """What of Stratum V1 a relay has to understand: lines, jobs, and the header of a submission."""
 import json
 from dataclasses import dataclass
+from typing import Any
 
 from lib.bitcoin import double_hash, header, root_from
 
@@ -65,11 +66,11 @@ class Talk:
     def __init__(self) -> None:
         self.lead = b""
         self.mask = 0
-        self.difficulty = 0
+        self.difficulty: float = 0
         # By their numbers, each with the difficulty that was told before it.
-        self.jobs: dict[str, tuple[Job, int]] = {}
+        self.jobs: dict[str, tuple[Job, float]] = {}
 
-    def hear_answer(self, method: str, result: object) -> None:
+    def hear_answer(self, method: str, result: Any) -> None:
         """Hears what the pool answers to a request."""
         try:
             if method == "mining.subscribe":
@@ -91,7 +92,7 @@ class Talk:
             self.jobs.clear()
         self.jobs[job.number] = (job, self.difficulty)
 
-    def header_of(self, params: list) -> tuple[bytes, int] | None:
+    def header_of(self, params: list) -> tuple[bytes, float] | None:
         """The header that a submission says, and the difficulty of its job; None where it names no job
         that was told, or isn't one."""
         try:

@@ -165,11 +165,12 @@ class Watch:
     def _last_blocks(self, now: float) -> list[dict]:
         return [
             {
-                "event": booked.number, "hash": booked.block.hash, "height": booked.block.height,
-                "reward": booked.block.reward, "own_job": booked.block.own, "account": booked.account,
-                "time": booked.time, **seen_words("seen", self._blocks_seen[booked.number], now),
+                "event": block.share.number, "hash": block.hash, "height": block.height,
+                "reward": block.reward, "own_job": block.own, "account": block.share.account,
+                "time": block.share.time,
+                **seen_words("seen", self._blocks_seen.get(block.share.number), now),
             }
-            for booked in self.follower.history.blocks[:-SHOWN_BLOCKS - 1:-1]
+            for block in self.follower.history.blocks[:-SHOWN_BLOCKS - 1:-1]
         ]
 
 

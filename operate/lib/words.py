@@ -35,7 +35,7 @@ def rate_words(rate: float) -> str:
 def duration_words(seconds: float) -> str:
     """A span of time in its two greatest units."""
     left = max(0, int(seconds))
-    parts = []
+    parts: list[str] = []
     for size, unit in UNITS:
         if left >= size or (size == 1 and not parts):
             parts.append(f"{left // size} {unit}")

@@ -35,7 +35,7 @@ class Rewards(WithFolder):
             records.append(writing.credit(1, place + 1, 1, nonce, bytes(8)))
         history = told(self.file("ledger", writing.plain(records)))
         self.assertEqual((history.credits, len(history.blocks)), (len(works), 1))
-        block = history.blocks[0].block
+        block = history.blocks[0]
         self.assertEqual(sum(block.payouts.values()) + block.pool_part(), 1_000)
         self.assertEqual(block.payouts, {name: one.balance for name, one in history.accounts.items()
                                          if name in block.payouts})
@@ -60,19 +60,20 @@ class Rewards(WithFolder):
                 writing.credit(1, 1, 1, 0, bytes(8)), writing.credit(1, 2, 1, 0, bytes(8)),
             ]
             history = told(self.file("ledger", writing.plain(records)))
-            self.assertEqual([booked.block.payouts for booked in history.blocks],
+            self.assertEqual([block.payouts for block in history.blocks],
                              [{"a": 1_000}, second])
 
 
 class Shares(WithFolder):
     def test_the_worked_session(self) -> None:
         history = told(WORKED)
-        booked = history.blocks[0]
+        block = history.blocks[0]
+        booked = block.share
         self.assertEqual(booked.header, header_of(1_000, bytes(12), 0))
-        self.assertEqual(booked.block.hash, double_hash(booked.header)[::-1].hex())
-        self.assertEqual((booked.block.reward, booked.block.payouts, history.pool_part()),
+        self.assertEqual(block.hash, double_hash(booked.header)[::-1].hex())
+        self.assertEqual((block.reward, block.payouts, history.pool_part()),
                          (1_000, {"a": 990}, 10))
-        self.assertEqual((booked.account, booked.work, booked.block.height, booked.block.own),
+        self.assertEqual((booked.account, booked.work, block.height, block.own),
                          ("a", 1, 1, False))
         self.assertEqual(booked.job.coinbase(bytes(12)), coinbase_of(1_000, bytes(12)))
 
@@ -109,7 +110,7 @@ class Shares(WithFolder):
             writing.custom(0, 1, 1, 1_000), writing.credit(0, 1, 2, 1, bytes(8)),
         ]
         history = told(self.file("ledger", writing.plain(records)))
-        self.assertEqual([booked.block.own for booked in history.blocks], [False, True])
+        self.assertEqual([block.own for block in history.blocks], [False, True])
         self.assertEqual((history.accounts["a"].balance, history.pool_part()), (1_980, 20))
 
     def test_a_coinbase_with_a_commitment_has_its_witness(self) -> None:
