@@ -161,15 +161,23 @@ class Providers(Kept):
                              "THE PROVIDER IS GONE: the program is ended, and begun anew")
 
 
-class Unit(unittest.TestCase):
-    def test_the_unit_begins_what_is_there(self) -> None:
+class Units(unittest.TestCase):
+    def service(self, name: str) -> configparser.SectionProxy:
         unit = configparser.ConfigParser(interpolation=None, strict=False)
         unit.optionxform = str
-        unit.read(os.path.join(OPERATE, "maqefwi.service"))
-        words = unit["Service"]["ExecStart"].split()
-        self.assertEqual(words[1], "/opt/maqefwi/operate/keep.py")
+        unit.read(os.path.join(OPERATE, name))
+        return unit["Service"]
+
+    def test_the_units_begin_what_is_there(self) -> None:
+        for name in ("maqefwi.service", "maqefwi-node.service", "maqefwi-relay.service"):
+            script = self.service(name)["ExecStart"].split()[1].removeprefix("/opt/maqefwi/operate/")
+            self.assertTrue(os.path.exists(os.path.join(OPERATE, script)), script)
+
+    def test_the_pools_unit_begins_nothing_anew_that_no_waiting_mends(self) -> None:
+        service = self.service("maqefwi.service")
+        words = service["ExecStart"].split()
         self.assertEqual(words[2:3] + words[4:], ["--", "durable", "serve", "settings.json", "pool.ledger"])
-        self.assertEqual(unit["Service"]["RestartPreventExitStatus"].split(), ["2", "9", "11"])
+        self.assertEqual(service["RestartPreventExitStatus"].split(), ["2", "9", "11"])
 
 
 if __name__ == "__main__":
