@@ -34,8 +34,13 @@ class WrongBody:
 
     @property
     def is_refused_by_run(self):
-        """Whether a test or the stored run refuses it, and no clause."""
-        return self.refused_by.startswith(("test ", "the stored run"))
+        """Whether a test, the stored run or a script of examples refuses it, and no clause."""
+        return self.refused_by.startswith(("test ", "the stored run")) or self.is_refused_by_script
+
+    @property
+    def is_refused_by_script(self):
+        """Whether a script of examples refuses it, which runs the program."""
+        return self.refused_by.startswith("examples/")
 
     def texts(self, folder):
         """The files that it changes in a crate's folder, as they are then; None where it can't be applied."""

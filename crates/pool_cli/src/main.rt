@@ -1,27 +1,15 @@
-//! The program: `main`, which gives the words of the command line to the top call `run`, and the
+//! The program: `main`, which gives the words of the command line to the top call `run`, over the
 //! adapters of the real system.
 #![tactic(auto)]
 
 ghost use Rattle.std.specs.Prelude.{◌≡◌, IfOk, map, drop, string_bytes};
 ghost use Rattle.std.specs.Vec.Iter.{into_iter_items};
 
-mod edge;
-#[cfg(test)]
-mod edge_tests;
-mod file_disk;
-mod file_keeper;
-#[cfg(test)]
-mod program_tests;
-mod stream_host;
-mod tcp;
-#[cfg(test)]
-mod tcp_tests;
-
 use command_line::{Word, run};
 use disk_io::Disks;
-use file_disk::FileDisks;
 use pool_io::Host;
 use pool_network::{Door, Network};
+use real_edge::{FileDisks, StreamHost, TcpNetwork};
 use std::alloc::{AllocError, Global};
 use std::env::Args;
 use std::process::ExitCode;
@@ -30,8 +18,6 @@ use std::sync::Wait;
 use std::thread::Threads;
 use std::{env, io};
 use stream_commands::Status;
-use stream_host::StreamHost;
-use tcp::TcpNetwork;
 
 /// The words after the program's name.
 fn words_of<E: Env + AllocGlobal>(process: &E) -> io::Result<Vec<Word>> {

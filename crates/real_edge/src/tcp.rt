@@ -22,7 +22,7 @@ pub struct TcpLink {
 }
 
 impl Link for TcpLink {
-    ghost use Rattle.pool_cli.specs.Connections.{link_seen};
+    ghost use Rattle.real_edge.specs.Connections.{link_seen};
 
     ghost seen = { link_seen };
 
@@ -124,7 +124,7 @@ impl<L: OpenListener<Stream = TcpStream> + Drop, C: Clock + Drop> TcpDoor<L, C> 
 }
 
 impl<L: OpenListener<Stream = TcpStream> + Drop, C: Clock + Drop> Door for TcpDoor<L, C> {
-    ghost use Rattle.pool_cli.specs.Connections.{door_seen};
+    ghost use Rattle.real_edge.specs.Connections.{door_seen};
 
     type L = TcpLink;
 
@@ -200,7 +200,7 @@ impl<N: Net<Listener = TcpListener, Stream = TcpStream> + Clock + Copy + Drop> N
     for TcpNetwork<N> {
     ghost use Rattle.std.specs.Prelude.{None, map};
     ghost use Rattle.pool_io.specs.Lending.{lending_seen};
-    ghost use Rattle.pool_cli.specs.Connections.{door_seen, link_seen};
+    ghost use Rattle.real_edge.specs.Connections.{door_seen, link_seen};
 
     type D = TcpDoor<TcpListener, N>;
 

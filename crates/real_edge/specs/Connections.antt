@@ -1,9 +1,9 @@
 -- What TCP's links and doors tell: nothing but counts, and how many links are out.
 use Rattle.std.specs.Prelude.{None}
 use Rattle.pool_network.specs.Seen.{DoorSeen, LinkSeen}
-use Rattle.pool_cli.specs.declared.tcp.TcpDoor.{TcpDoor}
-use Rattle.pool_cli.specs.declared.tcp.TcpLink.{TcpLink}
-use Rattle.pool_cli.specs.Edges.{untold_sink, untold_source}
+use Rattle.real_edge.specs.declared.tcp.TcpDoor.{TcpDoor}
+use Rattle.real_edge.specs.declared.tcp.TcpLink.{TcpLink}
+use Rattle.real_edge.specs.Edges.{untold_sink, untold_source}
 
 abbrev pub link_seen : TcpLink → LinkSeen
 link_seen link = record {

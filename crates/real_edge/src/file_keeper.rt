@@ -51,7 +51,7 @@ impl<F: OpenFile + FileExt + Drop> FileKeeper<F> {
 impl<F: OpenFile + FileExt + Drop> Keeper for FileKeeper<F> {
     ghost use Rattle.std.specs.Prelude.{true, ◌≤◌, OnOk, OnErr};
     ghost use Rattle.pool_io.specs.Outside.{CountsFailure, is_failed_append};
-    ghost use Rattle.pool_cli.specs.Edges.{untold_keeper};
+    ghost use Rattle.real_edge.specs.Edges.{untold_keeper};
 
     ghost seen = { λ k. untold_keeper k.faults };
 

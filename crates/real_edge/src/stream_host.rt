@@ -54,8 +54,8 @@ impl<R: Read + Copy + Drop, W: Write + Copy + Drop, F: Files<File = File> + Drop
     ghost use Rattle.std.specs.Prelude.{None, ◌≢◌, ◌<◌, IfOk, OnOk, OnErr};
     ghost use Rattle.pool_io.specs.Lending.{lending_seen, lent_one, with_back};
     ghost use Rattle.pool_io.specs.Outside.{CountsFailure, is_failed_gift};
-    ghost use Rattle.pool_cli.specs.Edges.{untold_keeper, untold_sink, untold_source};
-    ghost use Rattle.pool_cli.specs.declared.edge.Incoming.TheVariants as incoming;
+    ghost use Rattle.real_edge.specs.Edges.{untold_keeper, untold_sink, untold_source};
+    ghost use Rattle.real_edge.specs.declared.edge.Incoming.TheVariants as incoming;
 
     type S = ReadSource<Incoming<R, File>>;
 

@@ -52,7 +52,7 @@ impl<F: OpenFile + FileExt + Drop> FileDisk<F> {
 }
 
 impl<F: OpenFile + FileExt + Drop> Disk for FileDisk<F> {
-    ghost use Rattle.pool_cli.specs.Edges.{untold_disk};
+    ghost use Rattle.real_edge.specs.Edges.{untold_disk};
     ghost use Rattle.std.specs.Prelude.{IsTrue, OnErr, OnOk, true};
 
     ghost seen = { λ d. untold_disk d.faults };
@@ -155,7 +155,7 @@ impl<F: Files<File = File> + Drop> FileDisks<F> {
 impl<F: Files<File = File> + Drop> Disks for FileDisks<F> {
     ghost use Rattle.std.specs.Prelude.{None};
     ghost use Rattle.pool_io.specs.Lending.{lending_seen};
-    ghost use Rattle.pool_cli.specs.Edges.{untold_disk};
+    ghost use Rattle.real_edge.specs.Edges.{untold_disk};
 
     type Z = FileDisk<File>;
 

@@ -15,7 +15,7 @@ pub enum Incoming<R: Read + Drop, F: Read + Drop> {
 }
 
 impl<R: Read + Drop, F: Read + Drop> Read for Incoming<R, F> {
-    ghost use Rattle.pool_cli.specs.Incoming.{remaining_of};
+    ghost use Rattle.real_edge.specs.Incoming.{remaining_of};
 
     ghost remaining = { remaining_of R.remaining F.remaining };
 
@@ -47,7 +47,7 @@ impl<R: Read + Drop> ReadSource<R> {
 impl<R: Read + Drop> Source for ReadSource<R> {
     ghost use Rattle.std.specs.Prelude.{None, ◌<◌, ◌≤◌, length};
     ghost use Rattle.pool_io.specs.Outside.{IsWithinRoom, TakesTurn, CountsFailure, is_failed_take};
-    ghost use Rattle.pool_cli.specs.Edges.{ReadsOn, untold_source};
+    ghost use Rattle.real_edge.specs.Edges.{ReadsOn, untold_source};
 
     ghost seen = { λ s. untold_source s.faults };
 
@@ -95,7 +95,7 @@ impl<W: Write + Drop> Sink for WriteSink<W> {
     ghost use Rattle.std.specs.Prelude.{None, ◌<◌, ◌≤◌, length, take, IfOk, OnErr};
     ghost use Rattle.std.specs.Io.KnownBytes.{Appends, Keeps};
     ghost use Rattle.pool_io.specs.Outside.{AddsBytes, CountsFailure, is_failed_put};
-    ghost use Rattle.pool_cli.specs.Edges.{untold_sink};
+    ghost use Rattle.real_edge.specs.Edges.{untold_sink};
 
     ghost seen = { λ s. untold_sink s.faults };
 

@@ -1,5 +1,5 @@
 use Rattle.std.proofs.Common.{◌-◌, ◌≤◌, vec_len}
-use Rattle.pool_cli.proofs.tcp.TcpNetwork.doors_at.Given as goal
+use Rattle.real_edge.proofs.tcp.TcpNetwork.doors_at.Given as goal
 
 -- no more doors than are asked for
 abbrev pub invariant-loop-listener : goal.invariant-loop-listener
