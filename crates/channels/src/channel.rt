@@ -8,7 +8,7 @@ use pool_history::{Class, Kind, Lead};
 use sv2_types::Str255;
 
 /// An open channel.
-#[derive(Debug, Drop)]
+#[derive(Drop)]
 pub struct Channel {
     pub session: u32,
     pub kind: Kind,

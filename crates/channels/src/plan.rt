@@ -7,7 +7,7 @@ use pool_history::{Class, Kind, LiveSpan, Opened};
 use sv2_types::Str255;
 
 /// A change of a table that was planned, with the memory that it needs.
-#[derive(Debug, Drop)]
+#[derive(Drop)]
 pub enum ChannelPlan {
     /// A channel is opened, at a place of the history; its account is empty for V1.
     Open {

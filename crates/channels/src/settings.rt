@@ -5,7 +5,7 @@ use std::alloc::{AllocError, Global};
 use std::marker::Model;
 
 /// A class that was set, and at which place.
-#[derive(Clone, Copy, Debug)]
+#[derive(Clone, Copy)]
 pub(crate) struct Setting {
     pub at: u64,
     pub class: Class,
@@ -13,7 +13,7 @@ pub(crate) struct Setting {
 
 /// What is kept of the classes that were set for a channel. Contracts see it with the last one first,
 /// and for how many more there is room.
-#[derive(Debug, Drop)]
+#[derive(Drop)]
 pub struct Settings {
     /// In the order in which they were set.
     settings: Vec<Setting>,

@@ -18,12 +18,12 @@ use sv2_types::Str255;
 use thiserror::Error;
 
 /// The session has no such open channel.
-#[derive(Clone, Copy, Debug, PartialEq, Eq, Drop, Error)]
+#[derive(Clone, Copy, Debug, Drop, Error)]
 #[error("invalid-channel-id")]
 pub struct NotOpen;
 
 /// Why a channel's class isn't set.
-#[derive(Clone, Copy, Debug, PartialEq, Eq, Drop, Error)]
+#[derive(Clone, Copy, Debug, Drop, Error)]
 pub enum SetError {
     #[error("invalid-channel-id")]
     NotOpen,
@@ -33,7 +33,7 @@ pub enum SetError {
 
 /// The open channels, and the leads that they hold. Contracts see the channels in the order of their
 /// ids, how many were opened, and for how many more there is room.
-#[derive(Debug, Drop)]
+#[derive(Drop)]
 pub struct Channels {
     opened: u32,
     /// In whatever order.

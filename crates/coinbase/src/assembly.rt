@@ -19,7 +19,7 @@ use std::alloc::{AllocError, Global};
 use std::marker::Model;
 
 /// What a template says of its coinbase (Stratum V2, "NewTemplate").
-#[derive(Clone, Copy, Debug)]
+#[derive(Clone, Copy)]
 pub struct Recipe<'a> {
     pub tx_version: u32,
     /// What the input's script begins with.
@@ -34,7 +34,7 @@ pub struct Recipe<'a> {
 }
 
 /// What a miner says of the coinbase of its own job (Stratum V2, "SetCustomMiningJob").
-#[derive(Clone, Copy, Debug)]
+#[derive(Clone, Copy)]
 pub struct CustomRecipe<'a> {
     pub tx_version: u32,
     /// What the input's script begins with.
@@ -46,7 +46,7 @@ pub struct CustomRecipe<'a> {
 }
 
 /// A coinbase that lacks its extranonce, which contracts see as its parts.
-#[derive(Debug, Drop)]
+#[derive(Drop)]
 pub struct Assembly {
     prefix: Vec<u8>,
     suffix: Vec<u8>,

@@ -41,7 +41,7 @@ impl<T: Drop> From<AllocFailed<T>> for TxError {
 }
 
 /// Why a template has no coinbase here: the first of these that holds.
-#[derive(Clone, Copy, Debug, PartialEq, Eq, Drop, Error)]
+#[derive(Clone, Copy, Debug, Drop, Error)]
 pub enum AssemblyError {
     #[error("a coinbase prefix of {0} bytes, and 88 is the most")]
     ScriptTooLong(usize),
@@ -69,7 +69,7 @@ impl From<AllocError> for AssemblyError {
 }
 
 /// Why a miner's own job has no coinbase here: the first of these that holds.
-#[derive(Clone, Copy, Debug, PartialEq, Eq, Drop, Error)]
+#[derive(Clone, Copy, Debug, Drop, Error)]
 pub enum OutputsError {
     #[error("a coinbase prefix of {0} bytes, and 88 is the most")]
     ScriptTooLong(usize),

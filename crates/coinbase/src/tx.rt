@@ -10,7 +10,7 @@ use std::marker::Model;
 use sv2_types::Blob;
 
 /// An input: which output it spends, and how.
-#[derive(Debug, Drop)]
+#[derive(Drop)]
 pub struct TxIn {
     /// The id of the transaction whose output it spends, in the order of its bytes.
     pub previous: [u8; 32],
@@ -20,7 +20,7 @@ pub struct TxIn {
 }
 
 /// An output.
-#[derive(Debug, Drop)]
+#[derive(Drop)]
 pub struct TxOut {
     /// In satoshis.
     pub value: u64,
@@ -28,31 +28,31 @@ pub struct TxOut {
 }
 
 /// The inputs of a transaction, which contracts see as a list.
-#[derive(Debug, Drop)]
+#[derive(Drop)]
 pub struct TxIns {
     items: Vec<TxIn>,
 }
 
 /// The outputs of a transaction, which contracts see as a list.
-#[derive(Debug, Drop)]
+#[derive(Drop)]
 pub struct TxOuts {
     items: Vec<TxOut>,
 }
 
 /// The witness of one input: its items, which contracts see as a list.
-#[derive(Debug, Drop)]
+#[derive(Drop)]
 pub struct Stack {
     items: Vec<Blob>,
 }
 
 /// The witnesses of a transaction, one for each input, which contracts see as a list.
-#[derive(Debug, Drop)]
+#[derive(Drop)]
 pub struct Witnesses {
     items: Vec<Stack>,
 }
 
 /// A transaction. It has no witnesses where it is written without marker and flag (BIP 144).
-#[derive(Debug, Drop)]
+#[derive(Drop)]
 pub struct Tx {
     pub version: u32,
     pub inputs: TxIns,

@@ -48,7 +48,7 @@ impl Word {
 }
 
 /// A command over a disk.
-#[derive(Clone, Copy, Debug, PartialEq, Eq)]
+#[derive(Clone, Copy)]
 pub enum OnDisk {
     /// `durable solo SETTINGS LEDGER`
     Solo,

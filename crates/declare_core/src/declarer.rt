@@ -22,7 +22,7 @@ use sv2_frames::Frame;
 use sv2_types::{Blob, Hashes, SeqBytes, Str255};
 
 /// What comes of a frame of a declaration.
-#[derive(Debug, Drop)]
+#[derive(Drop)]
 pub enum Declared {
     /// These bytes are said: one frame, or nothing.
     Say(Blob),

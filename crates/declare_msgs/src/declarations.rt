@@ -11,7 +11,7 @@ use sv2_messages::{Field, FieldReader, MsgError};
 use sv2_types::{Seq32, SeqBytes, SeqU16};
 
 /// Asks a miner for transactions of a declared job, by their places.
-#[derive(Clone, Copy, Debug, PartialEq, Eq)]
+#[derive(Clone, Copy, Debug)]
 pub struct ProvideMissingTransactions<'a> {
     pub request_id: u32,
     pub unknown_tx_position_list: SeqU16<'a>,
@@ -46,7 +46,7 @@ pub(crate) fn read_provide_missing_transactions<'a>(
 }
 
 /// Brings the transactions that the miner was asked for.
-#[derive(Clone, Copy, Debug, PartialEq, Eq)]
+#[derive(Clone, Copy, Debug)]
 pub struct ProvideMissingTransactionsSuccess<'a> {
     /// The id that the request has.
     pub request_id: u32,
@@ -83,7 +83,7 @@ pub(crate) fn read_provide_missing_transactions_success<'a>(
 }
 
 /// A miner declares a job.
-#[derive(Clone, Copy, Debug, PartialEq, Eq)]
+#[derive(Clone, Copy, Debug)]
 pub struct DeclareMiningJob<'a> {
     pub request_id: u32,
     pub mining_job_token: &'a [u8],
@@ -135,7 +135,7 @@ pub(crate) fn read_declare_mining_job<'a>(payload: &'a [u8]) -> Result<Declare<'
 }
 
 /// Accepts the job that a miner declared, and gives the token to mine on it.
-#[derive(Clone, Copy, Debug, PartialEq, Eq)]
+#[derive(Clone, Copy, Debug)]
 pub struct DeclareMiningJobSuccess<'a> {
     /// The id that the request has.
     pub request_id: u32,
@@ -171,7 +171,7 @@ pub(crate) fn read_declare_mining_job_success<'a>(
 }
 
 /// Refuses the job that a miner declared, with an error code.
-#[derive(Clone, Copy, Debug, PartialEq, Eq)]
+#[derive(Clone, Copy, Debug)]
 pub struct DeclareMiningJobError<'a> {
     /// The id that the request has.
     pub request_id: u32,

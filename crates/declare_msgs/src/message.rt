@@ -14,7 +14,7 @@ use std::alloc::AllocError;
 use sv2_messages::{fits, kinds, put_frame};
 
 /// A message of job declaration. The kinds and the fields are this project's own.
-#[derive(Clone, Copy, Debug, PartialEq, Eq)]
+#[derive(Clone, Copy, Debug)]
 pub enum Declare<'a> {
     AllocateMiningJobToken(AllocateMiningJobToken<'a>),
     AllocateMiningJobTokenSuccess(AllocateMiningJobTokenSuccess<'a>),

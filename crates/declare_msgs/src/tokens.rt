@@ -11,7 +11,7 @@ use sv2_messages::{Field, FieldReader, MsgError};
 use sv2_types::U256;
 
 /// A miner asks for a token, with which to declare a job.
-#[derive(Clone, Copy, Debug, PartialEq, Eq)]
+#[derive(Clone, Copy, Debug)]
 pub struct AllocateMiningJobToken<'a> {
     pub user_identifier: &'a str,
     pub request_id: u32,
@@ -44,7 +44,7 @@ pub(crate) fn read_allocate_mining_job_token<'a>(payload: &'a [u8]) -> Result<De
 }
 
 /// Gives the token that a miner asked for, and the outputs that the coinbase is to have.
-#[derive(Clone, Copy, Debug, PartialEq, Eq)]
+#[derive(Clone, Copy, Debug)]
 pub struct AllocateMiningJobTokenSuccess<'a> {
     /// The id that the request has.
     pub request_id: u32,
@@ -84,7 +84,7 @@ pub(crate) fn read_allocate_mining_job_token_success<'a>(
 }
 
 /// A miner brings a block that was found.
-#[derive(Clone, Copy, Debug, PartialEq, Eq)]
+#[derive(Clone, Copy, Debug)]
 pub struct PushSolution<'a> {
     pub extranonce: &'a [u8],
     /// 32 bytes as they stand in a block header.

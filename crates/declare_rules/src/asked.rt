@@ -3,7 +3,7 @@
 use sv2_types::Str255;
 
 /// A token that the session was given.
-#[derive(Debug, Drop)]
+#[derive(Drop)]
 pub struct Given {
     /// The number of its Grant, which is the token.
     pub number: u64,
@@ -12,7 +12,7 @@ pub struct Given {
 }
 
 /// What was asked of the pool last that is answered with a token.
-#[derive(Debug, Drop)]
+#[derive(Drop)]
 pub enum Asked {
     Nothing,
     /// A token for this user.

@@ -4,7 +4,7 @@ ghost use Rattle.std.specs.Prelude.{◌≡◌, ◌≤◌, length};
 ghost use Rattle.declare_rules.specs.Codes.{declare_code};
 
 /// Why a declaration is refused. Where several reasons hold, the first in this order is told.
-#[derive(Clone, Copy, Debug, PartialEq, Eq)]
+#[derive(Clone, Copy)]
 pub enum DeclareError {
     /// No token that the session was given when it asked for one.
     Token,

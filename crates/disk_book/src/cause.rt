@@ -9,7 +9,7 @@ use pool_history::BookError;
 use thiserror::Error;
 
 /// Why a disk gives no book that can be served on.
-#[derive(Clone, Copy, Debug, PartialEq, Eq, Error)]
+#[derive(Clone, Copy, Debug, Error)]
 pub enum NoBook {
     /// The disk failed.
     #[error("the disk failed")]

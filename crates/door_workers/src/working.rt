@@ -8,7 +8,7 @@ use pool_network::{Came, Door};
 use std::sync::Wait;
 
 /// Why a worker asked no more.
-#[derive(Clone, Copy, Debug, PartialEq, Eq)]
+#[derive(Clone, Copy)]
 pub enum DoorEnd {
     /// Nobody called for too many answers in a row.
     IdleOut,

@@ -17,7 +17,7 @@ use solo_session::{ServedBook, serve_book};
 use std::alloc::Global;
 
 /// How it ended.
-#[derive(Clone, Copy, Debug, PartialEq, Eq)]
+#[derive(Clone, Copy)]
 pub enum DiskEnd {
     /// There was no book that can be served on.
     NoBook(NoBook),

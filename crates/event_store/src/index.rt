@@ -12,7 +12,7 @@ use std::alloc::{AllocError, Global};
 use std::marker::Model;
 
 /// The marks of a history.
-#[derive(Debug, Drop)]
+#[derive(Drop)]
 pub(crate) struct Index {
     /// By the numbers of the jobs, from 1 on.
     jobs: Vec<JobMark>,

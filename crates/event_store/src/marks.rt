@@ -5,14 +5,14 @@ use pool_history::{Kind, Lead};
 use std::marker::Model;
 
 /// A job and the place of its event.
-#[derive(Clone, Copy, Debug)]
+#[derive(Clone, Copy)]
 pub(crate) struct JobPlace {
     pub number: u32,
     pub at: u64,
 }
 
 /// A job, by the place of its event, with the least time that it is told with.
-#[derive(Clone, Copy, Debug)]
+#[derive(Clone, Copy)]
 pub(crate) struct JobMark {
     pub number: u32,
     pub at: u64,
@@ -20,14 +20,14 @@ pub(crate) struct JobMark {
 }
 
 /// A template that was of the future when it came.
-#[derive(Clone, Copy, Debug)]
+#[derive(Clone, Copy)]
 pub(crate) struct FutureMark {
     pub job: JobPlace,
     pub template_id: u64,
 }
 
 /// A tip, by its place and its time.
-#[derive(Clone, Copy, Debug)]
+#[derive(Clone, Copy)]
 pub(crate) struct TipMark {
     pub at: u64,
     pub ntime: u32,
@@ -35,7 +35,7 @@ pub(crate) struct TipMark {
 
 /// A session: the place at which it was entered, its flags, the place of its last opening's mark,
 /// and the place at which it left.
-#[derive(Clone, Copy, Debug)]
+#[derive(Clone, Copy)]
 pub(crate) struct SessionMark {
     pub at: u64,
     pub flags: u32,
@@ -44,7 +44,7 @@ pub(crate) struct SessionMark {
 }
 
 /// A channel as news are made for it. A standard one's lead has four bytes.
-#[derive(Clone, Copy, Debug)]
+#[derive(Clone, Copy)]
 pub(crate) struct Listener {
     pub id: u32,
     pub kind: Kind,
@@ -75,7 +75,7 @@ impl Model for Listener {
 /// An opening: its channel and session, its place, the place of the mark of the session's opening
 /// before, the place at which the channel was closed, and how the jobs stood: the newest live one,
 /// the last tip, and the future ones from a mark to another.
-#[derive(Clone, Copy, Debug)]
+#[derive(Clone, Copy)]
 pub(crate) struct OpeningMark {
     pub listener: Listener,
     pub session: u32,

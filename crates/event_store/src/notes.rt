@@ -25,7 +25,7 @@ use sv2_types::{Blob, Hashes, U256};
 use template_jobs::template_coinbase;
 
 /// A template's job as it is told.
-#[derive(Debug, Drop)]
+#[derive(Drop)]
 pub(crate) struct ToldJob<'a> {
     pub number: u32,
     pub min_ntime: Option<u32>,
@@ -34,7 +34,7 @@ pub(crate) struct ToldJob<'a> {
 }
 
 /// What a solution says of its credit.
-#[derive(Clone, Copy, Debug)]
+#[derive(Clone, Copy)]
 pub(crate) struct SolvedShare<'a> {
     pub version: u32,
     pub ntime: u32,

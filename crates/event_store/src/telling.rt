@@ -51,7 +51,7 @@ fn is_sent_by(session: u32, events: &[Event], at: u64) -> bool
 }
 
 /// A session's news of a pool's events are told by these.
-#[derive(Clone, Copy, Debug)]
+#[derive(Clone, Copy)]
 pub(crate) struct Teller<'a> {
     pub alloc: Global,
     pub rules: &'a Rules,

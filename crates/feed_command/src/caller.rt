@@ -8,7 +8,7 @@ use stream_commands::{IDLE_TURNS, Status};
 use thiserror::Error;
 
 /// Why nobody was let in.
-#[derive(Clone, Copy, Debug, PartialEq, Eq, Error)]
+#[derive(Clone, Copy, Debug, Error)]
 pub enum NoCaller {
     #[error("nobody called for too long")]
     Idle,

@@ -10,7 +10,7 @@ use test_miner::{Script, ScriptError};
 use thiserror::Error;
 
 /// Why there is no script.
-#[derive(Clone, Copy, Debug, PartialEq, Eq, Error)]
+#[derive(Clone, Copy, Debug, Error)]
 pub enum NoScript {
     /// Its file wasn't read.
     #[error("{0}")]

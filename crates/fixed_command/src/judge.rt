@@ -12,7 +12,7 @@ use mining_msgs::SubmitSharesStandard;
 use std::alloc::{AllocError, Global};
 
 /// What a header has of the job: the hashes as they stand in the header.
-#[derive(Clone, Copy, Debug, PartialEq, Eq)]
+#[derive(Clone, Copy)]
 pub struct Job {
     /// The hash of the block before.
     pub prev_hash: [u8; 32],
@@ -41,7 +41,7 @@ impl Job {
 }
 
 /// Why a share isn't credited, by the first condition that fails.
-#[derive(Clone, Copy, Debug, PartialEq, Eq)]
+#[derive(Clone, Copy)]
 pub enum Refusal {
     /// The channel isn't 1.
     InvalidChannelId,

@@ -11,7 +11,7 @@ use stream_commands::{Stop, StreamCommand};
 use sv2_frames::{Splitter, TooLong};
 
 /// A job, and the class that its shares have to meet: 0 to 60.
-#[derive(Clone, Copy, Debug, PartialEq, Eq)]
+#[derive(Clone, Copy)]
 pub struct FixedTask {
     pub class: u8,
     pub job: Job,

@@ -19,7 +19,7 @@ pub const PAYLOAD_LEN: u32 = 24;
 pub const FRAME_LEN: usize = 30;
 
 /// What a header has of the share.
-#[derive(Clone, Copy, Debug, PartialEq, Eq)]
+#[derive(Clone, Copy)]
 pub struct Rolled {
     pub version: u32,
     pub ntime: u32,

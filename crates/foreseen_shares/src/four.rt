@@ -8,7 +8,7 @@ ghost use Rattle.foreseen_shares.specs.Foreseeing.{HaveHeaders, share_header};
 use pool_history::{Kind, Lead, Submission};
 
 /// A share that may come, and what its channel gives to its header.
-#[derive(Clone, Copy, Debug)]
+#[derive(Clone, Copy)]
 pub struct Candidate {
     pub sub: Submission,
     pub lead: Lead,

@@ -3,7 +3,7 @@
 use sv2_messages::MsgError;
 
 /// Why the first bad frame is bad.
-#[derive(Clone, Copy, Debug, PartialEq, Eq)]
+#[derive(Clone, Copy)]
 pub enum Flaw {
     /// Its payload is no message of its kind.
     Payload(MsgError),

@@ -4,7 +4,7 @@ use std::marker::Model;
 use sv2_types::{Hashes, Str255};
 
 /// The account that may spend a token, for any merkle path or for one that is fixed.
-#[derive(Debug, Drop)]
+#[derive(Drop)]
 pub struct Granted {
     pub account: Str255,
     pub fixed: bool,

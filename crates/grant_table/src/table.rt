@@ -12,7 +12,7 @@ use sv2_types::{Hashes, Str255};
 
 /// The grants that are still to be spent. Contracts see each that was made, by its number, with
 /// none where it is spent, and for how many more there is room.
-#[derive(Debug, Drop)]
+#[derive(Drop)]
 pub struct Grants {
     held: Vec<Option<Granted>>,
 }

@@ -11,7 +11,7 @@ pub const HEAD_LEN: usize = 4;
 pub const BODY_LIMIT: usize = 300_000;
 
 /// How a ledger's records stand, one behind the other.
-#[derive(Clone, Copy, Debug, PartialEq, Eq)]
+#[derive(Clone, Copy)]
 pub enum Format {
     /// Format 1: nothing between them.
     Plain,

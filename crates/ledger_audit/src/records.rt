@@ -26,7 +26,7 @@ use std::alloc::{AllocError, Global};
 const OLD_MAGIC: [u8; 8] = *b"SV2LEDG1";
 
 /// Why an audit goes no further.
-#[derive(Clone, Copy, Debug, PartialEq, Eq)]
+#[derive(Clone, Copy)]
 pub(crate) enum Halt {
     /// The ledger has a defect; never `Legal`.
     Defect(Verdict),

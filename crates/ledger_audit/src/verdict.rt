@@ -12,7 +12,7 @@ use std::alloc::AllocError;
 
 /// What an audit says of a ledger's bytes. Where a ledger has several defects, the first in the
 /// order of its bytes is told, and of a record's own first its form, then its hash, then its cause.
-#[derive(Clone, Copy, Debug, PartialEq, Eq)]
+#[derive(Clone, Copy)]
 pub enum Verdict {
     Legal,
     /// The record with a number, from 0 on, isn't legal after those before it.

@@ -17,7 +17,7 @@ use sv2_types::Blob;
 use thiserror::Error;
 
 /// Why a disk wasn't opened.
-#[derive(Clone, Copy, Debug, PartialEq, Eq, Error)]
+#[derive(Clone, Copy, Debug, Error)]
 pub enum DiskOpenError {
     #[error("the disk failed")]
     Fault,

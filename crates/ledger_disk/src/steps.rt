@@ -9,7 +9,7 @@ ghost use Rattle.ledger_disk.specs.Steps.{LogsPut, LogsTry, is_failed_put, put_f
 use disk_io::{Disk, DiskFailed};
 
 /// Why bytes weren't put, or not for sure.
-#[derive(Clone, Copy, Debug, PartialEq, Eq)]
+#[derive(Clone, Copy)]
 pub(crate) enum PutFailed {
     /// For lack of memory nothing was written.
     Unwritten,

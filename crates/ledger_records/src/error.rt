@@ -8,7 +8,7 @@ use sv2_messages::MsgError;
 use thiserror::Error;
 
 /// Why no event was read.
-#[derive(Clone, Copy, Debug, PartialEq, Eq, Error)]
+#[derive(Clone, Copy, Debug, Error)]
 pub enum RecordError {
     /// The bytes end inside of a record.
     #[error("the bytes end inside of a record")]

@@ -4,7 +4,7 @@ use pool_history::Cause;
 use thiserror::Error;
 
 /// Why an event isn't taken.
-#[derive(Clone, Copy, Debug, PartialEq, Eq, Drop, Error)]
+#[derive(Clone, Copy, Debug, Drop, Error)]
 pub enum ReplayError {
     #[error("{0}")]
     Illegal(Cause),

@@ -15,7 +15,7 @@ use std::alloc::AllocError;
 use template_jobs::Jobs;
 
 /// A share as a Credit says it.
-#[derive(Clone, Copy, Debug)]
+#[derive(Clone, Copy)]
 pub struct Credited<'a> {
     pub channel: u32,
     pub job: u32,

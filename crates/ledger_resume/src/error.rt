@@ -3,7 +3,7 @@
 use thiserror::Error;
 
 /// Why records lead to no book. A ledger's first defect is told, as an audit tells it.
-#[derive(Clone, Copy, Debug, PartialEq, Eq, Error)]
+#[derive(Clone, Copy, Debug, Error)]
 pub enum ResumeError {
     /// At a place of the bytes there is no magic of format 2, or no whole record; or they are a
     /// ledger, and the record that begins there isn't cut as it was kept.

@@ -9,7 +9,7 @@ ghost use Rattle.line_reader.specs.Reading.{TakesPiece};
 use thiserror::Error;
 
 /// A line has more than 4,096 bytes before its end.
-#[derive(Clone, Copy, Debug, PartialEq, Eq, Error)]
+#[derive(Clone, Copy, Debug, Error)]
 #[error("a line has more than 4,096 bytes")]
 pub struct LineTooLong;
 

@@ -8,7 +8,7 @@ use std::marker::Model;
 
 /// Holds what has come of the present line. All its memory is taken by `new`: a buffer of 4,097
 /// bytes, whose length never changes.
-#[derive(Debug, Drop)]
+#[derive(Drop)]
 pub struct LineReader {
     buffer: Vec<u8>,
     held: usize,

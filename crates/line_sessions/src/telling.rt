@@ -33,7 +33,7 @@ use v1_translate::{V1Session, V1Terms};
 const EXTRANONCE_LEN: u16 = 12;
 
 /// What a reply tells a session.
-#[derive(Clone, Copy, Debug)]
+#[derive(Clone, Copy)]
 pub(crate) enum Telling {
     /// The messages by which a session of frames is answered.
     Messages,

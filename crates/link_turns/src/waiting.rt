@@ -8,7 +8,7 @@ use pool_network::Link;
 use stream_commands::MOST_BYTES;
 
 /// What was waited for too long, or came too often.
-#[derive(Clone, Copy, Debug, PartialEq, Eq)]
+#[derive(Clone, Copy)]
 pub enum Limit {
     /// So many Idle turns came in a row.
     IdleOut,

@@ -12,7 +12,7 @@ use sv2_types::U256;
 
 /// Asks for a channel on which the miner rolls the header alone (Stratum V2,
 /// "OpenStandardMiningChannel").
-#[derive(Clone, Copy, Debug, PartialEq, Eq)]
+#[derive(Clone, Copy, Debug)]
 pub struct OpenStandardMiningChannel<'a> {
     pub request_id: u32,
     pub user_identity: &'a str,
@@ -57,7 +57,7 @@ pub(crate) fn read_open_standard_mining_channel<'a>(
 
 /// Opens the standard channel that a miner asked for (Stratum V2,
 /// "OpenStandardMiningChannel.Success").
-#[derive(Clone, Copy, Debug, PartialEq, Eq)]
+#[derive(Clone, Copy, Debug)]
 pub struct OpenStandardMiningChannelSuccess<'a> {
     /// The id that the request has.
     pub request_id: u32,
@@ -103,7 +103,7 @@ pub(crate) fn read_open_standard_mining_channel_success<'a>(
 }
 
 /// Refuses a channel of either kind, with an error code (Stratum V2, "OpenMiningChannel.Error").
-#[derive(Clone, Copy, Debug, PartialEq, Eq)]
+#[derive(Clone, Copy, Debug)]
 pub struct OpenMiningChannelError<'a> {
     /// The id that the request has.
     pub request_id: u32,
@@ -135,7 +135,7 @@ pub(crate) fn read_open_mining_channel_error<'a>(payload: &'a [u8]) -> Result<Mi
 
 /// Asks for a channel on which the miner rolls the coinbase too (Stratum V2,
 /// "OpenExtendedMiningChannel").
-#[derive(Clone, Copy, Debug, PartialEq, Eq)]
+#[derive(Clone, Copy, Debug)]
 pub struct OpenExtendedMiningChannel<'a> {
     pub request_id: u32,
     pub user_identity: &'a str,
@@ -184,7 +184,7 @@ pub(crate) fn read_open_extended_mining_channel<'a>(
 
 /// Opens the extended channel that a miner asked for (Stratum V2,
 /// "OpenExtendedMiningChannel.Success").
-#[derive(Clone, Copy, Debug, PartialEq, Eq)]
+#[derive(Clone, Copy, Debug)]
 pub struct OpenExtendedMiningChannelSuccess<'a> {
     /// The id that the request has.
     pub request_id: u32,
@@ -231,7 +231,7 @@ pub(crate) fn read_open_extended_mining_channel_success<'a>(
 }
 
 /// Tells the miner's new hash rate and asks for another target (Stratum V2, "UpdateChannel").
-#[derive(Clone, Copy, Debug, PartialEq, Eq)]
+#[derive(Clone, Copy, Debug)]
 pub struct UpdateChannel {
     pub channel_id: u32,
     /// Hashes a second: an IEEE 754 single, low byte first, that is carried and never read as a
@@ -269,7 +269,7 @@ pub(crate) fn read_update_channel<'a>(payload: &'a [u8]) -> Result<Mining<'a>, M
 }
 
 /// Refuses a change of a channel, with an error code (Stratum V2, "UpdateChannel.Error").
-#[derive(Clone, Copy, Debug, PartialEq, Eq)]
+#[derive(Clone, Copy, Debug)]
 pub struct UpdateChannelError<'a> {
     pub channel_id: u32,
     pub error_code: &'a str,
@@ -299,7 +299,7 @@ pub(crate) fn read_update_channel_error<'a>(payload: &'a [u8]) -> Result<Mining<
 }
 
 /// Ends a channel (Stratum V2, "CloseChannel").
-#[derive(Clone, Copy, Debug, PartialEq, Eq)]
+#[derive(Clone, Copy, Debug)]
 pub struct CloseChannel<'a> {
     pub channel_id: u32,
     pub reason_code: &'a str,
@@ -328,7 +328,7 @@ pub(crate) fn read_close_channel<'a>(payload: &'a [u8]) -> Result<Mining<'a>, Ms
 }
 
 /// The pool gives a channel another prefix of its extranonces (Stratum V2, "SetExtranoncePrefix").
-#[derive(Clone, Copy, Debug, PartialEq, Eq)]
+#[derive(Clone, Copy, Debug)]
 pub struct SetExtranoncePrefix<'a> {
     pub channel_id: u32,
     pub extranonce_prefix: &'a [u8],
@@ -361,7 +361,7 @@ pub(crate) fn read_set_extranonce_prefix<'a>(payload: &'a [u8]) -> Result<Mining
 }
 
 /// The pool gives a channel another target (Stratum V2, "SetTarget").
-#[derive(Clone, Copy, Debug, PartialEq, Eq)]
+#[derive(Clone, Copy, Debug)]
 pub struct SetTarget {
     pub channel_id: u32,
     /// A number whose low byte comes first.

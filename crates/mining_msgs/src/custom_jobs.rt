@@ -11,7 +11,7 @@ use sv2_messages::{Field, FieldReader, MsgError};
 use sv2_types::{Seq32, U256};
 
 /// Asks to mine on a job of the miner's own.
-#[derive(Clone, Copy, Debug, PartialEq, Eq)]
+#[derive(Clone, Copy, Debug)]
 pub struct SetCustomMiningJob<'a> {
     pub channel_id: u32,
     pub request_id: u32,
@@ -85,7 +85,7 @@ pub(crate) fn read_set_custom_mining_job<'a>(payload: &'a [u8]) -> Result<Mining
 }
 
 /// Accepts the job that a miner made, and gives its number.
-#[derive(Clone, Copy, Debug, PartialEq, Eq)]
+#[derive(Clone, Copy, Debug)]
 pub struct SetCustomMiningJobSuccess {
     pub channel_id: u32,
     /// The id that the request has.
@@ -124,7 +124,7 @@ pub(crate) fn read_set_custom_mining_job_success<'a>(
 }
 
 /// Refuses the job that a miner made, with an error code.
-#[derive(Clone, Copy, Debug, PartialEq, Eq)]
+#[derive(Clone, Copy, Debug)]
 pub struct SetCustomMiningJobError<'a> {
     pub channel_id: u32,
     /// The id that the request has.

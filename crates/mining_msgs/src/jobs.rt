@@ -11,7 +11,7 @@ use sv2_messages::{Field, FieldReader, MsgError};
 use sv2_types::{Seq32, U256};
 
 /// The pool gives a standard channel a job (Stratum V2, "NewMiningJob").
-#[derive(Clone, Copy, Debug, PartialEq, Eq)]
+#[derive(Clone, Copy, Debug)]
 pub struct NewMiningJob {
     pub channel_id: u32,
     pub job_id: u32,
@@ -55,7 +55,7 @@ pub(crate) fn read_new_mining_job<'a>(payload: &'a [u8]) -> Result<Mining<'a>, M
 }
 
 /// The pool gives an extended channel a job (Stratum V2, "NewExtendedMiningJob").
-#[derive(Clone, Copy, Debug, PartialEq, Eq)]
+#[derive(Clone, Copy, Debug)]
 pub struct NewExtendedMiningJob<'a> {
     pub channel_id: u32,
     pub job_id: u32,
@@ -112,7 +112,7 @@ pub(crate) fn read_new_extended_mining_job<'a>(payload: &'a [u8]) -> Result<Mini
 }
 
 /// The pool makes a future job the one on the new tip (Stratum V2, "SetNewPrevHash").
-#[derive(Clone, Copy, Debug, PartialEq, Eq)]
+#[derive(Clone, Copy, Debug)]
 pub struct SetNewPrevHash {
     pub channel_id: u32,
     pub job_id: u32,

@@ -20,7 +20,7 @@ use std::alloc::AllocError;
 use sv2_messages::{fits, kinds, put_frame};
 
 /// A common message or one of the mining protocol.
-#[derive(Clone, Copy, Debug, PartialEq, Eq)]
+#[derive(Clone, Copy, Debug)]
 pub enum Mining<'a> {
     SetupConnection(SetupConnection<'a>),
     SetupConnectionSuccess(SetupConnectionSuccess),

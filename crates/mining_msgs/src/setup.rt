@@ -10,7 +10,7 @@ use crate::message::Mining;
 use sv2_messages::{Field, FieldReader, MsgError};
 
 /// Asks for a protocol and its features (Stratum V2, "SetupConnection").
-#[derive(Clone, Copy, Debug, PartialEq, Eq)]
+#[derive(Clone, Copy, Debug)]
 pub struct SetupConnection<'a> {
     /// 0 for mining, 1 for job declaration, 2 for template distribution.
     pub protocol: u8,
@@ -68,7 +68,7 @@ pub(crate) fn read_setup_connection<'a>(payload: &'a [u8]) -> Result<Mining<'a>,
 }
 
 /// Accepts the connection (Stratum V2, "SetupConnection.Success").
-#[derive(Clone, Copy, Debug, PartialEq, Eq)]
+#[derive(Clone, Copy, Debug)]
 pub struct SetupConnectionSuccess {
     pub used_version: u16,
     /// One bit for each feature.
@@ -100,7 +100,7 @@ pub(crate) fn read_setup_connection_success<'a>(payload: &'a [u8]) -> Result<Min
 
 /// Refuses the connection; the flags are those that are not taken (Stratum V2,
 /// "SetupConnection.Error").
-#[derive(Clone, Copy, Debug, PartialEq, Eq)]
+#[derive(Clone, Copy, Debug)]
 pub struct SetupConnectionError<'a> {
     /// One bit for each feature.
     pub flags: u32,

@@ -10,7 +10,7 @@ use crate::message::Mining;
 use sv2_messages::{Field, FieldReader, MsgError};
 
 /// A share that a miner found on a standard channel (Stratum V2, "SubmitSharesStandard").
-#[derive(Clone, Copy, Debug, PartialEq, Eq)]
+#[derive(Clone, Copy, Debug)]
 pub struct SubmitSharesStandard {
     pub channel_id: u32,
     pub sequence_number: u32,
@@ -57,7 +57,7 @@ pub(crate) fn read_submit_shares_standard<'a>(payload: &'a [u8]) -> Result<Minin
 }
 
 /// A share that a miner found on an extended channel (Stratum V2, "SubmitSharesExtended").
-#[derive(Clone, Copy, Debug, PartialEq, Eq)]
+#[derive(Clone, Copy, Debug)]
 pub struct SubmitSharesExtended<'a> {
     pub channel_id: u32,
     pub sequence_number: u32,
@@ -107,7 +107,7 @@ pub(crate) fn read_submit_shares_extended<'a>(payload: &'a [u8]) -> Result<Minin
 }
 
 /// The pool credits shares up to a sequence number (Stratum V2, "SubmitShares.Success").
-#[derive(Clone, Copy, Debug, PartialEq, Eq)]
+#[derive(Clone, Copy, Debug)]
 pub struct SubmitSharesSuccess {
     pub channel_id: u32,
     pub last_sequence_number: u32,
@@ -147,7 +147,7 @@ pub(crate) fn read_submit_shares_success<'a>(payload: &'a [u8]) -> Result<Mining
 }
 
 /// The pool credits no share for this one (Stratum V2, "SubmitShares.Error").
-#[derive(Clone, Copy, Debug, PartialEq, Eq)]
+#[derive(Clone, Copy, Debug)]
 pub struct SubmitSharesError<'a> {
     pub channel_id: u32,
     pub sequence_number: u32,

@@ -16,7 +16,7 @@ use std::marker::Model;
 use sv2_types::Str255;
 
 /// What an account is paid for a block.
-#[derive(Debug, Drop)]
+#[derive(Drop)]
 pub struct Payout {
     pub account: Str255,
     /// What the account's credits count in the block.
@@ -38,7 +38,7 @@ impl Model for Payout {
 }
 
 /// The payouts of a block, in the order of the accounts' first push.
-#[derive(Debug, Drop)]
+#[derive(Drop)]
 pub struct Payouts {
     items: Vec<Payout>,
 }
@@ -76,7 +76,7 @@ impl Payouts {
 }
 
 /// How a block is settled: its reward is the payouts and what stays with the pool.
-#[derive(Debug, Drop)]
+#[derive(Drop)]
 pub struct Settlement {
     /// The pool's fee, which is a part of what stays with it.
     pub fee: u64,
@@ -97,14 +97,14 @@ impl Model for Settlement {
 }
 
 /// An account that a block may pay, and its place.
-#[derive(Debug, Drop)]
+#[derive(Drop)]
 pub(crate) struct Listed {
     place: usize,
     account: Str255,
 }
 
 /// The accounts that a block may pay, with room for a payout to each.
-#[derive(Debug, Drop)]
+#[derive(Drop)]
 pub(crate) struct Sheet {
     listed: Vec<Listed>,
     payouts: Vec<Payout>,

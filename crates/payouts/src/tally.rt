@@ -27,7 +27,7 @@ use std::marker::Model;
 use sv2_types::Str255;
 
 /// How the credits up to a block are weighed.
-#[derive(Clone, Copy, Debug)]
+#[derive(Clone, Copy)]
 pub enum Rule {
     /// By their work since the block before.
     Proportional,
@@ -85,7 +85,7 @@ impl Model for Tally {
 }
 
 /// What an account has worked, and its balance in satoshis.
-#[derive(Clone, Copy, Debug)]
+#[derive(Clone, Copy)]
 pub struct AccountSums<'a> {
     pub account: &'a str,
     pub work: u128,
@@ -93,7 +93,7 @@ pub struct AccountSums<'a> {
 }
 
 /// A push that was planned, and the settlement after it, with their memory.
-#[derive(Debug, Drop)]
+#[derive(Drop)]
 pub struct TallyPlan {
     account: String,
     work: u64,
@@ -122,7 +122,7 @@ impl Model for TallyPlan {
 }
 
 // A block that is to be settled, with the accounts that it may pay.
-#[derive(Debug, Drop)]
+#[derive(Drop)]
 struct PlannedBlock {
     reward: u64,
     fee: u16,

@@ -9,7 +9,7 @@ use crate::weights::Weights;
 use std::collections::VecDeque;
 
 /// What is in the window of a credit: the place of its account, and the part of its work.
-#[derive(Clone, Copy, Debug)]
+#[derive(Clone, Copy)]
 pub(crate) struct Kept {
     pub(crate) place: usize,
     pub(crate) part: u64,

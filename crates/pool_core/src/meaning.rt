@@ -3,7 +3,7 @@
 use pool_history::Request;
 use session_steps::About;
 
-#[derive(Debug, Drop)]
+#[derive(Drop)]
 pub(crate) enum Meaning {
     /// It asks for a setup.
     Setup {

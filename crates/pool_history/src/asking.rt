@@ -10,7 +10,7 @@ use sv2_types::{Hashes, Str255, U256};
 
 /// An opening of a channel (Stratum V2, "OpenStandardMiningChannel" and
 /// "OpenExtendedMiningChannel").
-#[derive(Debug, Drop)]
+#[derive(Drop)]
 pub struct OpenAsk {
     pub kind: Kind,
     /// The user; its account is the part before the first point.
@@ -22,7 +22,7 @@ pub struct OpenAsk {
 }
 
 /// One request of a worker.
-#[derive(Debug, Drop)]
+#[derive(Drop)]
 pub enum Request {
     /// A session begins, with the flags of its setup.
     Enter(Role, u32),

@@ -5,7 +5,7 @@ use std::marker::Model;
 
 /// A value on the heap, which contracts see as the value. An event has its large parts behind one,
 /// so that a list of events doesn't carry the room of the largest kind for each.
-#[derive(Debug, Drop)]
+#[derive(Drop)]
 pub struct Boxed<T> {
     inner: Box<T>,
 }

@@ -4,7 +4,7 @@ use crate::refusals::Failed;
 use thiserror::Error;
 
 /// The cause of the first condition of an event that is false. An auditor prints these words.
-#[derive(Clone, Copy, Debug, PartialEq, Eq, Drop, Error)]
+#[derive(Clone, Copy, Debug, Drop, Error)]
 pub enum Cause {
     #[error("bad-start")]
     BadStart,

@@ -6,7 +6,7 @@ use crate::templates::{CustomData, TemplateData, TipData};
 use sv2_types::{Blob, Hashes, Str255};
 
 /// What a session may do.
-#[derive(Clone, Copy, Debug, PartialEq, Eq)]
+#[derive(Clone, Copy)]
 pub enum Role {
     /// A miner, which opens channels and submits shares.
     Miner,
@@ -17,7 +17,7 @@ pub enum Role {
 }
 
 /// The kind of a channel (Stratum V2, "Channels").
-#[derive(Clone, Copy, Debug, PartialEq, Eq)]
+#[derive(Clone, Copy)]
 pub enum Kind {
     /// Its extranonce is fixed, and its miner rolls none of it.
     Standard,
@@ -28,7 +28,7 @@ pub enum Kind {
 }
 
 /// Where a job stands.
-#[derive(Clone, Copy, Debug, PartialEq, Eq)]
+#[derive(Clone, Copy)]
 pub enum JobState {
     Unknown,
     Future,
@@ -37,7 +37,7 @@ pub enum JobState {
 }
 
 /// One event of a history. Sessions, channels, jobs and grants go by their numbers.
-#[derive(Debug, Drop)]
+#[derive(Drop)]
 pub enum Event {
     /// The rules of the pool, which stand first and once.
     Start(Boxed<Rules>),

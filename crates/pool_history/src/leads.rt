@@ -4,7 +4,7 @@ use std::marker::Model;
 
 /// The bytes that each extranonce of a channel begins with, one to four of them. Contracts see the
 /// list.
-#[derive(Clone, Copy, Debug)]
+#[derive(Clone, Copy)]
 pub struct Lead {
     len: u8,
     bytes: [u8; 4],

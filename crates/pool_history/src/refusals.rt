@@ -4,7 +4,7 @@ use coinbase::{AssemblyError, OutputsError};
 use thiserror::Error;
 
 /// The conditions of a share that can fail, in their order.
-#[derive(Clone, Copy, Debug, PartialEq, Eq, Drop, Error)]
+#[derive(Clone, Copy, Debug, Drop, Error)]
 pub enum Failed {
     #[error("invalid-channel-id")]
     Channel,
@@ -27,7 +27,7 @@ pub enum Failed {
 }
 
 /// Why a template or a tip is refused.
-#[derive(Clone, Copy, Debug, PartialEq, Eq, Drop, Error)]
+#[derive(Clone, Copy, Debug, Drop, Error)]
 pub enum JobError {
     #[error("{0} templates were accepted, which is the most")]
     TooMany(u32),
@@ -44,7 +44,7 @@ pub enum JobError {
 }
 
 /// Why a channel isn't opened.
-#[derive(Clone, Copy, Debug, PartialEq, Eq, Drop, Error)]
+#[derive(Clone, Copy, Debug, Drop, Error)]
 pub enum OpenError {
     #[error("unknown-user")]
     UnknownUser,
@@ -61,7 +61,7 @@ pub enum OpenError {
 }
 
 /// Why a channel doesn't get an account.
-#[derive(Clone, Copy, Debug, PartialEq, Eq, Drop, Error)]
+#[derive(Clone, Copy, Debug, Drop, Error)]
 pub enum NameError {
     #[error("the channel isn't open in this session")]
     NotOpen,
@@ -74,7 +74,7 @@ pub enum NameError {
 }
 
 /// Why a channel's class isn't set.
-#[derive(Clone, Copy, Debug, PartialEq, Eq, Drop, Error)]
+#[derive(Clone, Copy, Debug, Drop, Error)]
 pub enum UpdateError {
     #[error("invalid-channel-id")]
     NotOpen,
@@ -83,7 +83,7 @@ pub enum UpdateError {
 }
 
 /// Why a token isn't granted.
-#[derive(Clone, Copy, Debug, PartialEq, Eq, Drop, Error)]
+#[derive(Clone, Copy, Debug, Drop, Error)]
 pub enum GrantError {
     #[error("the account isn't known")]
     UnknownUser,
@@ -94,7 +94,7 @@ pub enum GrantError {
 }
 
 /// Why a miner's own job is refused.
-#[derive(Clone, Copy, Debug, PartialEq, Eq, Drop, Error)]
+#[derive(Clone, Copy, Debug, Drop, Error)]
 pub enum CustomError {
     #[error("invalid-channel-id")]
     NotOpen,
@@ -111,7 +111,7 @@ pub enum CustomError {
 }
 
 /// Why a request of a book isn't answered; the book is then as before.
-#[derive(Clone, Copy, Debug, PartialEq, Eq, Drop, Error)]
+#[derive(Clone, Copy, Debug, Drop, Error)]
 pub enum BookError {
     #[error("the keeper failed")]
     KeeperFault,

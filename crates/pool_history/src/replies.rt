@@ -10,7 +10,7 @@ use std::marker::Model;
 use sv2_types::Blob;
 
 /// A class that has a target: at most 60. Contracts see the number.
-#[derive(Clone, Copy, Debug)]
+#[derive(Clone, Copy)]
 pub struct Class {
     class: u8,
 }
@@ -46,7 +46,7 @@ impl Class {
 }
 
 /// The number of a session: below 2^22. Contracts see the number.
-#[derive(Clone, Copy, Debug)]
+#[derive(Clone, Copy)]
 pub struct SessionNumber {
     number: u32,
 }
@@ -82,7 +82,7 @@ impl SessionNumber {
 }
 
 /// An output script of 1 to 100 bytes. Contracts see the bytes.
-#[derive(Debug, Drop)]
+#[derive(Drop)]
 pub struct Script {
     bytes: Blob,
 }
@@ -119,7 +119,7 @@ impl Script {
 }
 
 /// What an opening gives.
-#[derive(Clone, Copy, Debug)]
+#[derive(Clone, Copy)]
 pub struct Opened {
     pub channel: u32,
     pub class: Class,
@@ -127,7 +127,7 @@ pub struct Opened {
 }
 
 /// The answer to a request. The refusals in it are never for lack of memory.
-#[derive(Debug, Drop)]
+#[derive(Drop)]
 pub enum Reply {
     /// The session's number.
     Entered(SessionNumber),

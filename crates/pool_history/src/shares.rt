@@ -13,7 +13,7 @@ use std::sync::Arc;
 use sv2_types::Hashes;
 
 /// A share as it was submitted (Stratum V2, "SubmitSharesStandard" and "SubmitSharesExtended").
-#[derive(Clone, Copy, Debug)]
+#[derive(Clone, Copy)]
 pub struct Submission {
     /// Standard exactly where the message is SubmitSharesStandard.
     pub kind: Kind,
@@ -32,7 +32,7 @@ pub struct Submission {
 
 /// What a job gives to the merkle root of a header: its coinbase, which lacks its extranonce, and its
 /// merkle path.
-#[derive(Debug, Drop)]
+#[derive(Drop)]
 pub struct RootSource {
     pub coinbase: Assembly,
     pub path: Hashes,
@@ -40,7 +40,7 @@ pub struct RootSource {
 
 /// What an open channel, a live job and the last tip give to a header. Contracts see it as a record of
 /// these.
-#[derive(Debug, Drop)]
+#[derive(Drop)]
 pub struct Brief {
     /// Shared with the job.
     pub root: Arc<RootSource, Global>,
@@ -69,7 +69,7 @@ impl Model for Brief {
 }
 
 /// A submission with its header and that header's hash.
-#[derive(Debug, Drop)]
+#[derive(Drop)]
 pub struct Checked {
     pub brief: Brief,
     pub sub: Submission,

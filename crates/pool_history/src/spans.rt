@@ -2,7 +2,7 @@
 
 /// Bounds of the places of the history since which the live jobs are live: none is below `oldest`,
 /// and none above `newest`.
-#[derive(Clone, Copy, Debug)]
+#[derive(Clone, Copy)]
 pub struct LiveSpan {
     pub oldest: u64,
     pub newest: u64,

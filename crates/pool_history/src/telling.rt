@@ -8,7 +8,7 @@ use std::marker::Model;
 use sv2_types::{Blob, Hashes, U256};
 
 /// One message that is owed to a session, with its fields in owned form.
-#[derive(Debug, Drop)]
+#[derive(Drop)]
 pub enum Note {
     /// Stratum V2, "NewExtendedMiningJob".
     Extended {
@@ -48,7 +48,7 @@ pub enum Note {
 }
 
 /// Owned notes, each of which fits its message. Contracts see them as a list.
-#[derive(Debug, Drop)]
+#[derive(Drop)]
 pub struct Notes {
     items: Vec<Note>,
 }

@@ -5,7 +5,7 @@ ghost use Rattle.std.specs.Prelude.{◌≤◌, length};
 use sv2_types::{Blob, Hashes, U256};
 
 /// A template (Stratum V2, "NewTemplate").
-#[derive(Debug, Drop)]
+#[derive(Drop)]
 pub struct TemplateData {
     pub template_id: u64,
     pub future_template: bool,
@@ -23,7 +23,7 @@ pub struct TemplateData {
 }
 
 /// A tip (Stratum V2, "SetNewPrevHash" of the template distribution protocol).
-#[derive(Clone, Copy, Debug)]
+#[derive(Clone, Copy)]
 pub struct TipData {
     pub template_id: u64,
     pub prev_hash: U256,
@@ -35,7 +35,7 @@ pub struct TipData {
 
 /// A miner's own job (this project's form of Stratum V2, "SetCustomMiningJob"), without the number
 /// of its request.
-#[derive(Debug, Drop)]
+#[derive(Drop)]
 pub struct CustomData {
     pub channel_id: u32,
     pub token: Blob,

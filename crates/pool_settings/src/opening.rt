@@ -13,7 +13,7 @@ use thiserror::Error;
 const MOST_BYTES: u64 = 65_536;
 
 /// Why there are no settings.
-#[derive(Clone, Copy, Debug, PartialEq, Eq, Error)]
+#[derive(Clone, Copy, Debug, Error)]
 pub enum NoSettings {
     /// The host didn't open the file.
     #[error("{0}")]

@@ -21,7 +21,7 @@ pub struct Settings {
 }
 
 /// Why there are no settings.
-#[derive(Clone, Copy, Debug, PartialEq, Eq, Drop, Error)]
+#[derive(Clone, Copy, Debug, Drop, Error)]
 pub enum SettingsError {
     #[error("these are no settings")]
     Bad,

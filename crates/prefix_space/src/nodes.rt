@@ -11,7 +11,7 @@ use std::sync::ledger::Ledger;
 /// A row for each length that a lead may have: where the leads of so many bytes are all taken that
 /// begin with the node's prefix and a byte, the byte's bit is set. The rows of the lengths up to
 /// that of the prefix stay empty.
-#[derive(Clone, Copy, Debug)]
+#[derive(Clone, Copy)]
 pub(crate) struct Node {
     rows: [Row; 4],
 }

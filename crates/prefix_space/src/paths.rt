@@ -8,7 +8,7 @@ use pool_history::Lead;
 use std::marker::Model;
 
 /// A string of at most four bytes. Contracts see the list.
-#[derive(Clone, Copy, Debug)]
+#[derive(Clone, Copy)]
 pub(crate) struct Path {
     len: u8,
     bytes: [u8; 4],

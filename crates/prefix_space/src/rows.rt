@@ -44,7 +44,7 @@ impl<L: Ledger> Steps<L> {
 }
 
 /// A bit for each byte.
-#[derive(Clone, Copy, Debug)]
+#[derive(Clone, Copy)]
 pub(crate) struct Row {
     words: [u64; 4],
 }

@@ -12,7 +12,7 @@ use std::sync::ledger::{Blank, Ledger};
 use thiserror::Error;
 
 /// Why no lead is taken.
-#[derive(Clone, Copy, Debug, PartialEq, Eq, Drop, Error)]
+#[derive(Clone, Copy, Debug, Drop, Error)]
 pub enum SpaceError {
     #[error("no lead of this length is free")]
     NoSpace,
@@ -22,7 +22,7 @@ pub enum SpaceError {
 
 /// Held leads, of which none begins another. Contracts see them in whatever order, and how many
 /// more there is room for.
-#[derive(Debug, Drop)]
+#[derive(Drop)]
 pub struct Space {
     held: IndexSet<u64>,
     nodes: IndexMap<u32, Node>,

@@ -48,7 +48,7 @@ impl SentOn {
 }
 
 /// What the upstream says of submissions.
-#[derive(Clone, Copy, Debug)]
+#[derive(Clone, Copy)]
 pub(crate) enum Verdict<'a> {
     /// Those up to this number are taken.
     UpTo(u32),

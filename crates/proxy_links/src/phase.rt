@@ -8,7 +8,7 @@ ghost use Rattle.proxy_links.specs.Frames.{is_fit_size, next_phase, phase_by_ope
 use mining_msgs::Mining;
 
 /// How far an upstream has come.
-#[derive(Clone, Copy, Debug, PartialEq, Eq)]
+#[derive(Clone, Copy)]
 pub enum UpPhase {
     /// Its first message is waited for, which has to accept the setup with version 2.
     Unset,

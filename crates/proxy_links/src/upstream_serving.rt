@@ -20,7 +20,7 @@ use sv2_frames::Splitter;
 const MOST_PAYLOAD: u32 = 262_144;
 
 /// How an upstream's link ended, and how far the upstream had come.
-#[derive(Clone, Copy, Debug, PartialEq, Eq)]
+#[derive(Clone, Copy)]
 pub struct UpstreamEnd {
     pub end: SessionEnd,
     pub phase: UpPhase,

@@ -4,7 +4,7 @@ use sv2_types::{Blob, Str255};
 
 /// What became of a proxy: its start, and what it was brought. The number of the last three is the
 /// caller's.
-#[derive(Debug, Drop)]
+#[derive(Drop)]
 pub enum ProxyEvent {
     /// The user that the channel is opened for, and the class whose difficulty is shown as 1.
     Start(Str255, u8),

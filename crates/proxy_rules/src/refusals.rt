@@ -4,7 +4,7 @@ ghost use Rattle.std.specs.Prelude.{◌≡◌};
 ghost use Rattle.proxy_rules.specs.Refusals.{code_of};
 
 /// Why a proxy refuses a subscribe or a submission.
-#[derive(Clone, Copy, Debug, PartialEq, Eq)]
+#[derive(Clone, Copy)]
 pub enum ProxyRefusal {
     /// No channel is open that serves, or it is no more.
     NoUpstream,

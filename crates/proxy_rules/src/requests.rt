@@ -3,7 +3,7 @@
 use sv2_types::Blob;
 
 /// What is asked of a proxy, by a caller with a number.
-#[derive(Debug, Drop)]
+#[derive(Drop)]
 pub enum ProxyRequest {
     /// The bytes of a frame of the upstream.
     Up(Blob),
@@ -17,7 +17,7 @@ pub enum ProxyRequest {
     Poll(u64),
 }
 
-#[derive(Debug, Drop)]
+#[derive(Drop)]
 pub enum ProxyReply {
     Taken,
     /// A line, or a leaving, of who isn't joined.

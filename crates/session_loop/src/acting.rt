@@ -7,7 +7,7 @@ ghost use Rattle.session_loop.specs.Answerers.{MakesCall, RollsAsBriefed};
 use pool_history::{BookError, Reply, Request};
 
 /// What became of a request: how many events were before it, and its reply or its fault.
-#[derive(Debug, Drop)]
+#[derive(Drop)]
 pub struct Acted {
     pub front: u64,
     pub outcome: Result<Reply, BookError>,

@@ -3,7 +3,7 @@
 use pool_history::{Kind, Submission};
 
 /// What an answer needs of the message that it answers.
-#[derive(Clone, Copy, Debug)]
+#[derive(Clone, Copy)]
 pub enum About {
     /// No answer needs anything.
     Nothing,

@@ -3,7 +3,7 @@
 use pool_history::Role;
 
 /// How sessions are held.
-#[derive(Clone, Copy, Debug, PartialEq, Eq)]
+#[derive(Clone, Copy)]
 pub struct Manner {
     pub role: Role,
     /// Whether versions may be rolled.

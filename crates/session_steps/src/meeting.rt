@@ -4,7 +4,7 @@ use pool_history::Request;
 use sv2_types::Blob;
 
 /// Why a setup is refused. Where several reasons hold, the first in this order is told.
-#[derive(Clone, Copy, Debug, PartialEq, Eq)]
+#[derive(Clone, Copy)]
 pub enum SetupCode {
     /// It is no mining connection.
     Protocol,
@@ -15,7 +15,7 @@ pub enum SetupCode {
 }
 
 /// What a session makes of a frame.
-#[derive(Debug, Drop)]
+#[derive(Drop)]
 pub enum Step {
     /// It isn't taken.
     Ignore,

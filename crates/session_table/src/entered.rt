@@ -4,7 +4,7 @@ use pool_history::Role;
 use std::marker::Model;
 
 /// A session's worker, its role and the flags of its setup.
-#[derive(Clone, Copy, Debug)]
+#[derive(Clone, Copy)]
 pub struct Entered {
     pub worker: u32,
     pub role: Role,

@@ -11,7 +11,7 @@ use std::marker::Model;
 
 /// What each session was entered with, and which of them are present. Contracts see the sessions
 /// in the order of their numbers, and for how many more there is room.
-#[derive(Debug, Drop)]
+#[derive(Drop)]
 pub struct Sessions {
     entrances: Vec<Entered>,
     /// Each worker's present session.

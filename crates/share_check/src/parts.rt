@@ -7,7 +7,7 @@ use std::sync::Arc;
 
 /// What one open channel, one live job and the last tip give to a header. A standard channel's lead has four
 /// bytes. Contracts see it as they see a `Brief`.
-#[derive(Debug, Drop)]
+#[derive(Drop)]
 pub struct Parts<'a> {
     /// The job's own.
     pub root: &'a Arc<RootSource, Global>,

@@ -8,7 +8,7 @@ use pool_history::{Class, Failed, Rules};
 use sv2_types::U256;
 
 /// What is booked of a share that meets the nine conditions.
-#[derive(Clone, Copy, Debug)]
+#[derive(Clone, Copy)]
 pub struct Passed {
     pub header: [u8; 80],
     /// Whether its hash is at most the last tip's target.

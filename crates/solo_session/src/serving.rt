@@ -19,7 +19,7 @@ use share_ledger::Book;
 use std::alloc::Global;
 
 /// How it ended.
-#[derive(Clone, Copy, Debug, PartialEq, Eq)]
+#[derive(Clone, Copy)]
 pub enum SoloEnd {
     /// The first record wasn't kept, so no session began.
     Unbegun(BookError),

@@ -6,7 +6,7 @@ ghost use Rattle.stream_commands.specs.Duties.{Duty, IsSoundDuty, RefusesWithin}
 use std::alloc::{AllocError, Global};
 
 /// Why a command goes no further.
-#[derive(Clone, Copy, Debug, PartialEq, Eq)]
+#[derive(Clone, Copy)]
 pub enum Stop {
     /// The input is refused; the text says so, where the command has words for it.
     Refused,

@@ -1,7 +1,7 @@
 //! How a command over a stream ends.
 
 /// How a run from a source to a sink ended.
-#[derive(Clone, Copy, Debug, PartialEq, Eq)]
+#[derive(Clone, Copy)]
 pub enum End {
     /// The input was read to its end, and it was whole.
     Done,

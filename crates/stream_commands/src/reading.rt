@@ -14,7 +14,7 @@ use std::marker::Model;
 use thiserror::Error;
 
 /// Bytes that were read to their end. Contracts see them as a list.
-#[derive(Debug, Drop)]
+#[derive(Drop)]
 pub struct Contents {
     bytes: Vec<u8>,
 }
@@ -36,7 +36,7 @@ impl Contents {
 }
 
 /// Why not all of an input was read.
-#[derive(Clone, Copy, Debug, PartialEq, Eq, Error)]
+#[derive(Clone, Copy, Debug, Error)]
 pub enum Unread {
     /// More bytes came than the limit.
     #[error("there are too many bytes")]

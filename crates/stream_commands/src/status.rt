@@ -7,7 +7,7 @@ use crate::End;
 use pool_io::HostError;
 
 /// What the program ends with.
-#[derive(Clone, Copy, Debug, PartialEq, Eq)]
+#[derive(Clone, Copy)]
 pub enum Status {
     /// The command did its work, and read its input to the end.
     Done,

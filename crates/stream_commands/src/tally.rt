@@ -1,7 +1,7 @@
 //! How far a reading has come towards its limits.
 
 /// What was taken so far.
-#[derive(Clone, Copy, Debug, PartialEq, Eq)]
+#[derive(Clone, Copy)]
 pub struct Tally {
     /// The bytes that were taken.
     pub taken: u64,

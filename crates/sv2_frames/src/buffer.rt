@@ -9,7 +9,7 @@ use sv2_types::Reader;
 use thiserror::Error;
 
 /// A header says a payload of this many bytes, which is over the limit.
-#[derive(Clone, Copy, Debug, PartialEq, Eq, Error)]
+#[derive(Clone, Copy, Debug, Error)]
 #[error("a header says a payload of {0} bytes, over the limit")]
 pub struct TooLong(pub u32);
 
@@ -17,7 +17,7 @@ pub struct TooLong(pub u32);
 pub(crate) const HEADER_LEN: usize = 6;
 
 /// A frame's header. Bit 15 of the extension type is the channel bit, which is not tested here.
-#[derive(Clone, Copy, Debug, PartialEq, Eq)]
+#[derive(Clone, Copy, Debug)]
 pub struct FrameHeader {
     /// The extension type.
     pub ext: u16,

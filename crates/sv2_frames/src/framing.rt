@@ -8,7 +8,7 @@ use std::alloc::AllocError;
 
 /// One frame of a stream. Bit 15 of the extension type is the channel bit, which is not tested
 /// here.
-#[derive(Clone, Copy, Debug, PartialEq, Eq)]
+#[derive(Clone, Copy, Debug)]
 pub struct Frame<'a> {
     /// The extension type.
     pub ext: u16,

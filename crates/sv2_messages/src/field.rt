@@ -15,7 +15,7 @@ use sv2_types::{
 };
 
 /// A field's type and its value (Stratum V2, "Data Types Mapping").
-#[derive(Clone, Copy, Debug)]
+#[derive(Clone, Copy)]
 pub enum Field<'a> {
     U8(u8),
     U16(u16),

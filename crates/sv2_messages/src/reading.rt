@@ -10,7 +10,7 @@ use std::marker::Model;
 use sv2_types::{Reader, Seq32, SeqBytes, SeqU16, U256};
 
 /// Reads the fields of a payload, and counts them, so that a defect is told with its place.
-#[derive(Debug, Drop)]
+#[derive(Drop)]
 pub struct FieldReader<'a> {
     rest: &'a [u8],
     place: usize,

@@ -6,7 +6,7 @@ use std::marker::Model;
 
 /// 32 bytes in the order in which they stand in a header or a message; as a number the first byte
 /// is the lowest (Stratum V2, U256).
-#[derive(Clone, Copy, Debug, PartialEq, Eq)]
+#[derive(Clone, Copy, Debug)]
 pub struct U256 {
     bytes: [u8; 32],
 }

@@ -11,7 +11,7 @@ use crate::error::ReadError;
 use crate::little_endian::{said_u16, said_u24};
 
 /// At most 65,535 items of 32 bytes (Stratum V2, SEQ0_255[U256] and SEQ0_64K[U256]).
-#[derive(Clone, Copy, Debug, PartialEq, Eq)]
+#[derive(Clone, Copy, Debug)]
 pub struct Seq32<'a> {
     /// The items, as they lie in the input.
     pub items: &'a [[u8; 32]],
@@ -38,7 +38,7 @@ impl<'a> Seq32<'a> {
 }
 
 /// At most 65,535 numbers, each spelled in two bytes, low byte first (Stratum V2, SEQ0_64K[U16]).
-#[derive(Clone, Copy, Debug, PartialEq, Eq)]
+#[derive(Clone, Copy, Debug)]
 pub struct SeqU16<'a> {
     /// Two bytes for each number.
     pub spelled: &'a [u8],
@@ -89,7 +89,7 @@ impl<'a> SeqU16<'a> {
 
 /// At most 65,535 byte strings, each spelled behind three bytes of length (Stratum V2,
 /// SEQ0_64K[B0_16M]).
-#[derive(Clone, Copy, Debug, PartialEq, Eq)]
+#[derive(Clone, Copy, Debug)]
 pub struct SeqBytes<'a> {
     /// The byte strings, each behind its length.
     pub spelled: &'a [u8],

@@ -9,7 +9,7 @@ use std::marker::Model;
 use std::sync::Arc;
 
 /// What a job is made from, what it gives to a root, and its reward.
-#[derive(Debug, Drop)]
+#[derive(Drop)]
 pub(crate) struct JobContent {
     origin: Origin,
     /// The coinbase and the merkle path, which the briefs of the job share.

@@ -7,7 +7,7 @@ use std::marker::Model;
 use std::sync::Arc;
 
 /// A job that is future or live.
-#[derive(Debug, Drop)]
+#[derive(Drop)]
 pub struct Job {
     number: u32,
     session: u32,

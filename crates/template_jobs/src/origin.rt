@@ -3,7 +3,7 @@
 use pool_history::{CustomData, TemplateData};
 
 /// A template, or what a miner brings.
-#[derive(Debug, Drop)]
+#[derive(Drop)]
 pub(crate) enum Origin {
     Template(TemplateData),
     Miner(CustomData),
@@ -11,7 +11,7 @@ pub(crate) enum Origin {
 
 /// The list that a job joins: that of the future ones, of the live ones of templates, or of the
 /// miners' own, with the channel that it is for.
-#[derive(Clone, Copy, Debug)]
+#[derive(Clone, Copy)]
 pub(crate) enum Shelf {
     Future,
     Live,

@@ -7,7 +7,7 @@ ghost use Rattle.history_laws.specs.KeptJobs.{is_others};
 ghost use Rattle.template_jobs.specs.Owners.{AreRising, own_job};
 
 /// The number of a miner's own job, and the channel that it is for.
-#[derive(Clone, Copy, Debug)]
+#[derive(Clone, Copy)]
 pub(crate) struct Owner {
     pub job: u32,
     pub channel: u32,

@@ -17,7 +17,7 @@ use std::mem;
 /// The jobs that are future or live, the last tip, how many jobs there were, and whose each miner's
 /// own job is. Contracts see these, bounds of the places since which jobs are live, and for how many
 /// more jobs there is room.
-#[derive(Debug, Drop)]
+#[derive(Drop)]
 pub struct Jobs {
     alloc: Global,
     count: u32,
@@ -57,7 +57,7 @@ impl Model for Jobs {
 }
 
 /// A job that was planned, with its memory.
-#[derive(Debug, Drop)]
+#[derive(Drop)]
 pub struct JobPlan {
     session: u32,
     at: u64,

@@ -13,7 +13,7 @@ use std::alloc::AllocError;
 use sv2_messages::{fits, kinds, put_frame};
 
 /// A message of the template distribution protocol.
-#[derive(Clone, Copy, Debug, PartialEq, Eq)]
+#[derive(Clone, Copy, Debug)]
 pub enum Template<'a> {
     CoinbaseOutputConstraints(CoinbaseOutputConstraints),
     NewTemplate(NewTemplate<'a>),

@@ -12,7 +12,7 @@ use sv2_types::{Seq32, U256};
 
 /// Tells the template provider how much room the pool's outputs want (Stratum V2,
 /// "CoinbaseOutputConstraints").
-#[derive(Clone, Copy, Debug, PartialEq, Eq)]
+#[derive(Clone, Copy, Debug)]
 pub struct CoinbaseOutputConstraints {
     /// Bytes that the pool's outputs may add to the coinbase.
     pub max_additional_size: u32,
@@ -50,7 +50,7 @@ pub(crate) fn read_coinbase_output_constraints<'a>(
 
 /// The template provider gives a block to be mined, but for its coinbase (Stratum V2,
 /// "NewTemplate").
-#[derive(Clone, Copy, Debug, PartialEq, Eq)]
+#[derive(Clone, Copy, Debug)]
 pub struct NewTemplate<'a> {
     pub template_id: u64,
     pub future_template: bool,
@@ -117,7 +117,7 @@ pub(crate) fn read_new_template<'a>(payload: &'a [u8]) -> Result<Template<'a>, M
 
 /// The template provider makes a future template the one on the new tip (Stratum V2,
 /// "SetNewPrevHash").
-#[derive(Clone, Copy, Debug, PartialEq, Eq)]
+#[derive(Clone, Copy, Debug)]
 pub struct SetNewPrevHash {
     pub template_id: u64,
     /// 32 bytes as they stand in a block header.
@@ -163,7 +163,7 @@ pub(crate) fn read_set_new_prev_hash<'a>(payload: &'a [u8]) -> Result<Template<'
 }
 
 /// Brings the template provider a block that was found (Stratum V2, "SubmitSolution").
-#[derive(Clone, Copy, Debug, PartialEq, Eq)]
+#[derive(Clone, Copy, Debug)]
 pub struct SubmitSolution<'a> {
     pub template_id: u64,
     /// The block header's version.

@@ -11,7 +11,7 @@ use sv2_messages::{Field, FieldReader, MsgError};
 use sv2_types::SeqBytes;
 
 /// Asks the template provider for a template's transactions (Stratum V2, "RequestTransactionData").
-#[derive(Clone, Copy, Debug, PartialEq, Eq)]
+#[derive(Clone, Copy, Debug)]
 pub struct RequestTransactionData {
     pub template_id: u64,
 }
@@ -39,7 +39,7 @@ pub(crate) fn read_request_transaction_data<'a>(payload: &'a [u8]) -> Result<Tem
 }
 
 /// Brings a template's transactions (Stratum V2, "RequestTransactionData.Success").
-#[derive(Clone, Copy, Debug, PartialEq, Eq)]
+#[derive(Clone, Copy, Debug)]
 pub struct RequestTransactionDataSuccess<'a> {
     pub template_id: u64,
     pub excess_data: &'a [u8],
@@ -79,7 +79,7 @@ pub(crate) fn read_request_transaction_data_success<'a>(
 
 /// Refuses a template's transactions, with an error code (Stratum V2,
 /// "RequestTransactionData.Error").
-#[derive(Clone, Copy, Debug, PartialEq, Eq)]
+#[derive(Clone, Copy, Debug)]
 pub struct RequestTransactionDataError<'a> {
     pub template_id: u64,
     pub error_code: &'a str,

@@ -35,7 +35,7 @@ const REQUEST: u32 = 1;
 const NUMBERS: u64 = 1 << 32;
 
 /// How a miner ends, and how many of its submissions were credited.
-#[derive(Clone, Copy, Debug, PartialEq, Eq)]
+#[derive(Clone, Copy)]
 pub enum MinerEnd {
     /// As many as were wanted.
     Mined(u32),

@@ -30,7 +30,7 @@ use sv2_messages::kinds;
 use template_msgs::{SubmitSolution, Template};
 
 /// How a feed ends.
-#[derive(Clone, Copy, Debug, PartialEq, Eq)]
+#[derive(Clone, Copy)]
 pub enum FeedEnd {
     /// Its caller said no more.
     Done,
@@ -40,7 +40,7 @@ pub enum FeedEnd {
 }
 
 /// What came of a solution.
-#[derive(Clone, Copy, Debug, PartialEq, Eq)]
+#[derive(Clone, Copy)]
 pub struct Verdict {
     /// The template that it names.
     pub id: u64,

@@ -24,7 +24,7 @@ use thiserror::Error;
 const MOST_LEN: usize = 0xff_ffff;
 
 /// Why bytes are no script.
-#[derive(Clone, Copy, Debug, PartialEq, Eq, Error)]
+#[derive(Clone, Copy, Debug, Error)]
 pub enum ScriptError {
     /// The frame of this number, from 0, is no whole frame of a template or a tip.
     #[error("frame {0} of the script is no template and no tip")]

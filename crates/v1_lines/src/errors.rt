@@ -4,7 +4,7 @@ ghost use Rattle.std.specs.Prelude.{◌≡◌};
 ghost use Rattle.v1_lines.specs.Errors.{error_for_code, error_number, error_text};
 
 /// Why a request is refused.
-#[derive(Clone, Copy, Debug, PartialEq, Eq)]
+#[derive(Clone, Copy)]
 pub enum V1Error {
     MalformedRequest,
     UnknownMethod,

@@ -3,7 +3,7 @@
 use sv2_types::Str255;
 
 /// What a session makes of a line, beside the lines that it says.
-#[derive(Debug, Drop)]
+#[derive(Drop)]
 pub enum V1Step {
     /// Nothing is asked of the pool.
     Said,

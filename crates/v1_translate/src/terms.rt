@@ -8,7 +8,7 @@ use std::marker::Model;
 use sv2_types::{Blob, Str255};
 
 /// The rules of a pool, and the class whose difficulty is shown as 1 (`v1_base`).
-#[derive(Debug, Drop)]
+#[derive(Drop)]
 pub struct V1Terms {
     rules: Rules,
     base: u8,
