@@ -31,7 +31,7 @@ TIP = bytes.fromhex("0000725000000500000000000000" + "11" * 32 + "40420f00ffff7f
 SET_UP, OPENED, JOB = 12, 53, 88 + 54
 # The same by Stratum V1, where a channel always rolls eight bytes, and how many lines answer it.
 JOINING = b"""{"id":1,"method":"mining.configure","params":[["version-rolling"],{"version-rolling.mask":"1fffe000"}]}
-{"id":2,"method":"mining.subscribe","params":["bench-serve.sh"]}
+{"id":2,"method":"mining.subscribe","params":["bench/serve.sh"]}
 {"id":3,"method":"mining.authorize","params":["a.rig","x"]}
 """
 JOINED = 4

@@ -30,7 +30,7 @@ JOB_TIP = bytes.fromhex("0080203000000100000001000000" + "11" * 32 + "40420f00ff
 GREETING, SETUP, OPENING, SHARE = 22 + 12, 22, 50, 39
 # A miner's joining, which five lines answer: three answers, the difficulty and the job.
 JOINING = b"""{"id":1,"method":"mining.configure","params":[["version-rolling"],{"version-rolling.mask":"1fffe000"}]}
-{"id":2,"method":"mining.subscribe","params":["bench-proxy.sh"]}
+{"id":2,"method":"mining.subscribe","params":["bench/proxy.sh"]}
 {"id":3,"method":"mining.authorize","params":["a.rig","x"]}
 """
 MINERS, ROUNDS = 2, 3
