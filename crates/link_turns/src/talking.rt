@@ -205,7 +205,7 @@ fn begin<L: Link, P: Partner>(
 
 /// Tells a partner the turns of a link, and puts what it says: its first words, and then what it
 /// says to each turn, before the next one is taken and before a limit ends the talk. The limits are
-/// so many Idle turns in a row, and `MOST_BYTES` bytes.
+/// so many Idle turns in a row, and `MOST_BYTES` bytes. Behind the end the link is hung up.
 pub fn talk<L: Link, P: Partner>(
     alloc: Global,
     link: &mut L,
@@ -224,8 +224,10 @@ pub fn talk<L: Link, P: Partner>(
     ensures writes { CountsFailure (is_write_fault (Some result)) (L.seen link.old).sink.faults
         (L.seen link.new).sink.faults }
 {
-    match begin(alloc, link, partner, idle_turns) {
+    let end = match begin(alloc, link, partner, idle_turns) {
         Ok(talking) => talking.run(partner, link),
         Err(end) => end,
-    }
+    };
+    link.hang_up();
+    end
 }

@@ -33,4 +33,9 @@ pub trait Link {
         ensures counts { CountsFailure (is_failed_put result) (seen self.old).sink.faults
             (seen self.new).sink.faults }
         ensures source { (seen self.new).source ≡ (seen self.old).source };
+
+    /// Says that there will be no more turns. What was put before still comes to the peer; what is put
+    /// from then on needn't.
+    fn hang_up(&mut self)
+        ensures { seen self.new ≡ seen self.old };
 }

@@ -23,4 +23,6 @@ impl<S: Source, T: Sink> Link for Streams<S, T> {
     fn put(&mut self, piece: &[u8]) -> Result<usize, SinkFailed> {
         self.sink.put(piece)
     }
+
+    fn hang_up(&mut self) {}
 }

@@ -37,4 +37,8 @@ impl<R: Wait> Link for CountedLink<R> {
     fn put(&mut self, piece: &[u8]) -> Result<usize, SinkFailed> {
         self.link.put(piece)
     }
+
+    fn hang_up(&mut self) {
+        self.link.hang_up();
+    }
 }

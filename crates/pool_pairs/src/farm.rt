@@ -77,15 +77,11 @@ fn run_proxy<R: Threads + Wait + Sync + Send + Copy + Drop>(
         Proxied::Ran {
             proxy,
             doors,
-            up,
+            up: _,
             up_end,
             bad,
             door_faults,
         } => {
-            let HallLink::Upstream { link, .. } = up else {
-                return None;
-            };
-            link.leave();
             let sent = proxy.sent().ok()?;
             let miners = (miner_at(&doors, 0), miner_at(&doors, 1));
             format!(in alloc;

@@ -158,6 +158,8 @@ impl Link for FarmLink<'_> {
             Err(_) => Err(SinkFailed::Memory),
         }
     }
+
+    fn hang_up(&mut self) {}
 }
 
 /// A link of the proxy, whose links are all of one type: a miner's; or its upstream's, whose input ends once
@@ -197,6 +199,13 @@ impl<R: Wait> Link for HallLink<'_, R> {
         match self {
             HallLink::Miner(miner) => miner.put(piece),
             HallLink::Upstream { link, .. } => link.put(piece),
+        }
+    }
+
+    fn hang_up(&mut self) {
+        match self {
+            HallLink::Miner(miner) => miner.hang_up(),
+            HallLink::Upstream { link, .. } => link.hang_up(),
         }
     }
 }

@@ -109,9 +109,7 @@ fn run_miner<R: Wait + Drop>(alloc: Global, user: &str, mut link: PairLink<R>) -
         count: COUNT,
     };
     let mut miner = Miner::new(alloc, task).ok()?;
-    let end = talk(alloc, &mut link, &mut miner, IDLE_TURNS);
-    link.leave();
-    match end {
+    match talk(alloc, &mut link, &mut miner, IDLE_TURNS) {
         TalkEnd::Ended(MinerEnd::Mined(count)) => Some(count),
         _ => None,
     }
@@ -134,8 +132,6 @@ pub(crate) fn run_feed<R: Wait + Drop>(
         left: FEED_BYTES + solutions * SOLUTION_BYTES,
     };
     let end = talk(alloc, &mut counted, &mut feed, IDLE_TURNS);
-    let CountedLink { link, left: _ } = counted;
-    link.leave();
     let verdicts = feed.ear.course.verdicts();
     match end {
         TalkEnd::Ended(FeedEnd::Done) if verdicts.iter().all(|verdict| verdict.is_valid) => {

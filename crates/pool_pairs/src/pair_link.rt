@@ -65,14 +65,6 @@ pub(crate) struct PairLink<R: Wait> {
     outgoing: Arc<Mutex<Queue>>,
 }
 
-impl<R: Wait + Drop> PairLink<R> {
-    /// Puts nothing more: the other end finds the end behind what was put. Where an end is only let
-    /// go, the other one stays Idle.
-    pub(crate) fn leave(self) {
-        self.outgoing.lock(&self.rt).has_ended = true;
-    }
-}
-
 impl<R: Wait> Link for PairLink<R> {
     ghost use Rattle.std.specs.Prelude.{None};
 
@@ -94,6 +86,12 @@ impl<R: Wait> Link for PairLink<R> {
             Ok(()) => Ok(piece.len()),
             Err(_) => Err(SinkFailed::Memory),
         }
+    }
+
+    /// The other end finds its end behind what was put. Where an end is only let go, the other one
+    /// stays Idle.
+    fn hang_up(&mut self) {
+        self.outgoing.lock(&self.rt).has_ended = true;
     }
 }
 

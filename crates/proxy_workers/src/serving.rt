@@ -10,7 +10,7 @@ use session_steps::SessionEnd;
 use std::alloc::Global;
 use std::sync::Wait;
 
-/// Serves a miner's link by calls of one pass, up to an end.
+/// Serves a miner's link by calls of one pass, up to an end, and hangs up.
 pub fn serve_miner_link<R: Wait, L: Link>(
     alloc: Global,
     caller: &mut ProxyCaller<'_, R>,
@@ -24,10 +24,12 @@ pub fn serve_miner_link<R: Wait, L: Link>(
     ensures served { VisitsMiner idle_turns (L.seen link.old) (L.seen link.new) result
         caller.old.pass.now caller.new.pass.now }
 {
-    serve_miner(alloc, caller, link, idle_turns)
+    let end = serve_miner(alloc, caller, link, idle_turns);
+    link.hang_up();
+    end
 }
 
-/// Serves the upstream's link by calls of one pass, up to an end, which is told.
+/// Serves the upstream's link by calls of one pass, up to an end, which is told, and hangs up.
 pub fn serve_upstream_link<R: Wait, L: Link>(
     alloc: Global,
     caller: &mut ProxyCaller<'_, R>,
@@ -41,5 +43,7 @@ pub fn serve_upstream_link<R: Wait, L: Link>(
     ensures served { VisitsUpstream idle_turns (L.seen link.old) (L.seen link.new) result.end
         result.phase caller.old.pass.now caller.new.pass.now }
 {
-    serve_upstream(alloc, caller, link, idle_turns)
+    let end = serve_upstream(alloc, caller, link, idle_turns);
+    link.hang_up();
+    end
 }

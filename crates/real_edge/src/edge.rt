@@ -78,7 +78,7 @@ impl<R: Read + Drop> Source for ReadSource<R> {
 /// A writer as a sink. Each error is counted, and so is a write that takes nothing.
 #[derive(Drop)]
 pub struct WriteSink<W: Write + Drop> {
-    writer: W,
+    pub(crate) writer: W,
     faults: u64,
 }
 

@@ -10,7 +10,7 @@ use pool_io::{HostError, Shelf, Sink, SinkFailed, Source, Took};
 use pool_network::{Came, Door, Link, Network};
 use std::alloc::Global;
 use std::io::Error;
-use std::net::{Net, OpenListener, TcpListener, TcpStream};
+use std::net::{Net, OpenListener, Shutdown, TcpListener, TcpStream};
 use std::time::{Clock, Duration};
 use std::{io, thread};
 
@@ -32,6 +32,11 @@ impl Link for TcpLink {
 
     fn put(&mut self, piece: &[u8]) -> Result<usize, SinkFailed> {
         self.sink.put(piece)
+    }
+
+    /// Shuts both sides down, also where this fails: the peer is gone then.
+    fn hang_up(&mut self) {
+        let _ = self.sink.writer.shutdown(Shutdown::Both);
     }
 }
 

@@ -17,7 +17,7 @@ use std::sync::Wait;
 use v1_translate::V1Terms;
 
 /// Serves one session over a link, in the language that its first byte tells, by calls of one pass at
-/// its desk, up to its end, and leaves.
+/// its desk, up to its end, leaves, and hangs up.
 pub fn serve_link<R: Wait, K: Keeper, L: Link>(
     alloc: Global,
     asker: &mut DeskWorker<'_, R, K>,
@@ -38,5 +38,7 @@ pub fn serve_link<R: Wait, K: Keeper, L: Link>(
         → IsGoodSpeech manner told → IsGoodEnd result }
 {
     desk_calls_go_on();
-    serve_session(alloc, link, asker, manner, terms)
+    let end = serve_session(alloc, link, asker, manner, terms);
+    link.hang_up();
+    end
 }

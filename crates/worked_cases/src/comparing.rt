@@ -206,7 +206,7 @@ fn against_disk(
     }
 }
 
-/// `PLACE EXPRESSION`: what the link at the place holds that came back to one who gave it.
+/// `PLACE EXPRESSION`: what the link at the place holds that came back, hung up, to one who gave it.
 fn against_held(
     alloc: Global,
     names: &Names,
@@ -229,10 +229,10 @@ fn against_held(
     Ok((wanted, String::from_str(alloc, "of no link")?))
 }
 
-/// What the link at a place holds, where it is one of these.
+/// What the link at a place holds, where it is one of these and was hung up.
 fn held_at<'a>(place: usize, links: &'a [GatedLink<'_>]) -> Option<&'a [u8]> {
     for link in links {
-        if link.place == place {
+        if link.place == place && link.is_over {
             return Some(&link.held);
         }
     }

@@ -62,6 +62,8 @@ pub struct GatedLink<'a> {
     pub given: u64,
     pub takes: FailingCalls,
     pub puts: FailingCalls,
+    /// Whether there are no more turns. What is put then is lost.
+    pub is_over: bool,
     /// How far each link is, by its place.
     pub progress: &'a [Progress],
 }
@@ -100,6 +102,9 @@ impl Link for GatedLink<'_> {
         if self.takes.next_fails() {
             return Took::Failed;
         }
+        if self.is_over {
+            return Took::End;
+        }
         self.meet();
         let Some(mut gated) = self.coming.pop_front() else {
             return Took::End;
@@ -133,6 +138,9 @@ impl Link for GatedLink<'_> {
         if self.puts.next_fails() {
             return Err(SinkFailed::Failed);
         }
+        if self.is_over {
+            return Ok(piece.len());
+        }
         if self.held.extend_from_slice(piece).is_err() {
             return Err(SinkFailed::Memory);
         }
@@ -141,6 +149,10 @@ impl Link for GatedLink<'_> {
             link.taken.fetch_add(piece.len() as u64, Ordering::Release);
         }
         Ok(piece.len())
+    }
+
+    fn hang_up(&mut self) {
+        self.is_over = true;
     }
 }
 

@@ -210,6 +210,7 @@ fn link_of<'a>(
         given: 0,
         takes: FailingCalls::of(failing_at(alloc, case, "fail-link-take", place)?),
         puts: FailingCalls::of(failing_at(alloc, case, "fail-link-put", place)?),
+        is_over: false,
         progress,
     })
 }

@@ -40,4 +40,6 @@ impl Link for MemLink {
     fn put(&mut self, piece: &[u8]) -> Result<usize, SinkFailed> {
         self.sink.put(piece)
     }
+
+    fn hang_up(&mut self) {}
 }
