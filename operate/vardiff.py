@@ -79,11 +79,13 @@ class Connection:
         self.doors.say(f"{self.name} is here")
         try:
             await self._relay()
+        except OSError as error:
+            self.doors.say(f"{self.name} has left: {error.strerror or error}")
         finally:
             self.to_pool.close()
 
     async def _relay(self) -> None:
-        begin = await self.reader.read(1)
+        begin = await self._first_byte()
         if begin == b"{":
             relay = Relay(self.name, self.doors, time.monotonic())
             pumps = [self._up(relay, begin), self._down(relay), self._tick(relay)]
@@ -100,6 +102,16 @@ class Connection:
         failed = [str(end) for end in ends if isinstance(end, Exception)]
         shares = f", after {relay.counts()}" if begin == b"{" else ""
         self.doors.say(f"{self.name} has left{shares}{': ' if failed else ''}{'; '.join(failed)}")
+
+    async def _first_byte(self) -> bytes:
+        """What the miner begins with; nothing where the pool, or it, has gone before."""
+        first = asyncio.create_task(self.reader.read(1))
+        while not self.from_pool.at_eof() and self.from_pool.exception() is None:
+            done, _ = await asyncio.wait([first], timeout=TICK)
+            if done:
+                return await first
+        first.cancel()
+        return b""
 
     async def _up(self, relay: Relay, begin: bytes) -> None:
         """From the miner to the pool."""

@@ -261,6 +261,13 @@ class Program(WithFolder):
         self.assertEqual(miner.recv(1), b"")
         self.line_of(program, "is sent away: the pool isn't reached")
 
+    def test_a_pool_that_goes_before_the_miner_has_said_anything(self) -> None:
+        with socket.create_server(("127.0.0.1", 0)) as listener:
+            miner, program = self.relay(f"127.0.0.1:{listener.getsockname()[1]}")
+            listener.accept()[0].close()
+            self.assertEqual(miner.recv(1), b"")
+            self.line_of(program, "has left")
+
     def test_statuses(self) -> None:
         with socket.create_server(("127.0.0.1", 0)) as taken:
             address = f"127.0.0.1:{taken.getsockname()[1]}"
