@@ -34,7 +34,7 @@ JSON
 # heard_of FILE WORDS SECONDS: waits until a file of what was printed has these words
 heard_of() {
     last=$(($(date +%s) + $3))
-    until grep -qF -- "$2" "$work/$1"; do
+    until grep -qsF -- "$2" "$work/$1"; do
         [ "$(date +%s)" -le "$last" ] || fail "$1 doesn't say '$2'"
         sleep 0.1
     done

@@ -46,7 +46,7 @@ def found_at(path: str, number: int) -> tuple[Block, Credit]:
         booked = history.tell(entry)
         if entry.number == number:
             if booked is None or not isinstance(entry.event, Credit):
-                raise Defect(f"event {number} is a {type(entry.event).__name__}")
+                raise Defect(f"event {number} is no credit, but {type(entry.event).__name__}")
             if booked.block is None:
                 raise Defect(f"event {number} is a credit that is no block")
             return booked.block, entry.event

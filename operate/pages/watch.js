@@ -65,10 +65,10 @@ function showCards(now) {
 }
 
 function showMinutes(now) {
-  const highest = Math.max(...now.minutes, 1);
+  const highest = Math.max(...now.minutes, 0);
   const rects = now.minutes.map((hashes, at) => {
     const rect = document.createElementNS("http://www.w3.org/2000/svg", "rect");
-    const height = (100 * hashes) / highest;
+    const height = (100 * hashes) / (highest || 1);
     const place = 60 - now.minutes.length + at;
     for (const [name, value] of [["x", place], ["y", 100 - height], ["width", 0.86], ["height", height]]) {
       rect.setAttribute(name, value);

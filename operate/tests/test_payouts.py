@@ -143,7 +143,7 @@ class Solutions(WithFolder):
 
     def test_what_is_no_block(self) -> None:
         path = self.file("ledger", writing.plain(two_blocks()))
-        for event, words in (("4", "a Open"), ("8", "a credit that is no block"), ("99", "has no event")):
+        for event, words in (("4", "no credit, but Open"), ("8", "a credit that is no block"), ("99", "has no event")):
             done = tool("solution.py", path, event)
             self.assertEqual((done.returncode, done.stdout), (3, ""))
             self.assertIn(words, done.stderr)
