@@ -81,11 +81,13 @@ fn run_proxy<R: Threads + Wait + Sync + Send + Copy + Drop>(
             up_end,
             bad,
             door_faults,
+            door_memory,
         } => {
             let sent = proxy.sent().ok()?;
             let miners = (miner_at(&doors, 0), miner_at(&doors, 1));
+            let faults = (door_faults, door_memory);
             format!(in alloc;
-                "proxy {up_end:?} bad {bad} faults {door_faults} sent {sent}\nminer {}\nminer {}",
+                "proxy {up_end:?} bad {bad} faults {faults:?} sent {sent}\nminer {}\nminer {}",
                 miners.0, miners.1
             )
             .ok()

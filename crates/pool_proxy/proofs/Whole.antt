@@ -10,7 +10,7 @@ use Rattle.thread_parts.specs.declared.listing.Tended.{Tended}
 use Rattle.thread_parts.specs.declared.parts.ThreadPart.{ThreadPart}
 use Rattle.thread_parts.specs.declared.parts.ThreadTask.{ThreadTask}
 use Rattle.thread_parts.specs.declared.parts.ThreadTask.TheVariants as task
-use Rattle.thread_parts.specs.Counting.{capped, failed_in}
+use Rattle.thread_parts.specs.Counting.{capped, failed_in, starved_in}
 use Rattle.thread_parts.specs.Listing.{HasDoneTasks, IsUnlisted, parts_of}
 use Rattle.proxy_rules.specs.declared.events.ProxyEvent.{ProxyEvent}
 use Rattle.proxy_rules.specs.Answering.{ProxyAnswers}
@@ -70,6 +70,7 @@ module _ {D L : Type 0} {seeing : Seeing D L} {desk : Opening (List ProxyEvent)}
   has_run : (back : Tended D L) → IsUnlisted parts back
       → HasRunProxy seeing.service (record { events = desk.start; doors = map seeing.door doors; up = seeing.link up })
       (record { events = closed; doors = map seeing.door back.doors.items; up = seeing.link back.link }) back.link_end back.door_faults
+      back.door_memory
   has_run back unlisted =
       let all = done in
       let at = all_of.closed in
@@ -87,11 +88,12 @@ module _ {D L : Type 0} {seeing : Seeing D L} {desk : Opening (List ProxyEvent)}
         good = subst (λ (l : List ProxyCall). GoodProxyCalls closed l) all.calls at.good;
         parted = subst (λ (l : List ProxyCall). Parted desk.start closed 0 0 l) all.calls at.parted;
         door_faults_are = restored.door_faults_are ∙ ap (λ l. capped (failed_in l)) (sym all.reasons);
+        door_memory_is = restored.door_memory_is ∙ ap (λ l. capped (starved_in l)) (sym all.reasons);
       }
 
   -- so the whole is as was said
   pub has_proxied : (back : Tended D L) → IsUnlisted parts back → (served : Proxied D L) → IsFinished closed back served → (given : Vec D) → given.items ≡ doors
       → HasProxied seeing desk.start given up served
-  has_proxied back unlisted (proxied.Ran proxy doors' up' reason bad door_faults) finished given same =
-      (rw (finished.0, finished.1, finished.2, finished.3, finished.5, same) (has_run back unlisted), finished.4)
+  has_proxied back unlisted (proxied.Ran proxy doors' up' reason bad door_faults door_memory) finished given same =
+      (rw (finished.0, finished.1, finished.2, finished.3, finished.5, finished.6, same) (has_run back unlisted), finished.4)
   has_proxied back unlisted (proxied.Memory proxy doors' up') finished given same = absurd finished

@@ -13,17 +13,18 @@ use Rattle.pool_proxy.specs.Serving.{HasRunProxy}
 -- all comes back as it was
 abbrev pub HasProxied :
     {D L : Type 0} → Seeing D L → List ProxyEvent → Vec D → L → Proxied D L → Type 0
-HasProxied seeing events doors up (proxied.Ran proxy doors' up' reason bad door_faults) =
+HasProxied seeing events doors up (proxied.Ran proxy doors' up' reason bad door_faults door_memory) =
     HasRunProxy seeing.service
     (record { events = events; doors = map seeing.door doors.items; up = seeing.link up })
     (record { events = proxy; doors = map seeing.door doors'.items; up = seeing.link up' }) reason
-    door_faults × (IsTrue bad ↔ (reason ≡ BadSetup))
+    door_faults door_memory × (IsTrue bad ↔ (reason ≡ BadSetup))
 HasProxied seeing events doors up (proxied.Memory proxy doors' up') =
     (proxy ≡ events) × (doors' ≡ doors) × (up' ≡ up)
 
 -- what is left of a proxy that a desk gave, and of what came back
 abbrev pub IsFinished : {D L : Type 0} → List ProxyEvent → Tended D L → Proxied D L → Type 0
-IsFinished closed tended (proxied.Ran proxy doors up reason bad door_faults) =
+IsFinished closed tended (proxied.Ran proxy doors up reason bad door_faults door_memory) =
     (proxy ≡ closed) × (doors ≡ tended.doors) × (up ≡ tended.link) × (reason ≡ tended.link_end)
     × (IsTrue bad ↔ (reason ≡ BadSetup)) × (door_faults ≡ tended.door_faults)
+    × (door_memory ≡ tended.door_memory)
 IsFinished closed tended (proxied.Memory proxy doors up) = ⊥

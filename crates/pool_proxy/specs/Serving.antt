@@ -7,7 +7,7 @@ use Rattle.pool_network.specs.Seen.{DoorSeen, LinkSeen}
 use Rattle.door_workers.specs.declared.working.DoorEnd.{DoorEnd}
 use Rattle.door_workers.specs.Asking.{IsAsked}
 use Rattle.session_steps.specs.declared.ends.SessionEnd.{SessionEnd}
-use Rattle.thread_parts.specs.Counting.{capped, failed_in}
+use Rattle.thread_parts.specs.Counting.{capped, failed_in, starved_in}
 use Rattle.proxy_rules.specs.declared.events.ProxyEvent.{ProxyEvent}
 use Rattle.proxy_links.specs.declared.phase.UpPhase.{UpPhase}
 use Rattle.proxy_links.specs.Calls.{GoodProxyCalls, ProxyCall}
@@ -59,7 +59,7 @@ all_calls calls shifts = calls ++ flat_map (λ shift. shift.calls) shifts
 -- The first worker served the upstream's link, and each later one had a shift at its door. The events begin
 -- with those that came; the calls of all are good, and part what was added to them.
 pub record HasRunProxy (service : ProxyService) (old new : ProxyHall) (reason : SessionEnd)
-    (door_faults : ℕ) : Type 0 where
+    (door_faults door_memory : ℕ) : Type 0 where
   pub phase : UpPhase
   pub up_calls : List ProxyCall
   pub shifts : List MinersShift
@@ -72,3 +72,4 @@ pub record HasRunProxy (service : ProxyService) (old new : ProxyHall) (reason : 
   pub good : GoodProxyCalls new.events (all_calls up_calls shifts)
   pub parted : Parted old.events new.events 0 0 (all_calls up_calls shifts)
   pub door_faults_are : door_faults ≡ capped (failed_in (map (λ shift. shift.reason) shifts))
+  pub door_memory_is : door_memory ≡ capped (starved_in (map (λ shift. shift.reason) shifts))

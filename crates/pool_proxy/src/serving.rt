@@ -33,6 +33,8 @@ pub enum Proxied<D: Door> {
         bad: bool,
         /// How many doors failed. It stays at 2^64 - 1 once it is there.
         door_faults: u64,
+        /// How many doors had no memory for a caller, the same way.
+        door_memory: u64,
     },
     /// There was no memory, and nothing was asked.
     Memory(Proxy, Vec<D>, D::L),
@@ -130,7 +132,7 @@ fn finish<D: Door>(proxy: Proxy, tended: Tended<D, D::L>) -> Proxied<D>
         link_end,
         faults: _,
         door_faults,
-        door_memory: _,
+        door_memory,
     } = tended;
     let bad = is_bad(link_end);
     Proxied::Ran {
@@ -140,5 +142,6 @@ fn finish<D: Door>(proxy: Proxy, tended: Tended<D, D::L>) -> Proxied<D>
         up_end: link_end,
         bad,
         door_faults,
+        door_memory,
     }
 }

@@ -25,7 +25,7 @@ use Rattle.proxy_command.specs.declared.serving.Reached.{Reached}
 use Rattle.proxy_command.specs.declared.serving.Reached.TheVariants as reached
 use Rattle.proxy_command.specs.Row.{FinishesProxy, HasProxyCause, ProxyRow, proxied_text}
 use Rattle.proxy_command.specs.Serving.{ProxiedOnNetwork, ProxiesOnNetwork, ProxyTask}
-use Rattle.proxy_command.specs.Statuses.{first_cause, status_of_doors, status_of_upstream}
+use Rattle.proxy_command.specs.Statuses.{first_cause, status_of_doors, status_of_starved, status_of_upstream}
 use Rattle.proxy_command.proofs.Upstreams.{read_failed, write_failed}
 
 -- what holds of two causes holds of the first of them
@@ -45,8 +45,8 @@ module _ (task : ProxyTask) (old new : WorldSeen) where
   abbrev Has : Status → Type 0
   Has = HasProxyCause old new
 
-  module _ (events : List ProxyEvent) (door_faults : ℕ) where
-    by_link : (count : LinkSeen → ℕ) (reason : SessionEnd) (served : ProxiedOnNetwork task old.network new.network events reason door_faults)
+  module _ (events : List ProxyEvent) (door_faults door_memory : ℕ) where
+    by_link : (count : LinkSeen → ℕ) (reason : SessionEnd) (served : ProxiedOnNetwork task old.network new.network events reason door_faults door_memory)
         → Rose (count served.link) (count served.link_back) → HasFailedLink count old.network new.network
     by_link count reason served rose = record {
       link = served.link;
@@ -56,7 +56,7 @@ module _ (task : ProxyTask) (old new : WorldSeen) where
       failed = rose;
     }
 
-    upstream : (reason : SessionEnd) → ProxiedOnNetwork task old.network new.network events reason door_faults → Has (status_of_upstream reason)
+    upstream : (reason : SessionEnd) → ProxiedOnNetwork task old.network new.network events reason door_faults door_memory → Has (status_of_upstream reason)
     upstream end.ReadFault served =
         by_link (λ (l : LinkSeen). l.source.faults) end.ReadFault served (read_failed _ _ _ _ served.link served.link_back served.ran.phase served.ran.served)
     upstream end.WriteFault served =
@@ -73,7 +73,7 @@ module _ (task : ProxyTask) (old new : WorldSeen) where
     upstream end.LedgerFault served = tt
     upstream end.Memory served = tt
 
-    doors_failed : (reason : SessionEnd) (served : ProxiedOnNetwork task old.network new.network events reason door_faults)
+    doors_failed : (reason : SessionEnd) (served : ProxiedOnNetwork task old.network new.network events reason door_faults door_memory)
         → 0 < door_faults → SomeDoorFailed served.doors served.doors_back
     doors_failed reason served some =
         let ran = served.ran in
@@ -82,7 +82,7 @@ module _ (task : ProxyTask) (old new : WorldSeen) where
         (some_failed (λ (s : MinersShift). s.before) (λ (s : MinersShift). s.after) (λ (s : MinersShift). s.reason) ran.shifts
         (all_counted _ 1 ran.shifts ran.worked) (omega (arith, ran.door_faults_are, some))))
 
-    doors : (reason : SessionEnd) → ProxiedOnNetwork task old.network new.network events reason door_faults → Has (status_of_doors door_faults)
+    doors : (reason : SessionEnd) → ProxiedOnNetwork task old.network new.network events reason door_faults door_memory → Has (status_of_doors door_faults)
     doors reason served =
         cond_both (door_faults == 0) status.Done status.HostFault Has (λ none. tt)
         (λ some. inr (inr (record {
@@ -93,6 +93,9 @@ module _ (task : ProxyTask) (old new : WorldSeen) where
           failed = doors_failed reason served (some_if door_faults some);
         })))
 
+    starved : Has (status_of_starved door_memory)
+    starved = cond_both (door_memory == 0) status.Done status.Memory Has (λ none. tt) (λ some. tt)
+
   refused_on : (error : HostError) → CountsFailure (is_failed_gift {A = Unit {0}} (Err error)) old.network.faults new.network.faults → Has (status_of_refusal error)
   refused_on = refused Has old.network.faults new.network.faults tt (λ rose. inr (inl rose))
 
@@ -102,11 +105,13 @@ module _ (task : ProxyTask) (old new : WorldSeen) where
   unserved error (inr none) = subst (λ (e : HostError). Has (status_of_refusal e)) (sym none.error_is) tt
 
   cause : (r : Reached) (answer : Status) → ProxiesOnNetwork task old.network new.network r → FinishesProxy old.host new.host r answer → Has answer
-  cause (reached.Ran events reason door_faults) answer served finishes =
+  cause (reached.Ran events reason door_faults door_memory) answer served finishes =
+      let rest = first_cause (status_of_starved door_memory) finishes.0 in
       subst Has (sym finishes.1)
-      (first Has (status_of_upstream reason) (first_cause (status_of_doors door_faults) finishes.0) (upstream events door_faults reason served)
-      (first Has (status_of_doors door_faults) finishes.0 (doors events door_faults reason served)
-      (printed_or Has old.host new.host tt tt (λ failed. inr failed) (λ rose. inl rose) old.host new.host refl refl (proxied_text events) finishes.0 finishes.2)))
+      (first Has (status_of_upstream reason) (first_cause (status_of_doors door_faults) rest) (upstream events door_faults door_memory reason served)
+      (first Has (status_of_doors door_faults) rest (doors events door_faults door_memory reason served)
+      (first Has (status_of_starved door_memory) finishes.0 (starved events door_faults door_memory)
+      (printed_or Has old.host new.host tt tt (λ failed. inr failed) (λ rose. inl rose) old.host new.host refl refl (proxied_text events) finishes.0 finishes.2))))
   cause (reached.Unserved error) answer (inl none) finishes =
       subst Has (sym finishes.1) (subst (λ (e : HostError). Has (status_of_refusal e)) (sym none.1) tt)
   cause (reached.Unserved error) answer (inr none) finishes = subst Has (sym finishes.1) (unserved error none)

@@ -24,8 +24,8 @@ proxied_text events = line (codes "proxied") (relay_of events).sent
 
 -- what follows on that: the output is asked for, where all were served
 abbrev pub FinishesProxy : HostSeen → HostSeen → Reached → Status → Type 0
-FinishesProxy old new (reached.Ran ended reason door_faults) answer =
-    (printed : Status) × (answer ≡ status_of_proxied reason door_faults printed)
+FinishesProxy old new (reached.Ran ended reason door_faults door_memory) answer =
+    (printed : Status) × (answer ≡ status_of_proxied reason door_faults door_memory printed)
     × PrintsText (proxied_text ended) status.Done old new printed
 FinishesProxy old new (reached.Unserved error) answer =
     (new ≡ old) × (answer ≡ status_of_refusal error)

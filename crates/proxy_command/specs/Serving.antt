@@ -30,7 +30,7 @@ start_for user = event.Start user 32 ∷ []
 
 -- The upstream's link was served by the first worker, and each door by a later one, all by one proxy.
 pub record ProxiedOnNetwork (task : ProxyTask) (old new : NetworkSeen) (ended : List ProxyEvent)
-    (reason : SessionEnd) (door_faults : ℕ) : Type 0 where
+    (reason : SessionEnd) (door_faults door_memory : ℕ) : Type 0 where
   pub link : LinkSeen
   pub link_back : LinkSeen
   pub doors : List DoorSeen
@@ -39,6 +39,7 @@ pub record ProxiedOnNetwork (task : ProxyTask) (old new : NetworkSeen) (ended : 
   pub ran : HasRunProxy usual_service
       (record { events = start_for task.user; doors = doors; up = link })
       (record { events = ended; doors = doors_back; up = link_back }) reason door_faults
+      door_memory
 
 -- there was no memory for a proxy, and nothing was asked for
 abbrev pub HasNoProxy : NetworkSeen → NetworkSeen → HostError → Type 0
@@ -46,7 +47,7 @@ HasNoProxy old new error = (new ≡ old) × (error ≡ host.Memory)
 
 -- what was done
 abbrev pub ProxiesOnNetwork : ProxyTask → NetworkSeen → NetworkSeen → Reached → Type 0
-ProxiesOnNetwork task old new (reached.Ran ended reason door_faults) =
-    ProxiedOnNetwork task old new ended reason door_faults
+ProxiesOnNetwork task old new (reached.Ran ended reason door_faults door_memory) =
+    ProxiedOnNetwork task old new ended reason door_faults door_memory
 ProxiesOnNetwork task old new (reached.Unserved error) =
     HasNoProxy old new error ⊎ IsUnserved task.places old new error

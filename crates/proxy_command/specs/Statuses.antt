@@ -26,6 +26,10 @@ status_of_upstream end.LedgerFault = status.Done
 abbrev pub status_of_doors : ℕ → Status
 status_of_doors door_faults = if door_faults == 0 then status.Done else status.HostFault
 
+-- what doors that had no memory for a caller are answered with
+abbrev pub status_of_starved : ℕ → Status
+status_of_starved door_memory = if door_memory == 0 then status.Done else status.Memory
+
 -- of two causes the one with the lesser number; 0 is none
 abbrev pub first_cause : Status → Status → Status
 first_cause one other =
@@ -34,7 +38,8 @@ first_cause one other =
     else if nat_le (status_code one) (status_code other) then one else other
 
 -- the first cause of all, by their numbers: the upstream's end, the doors, the printing
-abbrev pub status_of_proxied : SessionEnd → ℕ → Status → Status
-status_of_proxied reason door_faults printed =
+abbrev pub status_of_proxied : SessionEnd → ℕ → ℕ → Status → Status
+status_of_proxied reason door_faults door_memory printed =
     first_cause (status_of_upstream reason)
-    (first_cause (status_of_doors door_faults) printed)
+    (first_cause (status_of_doors door_faults)
+    (first_cause (status_of_starved door_memory) printed))

@@ -61,9 +61,10 @@ fn finish<H: Host>(alloc: Global, host: &mut H, reached: Reached) -> Status
             proxy,
             up_end,
             door_faults,
+            door_memory,
         } => {
             let printed = print_sent(alloc, host, &proxy);
-            proxied_status(up_end, door_faults, printed)
+            proxied_status(up_end, door_faults, door_memory, printed)
         }
         Reached::Unserved(error) => refusal_status(error),
     }

@@ -25,6 +25,7 @@ pub enum Reached {
         proxy: Proxy,
         up_end: SessionEnd,
         door_faults: u64,
+        door_memory: u64,
     },
     /// The network gave no link or no doors, or there was no memory: nobody was served.
     Unserved(HostError),
@@ -82,12 +83,14 @@ where
             up_end,
             bad: _,
             door_faults,
+            door_memory,
         } => {
             leave_places(network, Opened { link, doors });
             Reached::Ran {
                 proxy,
                 up_end,
                 door_faults,
+                door_memory,
             }
         }
         Proxied::Memory(_proxy, doors, link) => {

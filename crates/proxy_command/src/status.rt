@@ -37,6 +37,17 @@ fn doors_status(door_faults: u64) -> Status
     }
 }
 
+/// What doors that had no memory for a caller are answered with.
+fn starved_status(door_memory: u64) -> Status
+    ensures { result ≡ statuses.status_of_starved door_memory }
+{
+    if door_memory == 0 {
+        Status::Done
+    } else {
+        Status::Memory
+    }
+}
+
 /// Of two causes the one with the lesser number; 0 is none.
 fn first_cause(one: Status, other: Status) -> Status
     ensures { result ≡ statuses.first_cause one other }
@@ -51,10 +62,16 @@ fn first_cause(one: Status, other: Status) -> Status
 }
 
 /// The status once all links are over: the first cause of all, by their numbers.
-pub(crate) fn proxied_status(end: SessionEnd, door_faults: u64, printed: Status) -> Status
-    ensures { result ≡ statuses.status_of_proxied end door_faults printed }
+pub(crate) fn proxied_status(
+    end: SessionEnd,
+    door_faults: u64,
+    door_memory: u64,
+    printed: Status,
+) -> Status
+    ensures { result ≡ statuses.status_of_proxied end door_faults door_memory printed }
 {
     let upstream = upstream_status(end);
     let doors = doors_status(door_faults);
-    first_cause(upstream, first_cause(doors, printed))
+    let starved = starved_status(door_memory);
+    first_cause(upstream, first_cause(doors, first_cause(starved, printed)))
 }

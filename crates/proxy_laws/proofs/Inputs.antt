@@ -58,9 +58,9 @@ module _ (doors : ℕ) where
       (all-map (λ (call : ProxyCall). call.worker ≡ worker) (Brings doors) (λ call is. inr (omega (arith, is, some), omega (arith, is, fits))) shift.calls are.0.calls.own)
       (from_doors service (worker + 1) shifts (omega arith) (omega (arith, fits)) are.1)
 
-pub all_bring : (service : ProxyService) (old new : ProxyHall) (reason : SessionEnd) (door_faults : ℕ) → (ran : HasRunProxy service old new reason door_faults)
+pub all_bring : (service : ProxyService) (old new : ProxyHall) (reason : SessionEnd) (door_faults door_memory : ℕ) → (ran : HasRunProxy service old new reason door_faults door_memory)
     → AllByRecursion (Brings (length old.doors)) (all_calls ran.up_calls ran.shifts)
-all_bring service old new reason door_faults ran =
+all_bring service old new reason door_faults door_memory ran =
     let as_many : length ran.shifts ≡ length old.doors =
     sym (length-map ran.shifts (λ (shift : MinersShift). shift.before)) ∙ ap (λ (doors : List DoorSeen). length doors) ran.doors_before in
     all_join (Brings (length old.doors)) ran.up_calls (flat_map (λ (shift : MinersShift). shift.calls) ran.shifts)

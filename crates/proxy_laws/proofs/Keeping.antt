@@ -42,7 +42,7 @@ goes_on user base doors before call by is runs =
     (all_join (IsInput doors) runs.inputs call.added runs.inputs_are (outcome_inputs doors before call call.outcome by is))
 
 pub keep_laws : ProxiesKeepLaws
-keep_laws service old new reason door_faults user base start ran =
+keep_laws service old new reason door_faults door_memory user base start ran =
     all-kept ProxyAnswers wants_memory (RunsByLaws user base (length old.doors)) (Brings (length old.doors)) (goes_on user base (length old.doors)) old.events new.events 0 0
-    (all_calls ran.up_calls ran.shifts) ran.parted ran.good (all_bring service old new reason door_faults ran)
+    (all_calls ran.up_calls ran.shifts) ran.parted ran.good (all_bring service old new reason door_faults door_memory ran)
     (runs_by_laws user base (length old.doors) old.events [] start tt)

@@ -133,6 +133,6 @@ module _ (service : ProxyService) (start events : List ProxyEvent) where
 -- ---- the law
 
 pub put_output : MinersArePutOutput
-put_output service old new reason door_faults ran =
+put_output service old new reason door_faults door_memory ran =
     all_put service old.events new.events ran.up_calls 1 ran.shifts (omega arith) ran.parted ran.good
     (all-map (λ (call : ProxyCall). call.worker ≡ 0) (λ (call : ProxyCall). call.worker < 1) (λ call is. omega (arith, is)) ran.up_calls ran.own.own) ran.worked

@@ -469,4 +469,4 @@ served_ends idle_turns before ended phase calls after served =
     }
 
 pub setups_exact : BadSetupsAreExact
-setups_exact service old new reason door_faults ran = served_ends service.idle_turns old.up reason ran.phase ran.up_calls new.up ran.served
+setups_exact service old new reason door_faults door_memory ran = served_ends service.idle_turns old.up reason ran.phase ran.up_calls new.up ran.served

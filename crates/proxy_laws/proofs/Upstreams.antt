@@ -112,7 +112,7 @@ module _ (events : List ProxyEvent) where
 -- ---- the law
 
 pub put_output : UpstreamsArePutOutput
-put_output service old new reason door_faults held is ran =
+put_output service old new reason door_faults door_memory held is ran =
     let rest = link_rest service.idle_turns old.up reason ran.phase ran.up_calls new.up ran.served in
     let calls : ran.up_calls ≡ rest.calls = rest.noted_is in
     let stand = callers-go_on old.events new.events 0 0 0 ran.own.rise.0 ran.up_calls _ ran.parted ran.own.rise.1 in

@@ -49,7 +49,7 @@ pub record RunsByLaws (user : List ℕ) (base doors : ℕ) (events : List ProxyE
 
 abbrev pub ProxiesKeepLaws : Type 0
 ProxiesKeepLaws =
-    (service : ProxyService) (old new : ProxyHall) (reason : SessionEnd) (door_faults : ℕ)
+    (service : ProxyService) (old new : ProxyHall) (reason : SessionEnd) (door_faults door_memory : ℕ)
     (user : List ℕ) (base : ℕ) → old.events ≡ event.Start user base ∷ []
-    → HasRunProxy service old new reason door_faults
+    → HasRunProxy service old new reason door_faults door_memory
     → RunsByLaws user base (length old.doors) new.events

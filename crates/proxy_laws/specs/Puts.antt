@@ -50,9 +50,9 @@ IsOutputUpTo events (Some call) reason bytes =
 -- What the upstream's link was put, where it tells what it holds.
 abbrev pub UpstreamsArePutOutput : Type 0
 UpstreamsArePutOutput =
-    (service : ProxyService) (old new : ProxyHall) (reason : SessionEnd) (door_faults : ℕ)
+    (service : ProxyService) (old new : ProxyHall) (reason : SessionEnd) (door_faults door_memory : ℕ)
     (held : List ℕ) → old.up.sink.held ≡ Some held
-    → (ran : HasRunProxy service old new reason door_faults)
+    → (ran : HasRunProxy service old new reason door_faults door_memory)
     → (bytes : List ℕ) × (new.up.sink.held ≡ Some (held ++ bytes))
     × IsOutputUpTo new.events (last_polled ran.up_calls) reason bytes
 
@@ -79,8 +79,8 @@ ArePutTheirOutput idle_turns events noted (Visited visit ∷ answers) calls =
 -- So it is with the miners at each door.
 abbrev pub MinersArePutOutput : Type 0
 MinersArePutOutput =
-    (service : ProxyService) (old new : ProxyHall) (reason : SessionEnd) (door_faults : ℕ)
-    → (ran : HasRunProxy service old new reason door_faults)
+    (service : ProxyService) (old new : ProxyHall) (reason : SessionEnd) (door_faults door_memory : ℕ)
+    → (ran : HasRunProxy service old new reason door_faults door_memory)
     → AllByRecursion
     (λ shift. ArePutTheirOutput service.idle_turns new.events [] shift.answers shift.calls)
     ran.shifts

@@ -57,6 +57,6 @@ pub record EndsByItsMessages (calls : List ProxyCall) (reason : SessionEnd) : Ty
 
 abbrev pub BadSetupsAreExact : Type 0
 BadSetupsAreExact =
-    (service : ProxyService) (old new : ProxyHall) (reason : SessionEnd) (door_faults : ℕ)
-    → (ran : HasRunProxy service old new reason door_faults)
+    (service : ProxyService) (old new : ProxyHall) (reason : SessionEnd) (door_faults door_memory : ℕ)
+    → (ran : HasRunProxy service old new reason door_faults door_memory)
     → EndsByItsMessages ran.up_calls reason

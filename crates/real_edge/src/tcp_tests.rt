@@ -286,6 +286,35 @@ fn each_byte_goes_over_as_it_is(rt: HostRuntime) -> Result<(), Fail> {
     hear_to_the_end(&rt, caller, &mut link, &text)
 }
 
+#[test]
+fn who_is_hung_up_on_hears_the_end(rt: HostRuntime) -> Result<(), Fail> {
+    let bound = Cell::new(None);
+    let slept = Cell::new(Duration::ZERO);
+    let mut network = TcpNetwork::new(rt.alloc(), watching(rt, &bound, &slept));
+    let mut doors = network.open_doors("127.0.0.1:0", 1)?;
+    let address = address_of(rt.alloc(), &bound)?;
+    let text = pattern(rt.alloc(), 60_000)?;
+    let Some(door) = doors.first_mut() else {
+        panic!(rt; "no door")
+    };
+    let (mut caller, mut link) = meet(&rt, &mut network, door, address.as_str());
+    assert_eq!(rt; caller.put(b"unheard"), Ok(7));
+    assert_eq!(rt; link.put(&text), Ok(60_000));
+    link.hang_up();
+    link.hang_up();
+    assert_eq!(rt; link.put(b"more"), Err(SinkFailed::Failed));
+    let mut room = [0; 65_536];
+    hear(&rt, &mut caller, &mut room, &text);
+    assert_eq!(rt; heard(&mut caller, &mut room), Took::End);
+    // What it puts finds that nobody hears it, and doesn't wait.
+    let before = rt.monotonic()?;
+    put_until_it_fails(&rt, &mut caller, &text);
+    let waited = rt.monotonic()?.saturating_sub(before);
+    assert!(rt; waited < Duration::from_secs(1));
+    caller.hang_up();
+    Ok(())
+}
+
 /// Lets in one who hangs up on what it hasn't read.
 fn meet_one_who_hangs_up<N: Net<Listener = TcpListener, Stream = TcpStream> + Clock + Copy + Drop>(
     rt: &impl Abort,
