@@ -298,6 +298,7 @@ fn who_is_hung_up_on_hears_the_end(rt: HostRuntime) -> Result<(), Fail> {
         panic!(rt; "no door")
     };
     let (mut caller, mut link) = meet(&rt, &mut network, door, address.as_str());
+    assert!(rt; !text.is_empty());
     assert_eq!(rt; caller.put(b"unheard"), Ok(7));
     assert_eq!(rt; link.put(&text), Ok(60_000));
     link.hang_up();
