@@ -1,352 +1,199 @@
-//! Fields of each type: read, read with a byte more, cut, and written back.
+//! Fields of each type: read, written back, and cut.
 
-use anyhow::{Result, bail};
-use case_lines::{bytes, part, shown};
-use std::alloc::Global;
-use std::fmt::Write;
 use std::str;
 use sv2_types::{
-    Blob, Hashes, ReadError, Reader, SeqBytes, SeqU16, Str255, put_b16m, put_b32, put_b64k,
-    put_b255, put_boolean, put_f32_bytes, put_option_u32, put_seq_bytes, put_seq_u16, put_seq_u256,
-    put_seq64k_u256, put_str255, put_u8, put_u16, put_u24, put_u32, put_u64, put_u256,
+    Blob, Hashes, ReadError, Reader, Str255, put_b16m, put_b32, put_b64k, put_b255, put_boolean,
+    put_f32_bytes, put_option_u32, put_seq_bytes, put_seq_u16, put_seq_u256, put_seq64k_u256,
+    put_str255, put_u8, put_u16, put_u24, put_u32, put_u64, put_u256,
 };
+use trial_cases::{Case, Found};
 
-pub(crate) fn found(alloc: Global, given: &str) -> Result<String> {
-    match part(given, 0)? {
-        "owned" => found_copy(alloc, given),
-        "number" => found_number(alloc, part(given, 1)?),
-        field => found_value(alloc, field, given),
+/// Tells what is read, and writes it back; or tells why nothing is.
+macro_rules! again {
+    ($found:ident, $out:ident, $read:expr, $put:ident, $value:ident => $told:expr) => {
+        match $read {
+            Ok($value) => {
+                $told;
+                $found.done($put($out, $value).is_ok());
+            }
+            Err(error) => $found.tell(&error),
+        }
+    };
+}
+
+pub(crate) fn find(found: &mut Found, case: Case<'_>) {
+    match case.part(0) {
+        "owned" => find_copy(found, case),
+        "number" => find_number(found, case.part(1)),
+        field => find_value(found, field, case.part(1)),
     }
 }
 
-/// The value that bytes spell, the bytes that it is written as where they are others, and what is
-/// otherwise than it should be.
-fn found_value(alloc: Global, field: &str, given: &str) -> Result<String> {
-    let spelled = bytes(alloc, part(given, 1)?)?;
-    let mut written = Vec::new(alloc);
-    let mut text = read_whole(alloc, field, &spelled, &mut written)?;
-    text.push_str(first_fault(alloc, field, &spelled)?)?;
-    put_otherwise(alloc, &mut text, &written, &spelled)?;
-    Ok(text)
-}
-
-fn put_otherwise(alloc: Global, text: &mut String, written: &[u8], spelled: &[u8]) -> Result<()> {
+/// The value that bytes spell, the bytes that it is written as where they are others, and whether it
+/// isn't short where it is cut.
+fn find_value(found: &mut Found, field: &str, words: &str) {
+    let spelled = found.bytes_of(words);
+    let mut written = Vec::new(found.alloc());
+    read_field(found, field, &spelled, &mut written);
+    if written.is_empty() {
+        return;
+    }
     if written != spelled {
-        let written = shown(alloc, written)?;
-        write!(text, ", written {written}")?;
+        found.say(", written ");
+        found.bytes(&written);
     }
-    Ok(())
-}
-
-/// Reads a field, and writes its value. All bytes are read, or none.
-fn read_whole(alloc: Global, field: &str, spelled: &[u8], written: &mut Vec<u8>) -> Result<String> {
-    let mut reader = Reader::new(spelled);
-    let read = read_field(alloc, &mut reader, field, written);
-    let wanted = if read.is_ok() { spelled.len() } else { 0 };
-    if reader.at() != wanted {
-        bail!("not all is read, or something of what is refused");
+    if !is_short_where_cut(found, field, &spelled) {
+        found.say(", cut at a byte it isn't short");
     }
-    read
-}
-
-fn first_fault(alloc: Global, field: &str, spelled: &[u8]) -> Result<&'static str> {
-    if !is_short_where_cut(alloc, field, spelled)? {
-        return Ok(", cut at a byte it isn't short");
-    }
-    if left_before_a_byte(alloc, field, spelled)? != 1 {
-        return Ok(", with a byte more that isn't left");
-    }
-    Ok("")
 }
 
 /// The spelling is short where it is cut: at each byte, and in a long one at some of them.
-fn is_short_where_cut(alloc: Global, field: &str, spelled: &[u8]) -> Result<bool> {
+fn is_short_where_cut(found: &Found, field: &str, spelled: &[u8]) -> bool {
+    let mut is_short = true;
     for (end, _) in spelled.iter().enumerate() {
-        let is_tried = end <= 300 || end % 65_537 == 0 || end.saturating_add(300) >= spelled.len();
-        if is_tried && !is_short(alloc, field, &spelled[..end])? {
-            return Ok(false);
+        if end <= 300 || end % 65_537 == 0 || end.saturating_add(300) >= spelled.len() {
+            is_short &= is_short_at(found, field, &spelled[..end]);
         }
     }
-    Ok(true)
+    is_short
 }
 
-fn is_short(alloc: Global, field: &str, cut: &[u8]) -> Result<bool> {
-    let mut written = Vec::new(alloc);
-    match read_whole(alloc, field, cut, &mut written) {
-        Ok(_) => Ok(false),
-        Err(error) => {
-            let error = format!(in alloc; "{error}")?;
-            Ok(error.as_str() == "the bytes end inside a field")
-        }
-    }
-}
-
-/// How many bytes are left where one more follows.
-fn left_before_a_byte(alloc: Global, field: &str, spelled: &[u8]) -> Result<usize> {
-    let mut longer = spelled.to_vec(alloc)?;
-    longer.push(7)?;
-    let mut written = Vec::new(alloc);
-    let mut reader = Reader::new(&longer);
-    read_field(alloc, &mut reader, field, &mut written)?;
-    Ok(reader.left())
+fn is_short_at(found: &Found, field: &str, cut: &[u8]) -> bool {
+    let mut at_cut = Found::new(found.alloc());
+    read_field(&mut at_cut, field, cut, &mut Vec::new(found.alloc()));
+    at_cut.text() == "the bytes end inside a field"
 }
 
 /// Reads a field and writes its value.
-fn read_field(
-    alloc: Global,
-    reader: &mut Reader<'_>,
-    field: &str,
-    out: &mut Vec<u8>,
-) -> Result<String> {
+fn read_field(found: &mut Found, field: &str, bytes: &[u8], out: &mut Vec<u8>) {
     match field {
-        "U256" | "F32" | "STR0_255" | "B0_255" | "B0_32" | "B0_64K" | "B0_16M" => {
-            read_bytes(alloc, reader, field, out)
+        "U8" | "U16" | "U24" | "U32" | "U64" => read_number(found, field, bytes, out),
+        "B0_255" | "B0_32" | "B0_64K" | "B0_16M" => read_string(found, field, bytes, out),
+        "BOOL" | "OPTION[U32]" | "U256" | "F32" | "STR0_255" => {
+            read_value(found, field, bytes, out);
         }
-        "SEQ0_255[U256]" | "SEQ0_64K[U256]" | "SEQ0_64K[U16]" | "SEQ0_64K[B0_16M]" => {
-            read_sequence(alloc, reader, field, out)
-        }
-        _ => read_number(alloc, reader, field, out),
+        _ => read_sequence(found, field, bytes, out),
     }
 }
 
-fn read_number(
-    alloc: Global,
-    reader: &mut Reader<'_>,
-    field: &str,
-    out: &mut Vec<u8>,
-) -> Result<String> {
+fn read_number(found: &mut Found, field: &str, bytes: &[u8], out: &mut Vec<u8>) {
+    let mut reader = Reader::new(bytes);
     match field {
-        "U8" | "U16" | "U24" => read_short_number(alloc, reader, field, out),
-        "U32" => {
-            let value = reader.u32()?;
-            put_u32(out, value)?;
-            Ok(format!(in alloc; "{value}")?)
-        }
-        "U64" => {
-            let value = reader.u64()?;
-            put_u64(out, value)?;
-            Ok(format!(in alloc; "{value}")?)
-        }
-        "BOOL" => {
-            let value = reader.boolean()?;
-            put_boolean(out, value)?;
-            Ok(format!(in alloc; "{value}")?)
-        }
-        _ => {
-            let value = reader.option_u32()?;
-            put_option_u32(out, value)?;
-            Ok(format!(in alloc; "{value:?}")?)
-        }
+        "U8" => again!(found, out, reader.u8(), put_u8, value => found.tell(&value)),
+        "U16" => again!(found, out, reader.u16(), put_u16, value => found.tell(&value)),
+        "U24" => again!(found, out, reader.u24(), put_u24, value => found.tell(&value)),
+        "U32" => again!(found, out, reader.u32(), put_u32, value => found.tell(&value)),
+        _ => again!(found, out, reader.u64(), put_u64, value => found.tell(&value)),
     }
 }
 
-fn read_short_number(
-    alloc: Global,
-    reader: &mut Reader<'_>,
-    field: &str,
-    out: &mut Vec<u8>,
-) -> Result<String> {
+fn read_value(found: &mut Found, field: &str, bytes: &[u8], out: &mut Vec<u8>) {
+    let mut reader = Reader::new(bytes);
     match field {
-        "U8" => {
-            let value = reader.u8()?;
-            put_u8(out, value)?;
-            Ok(format!(in alloc; "{value}")?)
-        }
-        "U16" => {
-            let value = reader.u16()?;
-            put_u16(out, value)?;
-            Ok(format!(in alloc; "{value}")?)
-        }
-        _ => {
-            let value = reader.u24()?;
-            put_u24(out, value)?;
-            Ok(format!(in alloc; "{value}")?)
-        }
-    }
-}
-
-fn read_bytes(
-    alloc: Global,
-    reader: &mut Reader<'_>,
-    field: &str,
-    out: &mut Vec<u8>,
-) -> Result<String> {
-    match field {
-        "U256" => {
-            let value = reader.u256()?;
-            put_u256(out, value)?;
-            Ok(shown(alloc, value.bytes())?)
-        }
-        "F32" => {
-            let value = reader.f32_bytes()?;
-            put_f32_bytes(out, value)?;
-            Ok(shown(alloc, &value)?)
-        }
+        "BOOL" => again!(found, out, reader.boolean(), put_boolean, it => found.tell(&it)),
+        "U256" => again!(found, out, reader.u256(), put_u256, it => found.bytes(it.bytes())),
+        "F32" => again!(found, out, reader.f32_bytes(), put_f32_bytes, it => found.bytes(&it)),
         "STR0_255" => {
-            let value = reader.str255()?;
-            put_str255(out, value)?;
-            Ok(shown(alloc, value.as_bytes())?)
+            again!(found, out, reader.str255(), put_str255, it => found.bytes(it.as_bytes()));
         }
-        _ => read_byte_string(alloc, reader, field, out),
+        _ => again!(found, out, reader.option_u32(), put_option_u32, it => found.debug(&it)),
     }
 }
 
-fn read_byte_string(
-    alloc: Global,
-    reader: &mut Reader<'_>,
-    field: &str,
-    out: &mut Vec<u8>,
-) -> Result<String> {
+fn read_string(found: &mut Found, field: &str, bytes: &[u8], out: &mut Vec<u8>) {
+    let mut reader = Reader::new(bytes);
     match field {
-        "B0_255" => {
-            let value = reader.b255()?;
-            put_b255(out, value)?;
-            Ok(shown(alloc, value)?)
-        }
-        "B0_32" => {
-            let value = reader.b32()?;
-            put_b32(out, value)?;
-            Ok(shown(alloc, value)?)
-        }
-        "B0_64K" => {
-            let value = reader.b64k()?;
-            put_b64k(out, value)?;
-            Ok(shown(alloc, value)?)
-        }
-        _ => {
-            let value = reader.b16m()?;
-            put_b16m(out, value)?;
-            Ok(shown(alloc, value)?)
-        }
-    }
-}
-
-fn read_sequence(
-    alloc: Global,
-    reader: &mut Reader<'_>,
-    field: &str,
-    out: &mut Vec<u8>,
-) -> Result<String> {
-    match field {
-        "SEQ0_255[U256]" => {
-            let value = reader.seq_u256()?;
-            put_seq_u256(out, value)?;
-            hashes_shown(alloc, value.items())
-        }
-        "SEQ0_64K[U256]" => {
-            let value = reader.seq64k_u256()?;
-            put_seq64k_u256(out, value)?;
-            hashes_shown(alloc, value.items())
-        }
-        "SEQ0_64K[U16]" => {
-            let value = reader.seq_u16()?;
-            put_seq_u16(out, value)?;
-            numbers_shown(alloc, value)
-        }
-        _ => {
-            let value = reader.seq_bytes()?;
-            put_seq_bytes(out, value)?;
-            parts_shown(alloc, value)
-        }
+        "B0_255" => again!(found, out, reader.b255(), put_b255, value => found.bytes(value)),
+        "B0_32" => again!(found, out, reader.b32(), put_b32, value => found.bytes(value)),
+        "B0_64K" => again!(found, out, reader.b64k(), put_b64k, value => found.bytes(value)),
+        _ => again!(found, out, reader.b16m(), put_b16m, value => found.bytes(value)),
     }
 }
 
 /// How many items there are, and the first four.
-fn hashes_shown(alloc: Global, hashes: &[[u8; 32]]) -> Result<String> {
-    let mut text = format!(in alloc; "{}:", hashes.len())?;
-    for hash in hashes.iter().take(4) {
-        put_shown(alloc, &mut text, hash)?;
-    }
-    Ok(text)
-}
-
-fn put_shown(alloc: Global, text: &mut String, bytes: &[u8]) -> Result<()> {
-    let bytes = shown(alloc, bytes)?;
-    write!(text, " {bytes}")?;
-    Ok(())
-}
-
-fn numbers_shown(alloc: Global, numbers: SeqU16<'_>) -> Result<String> {
-    let count = numbers.len();
-    if numbers.is_empty() != (count == 0) || numbers.get(count).is_some() {
-        bail!("it isn't empty as it says, or there is an item past the end");
-    }
-    let mut text = format!(in alloc; "{count}:")?;
-    for at in 0..count.min(4) {
-        write!(text, " {:?}", numbers.get(at))?;
-    }
-    Ok(text)
-}
-
-fn parts_shown(alloc: Global, parts: SeqBytes<'_>) -> Result<String> {
-    let count = parts.len();
-    if parts.is_empty() != (count == 0) || parts.get(count).is_some() {
-        bail!("it isn't empty as it says, or there is an item past the end");
-    }
-    let mut text = format!(in alloc; "{count}:")?;
-    for at in 0..count.min(4) {
-        if let Some(part) = parts.get(at) {
-            put_shown(alloc, &mut text, part)?;
+fn read_sequence(found: &mut Found, field: &str, bytes: &[u8], out: &mut Vec<u8>) {
+    let mut reader = Reader::new(bytes);
+    match field {
+        "SEQ0_255[U256]" => {
+            again!(found, out, reader.seq_u256(), put_seq_u256, it => tell_all(found, it.items()));
         }
+        "SEQ0_64K[U256]" => again!(
+            found, out, reader.seq64k_u256(), put_seq64k_u256, it => tell_all(found, it.items())
+        ),
+        "SEQ0_64K[U16]" => again!(found, out, reader.seq_u16(), put_seq_u16, it => {
+            found.tell(&it.len());
+            found.say(":");
+            for at in 0..it.len().min(4) {
+                found.say(" ");
+                found.debug(&it.get(at));
+            }
+        }),
+        _ => again!(found, out, reader.seq_bytes(), put_seq_bytes, it => {
+            found.tell(&it.len());
+            found.say(":");
+            for at in 0..it.len().min(4) {
+                found.say(" ");
+                found.bytes(it.get(at).unwrap_or(b"none"));
+            }
+        }),
     }
-    Ok(text)
+}
+
+fn tell_all(found: &mut Found, hashes: &[[u8; 32]]) {
+    found.tell(&hashes.len());
+    found.say(":");
+    for hash in hashes.iter().take(4) {
+        found.say(" ");
+        found.bytes(hash);
+    }
 }
 
 /// What an owned copy holds, and what it holds after it was given back.
-fn found_copy(alloc: Global, given: &str) -> Result<String> {
-    let bytes = bytes(alloc, part(given, 2)?)?;
-    match part(given, 1)? {
-        "Str255" => found_text(alloc, str::from_utf8(&bytes)?),
-        "Blob" => found_blob(alloc, &bytes),
-        _ => found_hashes(alloc, &bytes),
+fn find_copy(found: &mut Found, case: Case<'_>) {
+    let bytes = found.bytes_of(case.part(2));
+    match case.part(1) {
+        "Str255" => find_text(found, str::from_utf8(&bytes).unwrap_or("")),
+        "Blob" => find_blob(found, &bytes),
+        _ => find_hashes(found, &bytes),
     }
 }
 
-fn found_text(alloc: Global, text: &str) -> Result<String> {
-    if text.len() > 255 {
-        bail!("a text has at most 255 bytes");
+fn find_text(found: &mut Found, text: &str) {
+    if text.len() <= 255
+        && let Ok(copy) = Str255::of(found.alloc(), text)
+    {
+        found.bytes(copy.text().as_bytes());
+        found.say(" ");
+        found.bytes(Str255::from_text(copy.into_text()).text().as_bytes());
     }
-    let copy = Str255::of(alloc, text)?;
-    let mut shown = shown(alloc, copy.text().as_bytes())?;
-    let again = Str255::from_text(copy.into_text());
-    put_shown(alloc, &mut shown, again.text().as_bytes())?;
-    Ok(shown)
 }
 
-fn found_blob(alloc: Global, bytes: &[u8]) -> Result<String> {
-    let copy = Blob::of(alloc, bytes)?;
-    let mut shown = shown(alloc, copy.bytes())?;
-    let again = Blob::from_vec(copy.into_vec());
-    put_shown(alloc, &mut shown, again.bytes())?;
-    Ok(shown)
+fn find_blob(found: &mut Found, bytes: &[u8]) {
+    if let Ok(copy) = Blob::of(found.alloc(), bytes) {
+        found.bytes(copy.bytes());
+        found.say(" ");
+        found.bytes(Blob::from_vec(copy.into_vec()).bytes());
+    }
 }
 
-fn found_hashes(alloc: Global, bytes: &[u8]) -> Result<String> {
-    let given = hashes_of(alloc, bytes)?;
-    let copy = Hashes::of(alloc, &given)?;
-    let first = hashes_shown(alloc, copy.items())?;
-    let again = Hashes::from_vec(copy.into_vec());
-    let second = hashes_shown(alloc, again.items())?;
-    Ok(format!(in alloc; "{first} {second}")?)
-}
-
-fn hashes_of(alloc: Global, bytes: &[u8]) -> Result<Vec<[u8; 32]>> {
-    let mut hashes: Vec<[u8; 32]> = Vec::new(alloc);
+fn find_hashes(found: &mut Found, bytes: &[u8]) {
+    let mut hashes: Vec<[u8; 32]> = Vec::new(found.alloc());
     for part in bytes.chunks(32) {
-        match part.try_into() {
-            Ok(hash) => hashes.push(hash)?,
-            Err(_) => bail!("a hash has 32 bytes"),
-        }
+        found.done(hashes.push(part.try_into().unwrap_or([0; 32])).is_ok());
     }
-    Ok(hashes)
+    if let Ok(copy) = Hashes::of(found.alloc(), &hashes) {
+        tell_all(found, copy.items());
+        found.say(" ");
+        tell_all(found, Hashes::from_vec(copy.into_vec()).items());
+    }
 }
 
-fn found_number(alloc: Global, name: &str) -> Result<String> {
+fn find_number(found: &mut Found, name: &str) {
     let defect = match name {
         "Short" => ReadError::Short,
         "LengthTooGreat" => ReadError::LengthTooGreat,
         "NotUtf8" => ReadError::NotUtf8,
         _ => ReadError::CountTooGreat,
     };
-    Ok(format!(in alloc; "{}", defect as u8)?)
+    found.tell(&(defect as u8));
 }

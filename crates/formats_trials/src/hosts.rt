@@ -1,146 +1,112 @@
 //! Keepers and hosts in memory, call by call.
 
-use crate::turns::{host_of_file, numbers, script, turns};
-use anyhow::{Result, bail};
-use case_lines::{bytes, part, shown};
-use pool_io::{Host, Keeper, KeptRecord, MemHost, MemKeeper, Source, SureKeeper, Took};
-use std::alloc::Global;
-use std::fmt::Write;
+use crate::turns::{host_of_file, numbers, turns};
+use pool_io::{Host, Keeper, KeptRecord, MemHost, MemKeeper, Script, Source, SureKeeper, Took};
+use trial_cases::{Case, Found};
 
-pub(crate) fn found(alloc: Global, given: &str) -> Result<String> {
-    match part(given, 0)? {
-        "keeper" => found_keeper(alloc, part(given, 1)?, part(given, 2)?),
-        "sure keeper" => found_sure_keeper(alloc, part(given, 2)?),
-        _ => found_host(alloc, given),
+pub(crate) fn find(found: &mut Found, case: Case<'_>) {
+    match case.part(0) {
+        "keeper" => {
+            let failing = numbers(found, case.part(1));
+            let mut keeper = MemKeeper::new(found.alloc(), failing);
+            find_answers(found, &mut keeper, case.part(2));
+            tell_kept(found, keeper.records());
+        }
+        "sure keeper" => {
+            let mut keeper = SureKeeper::new(found.alloc());
+            find_answers(found, &mut keeper, case.part(2));
+            tell_kept(found, keeper.records());
+        }
+        _ => find_host(found, case),
     }
-}
-
-fn found_keeper(alloc: Global, failing: &str, records: &str) -> Result<String> {
-    let mut keeper = MemKeeper::new(alloc, numbers(alloc, failing)?);
-    let mut text = String::new(alloc);
-    put_answers(alloc, &mut text, &mut keeper, records)?;
-    put_kept(alloc, &mut text, keeper.records())?;
-    Ok(text)
-}
-
-fn found_sure_keeper(alloc: Global, records: &str) -> Result<String> {
-    let mut keeper = SureKeeper::new(alloc);
-    let mut text = String::new(alloc);
-    put_answers(alloc, &mut text, &mut keeper, records)?;
-    put_kept(alloc, &mut text, keeper.records())?;
-    Ok(text)
 }
 
 /// What a keeper answers to records, appended in turn.
-fn put_answers<K: Keeper>(
-    alloc: Global,
-    text: &mut String,
-    keeper: &mut K,
-    words: &str,
-) -> Result<()> {
+pub(crate) fn find_answers<K: Keeper>(found: &mut Found, keeper: &mut K, words: &str) {
     for word in words.split_whitespace() {
-        let record = bytes(alloc, word)?;
-        if record.len() > 300_100 {
-            bail!("a record is at most so long");
+        let record = found.bytes_of(word);
+        if record.len() <= 300_100 {
+            found.say(" ");
+            found.debug(&keeper.append(&record));
         }
-        let answer = keeper.append(&record);
-        write!(text, " {answer:?}")?;
     }
-    Ok(())
 }
 
 /// The records that are kept.
-fn put_kept(alloc: Global, text: &mut String, records: &[KeptRecord]) -> Result<()> {
-    write!(text, " kept")?;
+fn tell_kept(found: &mut Found, records: &[KeptRecord]) {
+    found.say(" kept");
     for record in records {
-        put_shown(alloc, text, record.bytes())?;
+        tell_piece(found, record.bytes());
     }
-    Ok(())
 }
 
-fn put_shown(alloc: Global, text: &mut String, bytes: &[u8]) -> Result<()> {
-    let bytes = shown(alloc, bytes)?;
-    write!(text, " {bytes}")?;
-    Ok(())
+fn tell_piece(found: &mut Found, bytes: &[u8]) {
+    found.say(" ");
+    found.bytes(bytes);
 }
 
 /// What a host answers to calls, one after the other; what came back to it; and the calls it tells.
-fn found_host(alloc: Global, given: &str) -> Result<String> {
-    let contents = script(alloc, turns(alloc, part(given, 2)?)?);
-    let mut host = host_of_file(alloc, "file", contents, part(given, 1)?)?;
-    let mut text = String::new(alloc);
-    for call in part(given, 3)?.split(',') {
-        put_call(alloc, &mut text, &mut host, call.trim())?;
+fn find_host(found: &mut Found, case: Case<'_>) {
+    let file = Script {
+        contents: turns(found, case.part(2)),
+        failing: Vec::new(found.alloc()),
+    };
+    let mut host = host_of_file(found, "file", file, case.part(1));
+    for call in case.part(3).split(',') {
+        find_call(found, &mut host, call.trim());
+        found.say("; ");
     }
-    put_left(alloc, &mut text, &host)?;
-    Ok(text)
-}
-
-fn put_left(alloc: Global, text: &mut String, host: &MemHost) -> Result<()> {
-    let sources = host.sources().len();
-    let sinks = host.sinks().len();
-    write!(text, "{sources} {sinks};")?;
+    found.tell(&host.sources().len());
+    found.say(" ");
+    found.tell(&host.sinks().len());
+    found.say(";");
     for keeper in host.keepers() {
-        put_kept(alloc, text, keeper.records())?;
+        tell_kept(found, keeper.records());
     }
-    write!(text, "; {:?}", host.calls())?;
-    Ok(())
+    found.say("; ");
+    found.debug(&host.calls());
 }
 
-fn put_call(alloc: Global, text: &mut String, host: &mut MemHost, call: &str) -> Result<()> {
+/// What comes of a call. What is opened is handed back.
+fn find_call(found: &mut Found, host: &mut MemHost, call: &str) {
     match call.split_once(' ') {
-        Some(("source", name)) => put_source(alloc, text, host, name)?,
-        Some((_, name)) => put_keeper(alloc, text, host, name)?,
-        None if call == "input" => {
-            let source = host.input()?;
-            host.done_source(source);
-        }
-        None => {
-            let sink = host.output()?;
-            host.done_sink(sink);
-        }
+        Some(("source", name)) => match host.open_source(name) {
+            Ok(mut source) => {
+                find_brought(found, &mut source);
+                host.done_source(source);
+            }
+            Err(error) => found.debug(&error),
+        },
+        Some((_, name)) => match host.open_keeper(name) {
+            Ok(mut keeper) => {
+                find_answers(found, &mut keeper, "01 02");
+                host.done_keeper(keeper);
+            }
+            Err(error) => found.debug(&error),
+        },
+        None if call == "input" => match host.input() {
+            Ok(source) => host.done_source(source),
+            Err(error) => found.debug(&error),
+        },
+        None => match host.output() {
+            Ok(sink) => host.done_sink(sink),
+            Err(error) => found.debug(&error),
+        },
     }
-    write!(text, "; ")?;
-    Ok(())
-}
-
-/// What a source brings. It is handed back.
-fn put_source(alloc: Global, text: &mut String, host: &mut MemHost, name: &str) -> Result<()> {
-    let mut source = match host.open_source(name) {
-        Ok(source) => source,
-        Err(error) => {
-            write!(text, "{error:?}")?;
-            return Ok(());
-        }
-    };
-    let told = put_brought(alloc, text, &mut source);
-    host.done_source(source);
-    told
-}
-
-/// What a keeper answers to the records 01 and 02. It is handed back.
-fn put_keeper(alloc: Global, text: &mut String, host: &mut MemHost, name: &str) -> Result<()> {
-    let mut keeper = match host.open_keeper(name) {
-        Ok(keeper) => keeper,
-        Err(error) => {
-            write!(text, "{error:?}")?;
-            return Ok(());
-        }
-    };
-    let told = put_answers(alloc, text, &mut keeper, "01 02");
-    host.done_keeper(keeper);
-    told
 }
 
 /// What a source brings, up to its end.
-fn put_brought<S: Source>(alloc: Global, text: &mut String, source: &mut S) -> Result<()> {
+fn find_brought<S: Source>(found: &mut Found, source: &mut S) {
     let mut buffer = [0; 4];
     for _ in 0..100 {
-        match source.take(&mut buffer) {
-            Took::Bytes(count) => put_shown(alloc, text, &buffer[..count])?,
+        let took = source.take(&mut buffer);
+        match took {
+            Took::Bytes(count) => tell_piece(found, &buffer[..count]),
             Took::End => break,
-            took => write!(text, " {took:?}")?,
+            _ => {
+                found.say(" ");
+                found.debug(&took);
+            }
         }
     }
-    Ok(())
 }
