@@ -3,7 +3,7 @@ use Rattle.std.proofs.Common.{◌≡◌, ℕ, ◌+◌, ◌-◌, ◌<◌, List, l
 use Rattle.std.proofs.lemmas.List.{length-set, set-set}
 use Rattle.sha2.specs.Sha256.{sha256}
 use Rattle.block_header.specs.Hash.{dsha}
-use Rattle.merkle_trees.specs.Tree.{path}
+use Rattle.job_declaration.specs.Tree.{path}
 use Rattle.bench.specs.declared.lanes.Form.{Form}
 use Rattle.bench.specs.declared.lanes.Form.TheVariants.{Digest64, Double64, Double80}
 use Rattle.bench.specs.Fours.{hashes_from}

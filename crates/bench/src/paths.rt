@@ -2,11 +2,11 @@
 
 ghost use Rattle.std.specs.Prelude.{◌≡◌, ◌-◌, ◌<◌, length, IfOk};
 ghost use Rattle.bench.specs.Numbered.{ending_in};
-ghost use Rattle.merkle_trees.specs.Tree.{path};
+ghost use Rattle.job_declaration.specs.Tree.{path};
 
 use crate::numbered::message_of;
 use anyhow::{Result, bail};
-use merkle_trees::merkle_path;
+use job_declaration::merkle_path;
 use std::alloc::{AllocError, Global};
 
 /// Puts the number's id in place of the last one, and finds the path of all.

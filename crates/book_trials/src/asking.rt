@@ -7,7 +7,7 @@ use pool_history::{
     BookError, Brief, Event, Kind, OpenAsk, Reply, Request, Submission, TemplateData, TipData,
 };
 use pool_io::Keeper;
-use share_check::{check, rolled_length};
+use share_headers::{check, rolled_length};
 use share_ledger::Book;
 use std::alloc::{AllocError, Global};
 use sv2_types::{Blob, Hashes, Str255, U256};

@@ -5,17 +5,17 @@ ghost use Rattle.std.specs.Prelude.{◌≡◌};
 use crate::books::begun;
 use crate::desks::{closed, opened};
 use desk::{Desk, Pass};
-use pool_core::SessionEnd;
 use pool_history::Role;
 use pool_io::{MemKeeper, MemSink, MemSource, Piece, Turn};
 use pool_network::Streams;
+use pool_server::{DeskWorker, serve_link};
 use session_steps::Manner;
-use session_workers::{DeskWorker, serve_link};
 use share_ledger::Book;
 use std::alloc::Global;
 use std::sync::Wait;
 use trial_support::{Tried, bytes, example_rules, hex_of, number, role, word, words_of};
 use v1_translate::V1Terms;
+use v2_sessions::SessionEnd;
 
 /// Tries each line of a file: a session in a role over the turns of a link, where a take, a put or an
 /// append may fail. Says what went wrong, and how many lines there were; none where there is no

@@ -9,7 +9,7 @@ use crate::desks::{closed, opened};
 use desk::{Desk, Pass};
 use pool_history::{Kind, Reply, Request, Submission};
 use pool_io::SureKeeper;
-use share_check::{check, rolled_length};
+use share_headers::{check, rolled_length};
 use share_ledger::Book;
 use std::alloc::Global;
 use std::sync::Wait;

@@ -1,16 +1,15 @@
 //! How a session takes its input and puts its output: in pieces of at most 4,096 bytes, and frame by
 //! frame, so that it holds little.
 
-use pool_core::SessionEnd;
 use pool_history::Role;
 use pool_io::{Piece, Sink, SinkFailed, Source, SureKeeper, SureSource, Took, Turn};
 use pool_network::Streams;
-use session_loop::converse;
+use pool_sessions::SoleBook;
 use session_steps::Manner;
 use share_ledger::Book;
-use solo_session::SoleBook;
 use std::alloc::Global;
 use trial_support::{Subject, bytes, example_rules, number, role, word};
+use v2_sessions::{SessionEnd, converse};
 
 /// A source that keeps the greatest room that it was given.
 #[derive(Drop)]

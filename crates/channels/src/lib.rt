@@ -2,7 +2,6 @@
 //! job can ask for.
 #![tactic(auto)]
 
-mod accounts;
 mod changes;
 mod channel;
 mod laws;
@@ -12,7 +11,6 @@ mod plan;
 mod settings;
 mod table;
 
-pub use accounts::{account_in, is_known_account};
 pub use channel::Channel;
 pub use laws::tables_show_histories;
 pub use openings::class_given;

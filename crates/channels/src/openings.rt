@@ -7,9 +7,8 @@ ghost use Rattle.pool_history.specs.Channels.{OpenChannel};
 ghost use Rattle.pool_history.specs.Conditions.{first_false};
 ghost use Rattle.pool_history.specs.Refusing.{class_for, class_of_target, conditions_among, count_among, lead_length, may_open};
 
-use crate::accounts::{account_in, is_known_account};
 use block_header::class_of_target;
-use pool_history::{Class, Kind, OpenAsk, OpenError, Rules};
+use pool_history::{Class, Kind, OpenAsk, OpenError, Rules, account_in, is_known_account};
 use std::alloc::{AllocError, Global};
 use sv2_types::{Str255, U256};
 

@@ -1,6 +1,5 @@
 //! The table of open channels.
 
-use crate::accounts::{account_in, is_known_account};
 use crate::changes::{
     close_all, close_kept, hold, put_account, put_channel, put_class, reserve_class,
 };
@@ -10,7 +9,10 @@ use crate::openings::{class_given, lead_len, opening_account, opening_refusal};
 use crate::plan::ChannelPlan;
 use crate::settings::Settings;
 use indexmap::IndexMap;
-use pool_history::{Class, Kind, Lead, LiveSpan, NameError, OpenAsk, OpenError, Opened, Rules};
+use pool_history::{
+    Class, Kind, Lead, LiveSpan, NameError, OpenAsk, OpenError, Opened, Rules, account_in,
+    is_known_account,
+};
 use prefix_space::Space;
 use std::alloc::{AllocError, Global};
 use std::marker::Model;

@@ -3,7 +3,7 @@ use Rattle.std.proofs.Common.{◌≡◌, ℕ, List, [], ◌++◌, take, drop, ge
 use Rattle.std.specs.Int.{w32, to_le_bytes, from_le_bytes}
 use Rattle.std.proofs.lemmas.List.{take_at, drop_at}
 use Rattle.std.proofs.lemmas.Nat.{from_le_bytes-to_le_bytes_4}
-use Rattle.fixed_command.specs.declared.judge.Job.{Job}
+use Rattle.stream_programs.specs.declared.judge.Job.{Job}
 use Rattle.command_line.specs.Numbers.{IsNumber}
 use Rattle.command_line.specs.declared.words.Form.{Form}
 use Rattle.command_line.specs.declared.words.Form.TheVariants.{SoloFixed, Frames, Solo, Declare, Serve, Audit, Migrate, Load, Mine, Feed, Proxy, Durable}

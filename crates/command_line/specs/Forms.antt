@@ -2,7 +2,7 @@
 use Rattle.std.specs.Prelude.{ℕ, ◌≡◌, ◌⊎◌, ◌<◌, ◌≤◌, ◌^◌, List, [], ◌∷◌, ◌++◌, length, Ok, codes}
 use Rattle.std.specs.Int.{w32, to_le_bytes}
 use Rattle.hex.specs.Hex.{decode_sized}
-use Rattle.fixed_command.specs.declared.judge.Job.{Job}
+use Rattle.stream_programs.specs.declared.judge.Job.{Job}
 use Rattle.pool_history.specs.Accounts.{account_of}
 use Rattle.command_line.specs.declared.words.Form.{Form}
 use Rattle.command_line.specs.declared.words.Form.TheVariants.{SoloFixed, Frames, Solo, Declare, Serve, Audit, Migrate, Load, Mine, Feed, Proxy, Durable}

@@ -4,22 +4,22 @@ use Rattle.stream_commands.specs.declared.status.Status.{Status}
 use Rattle.stream_commands.specs.Duties.{Duty}
 use Rattle.stream_commands.specs.Rows.{AsksForStreams, StreamRow}
 use Rattle.stream_commands.specs.Statuses.{status_code}
-use Rattle.ledger_commands.specs.Auditing.{AuditRow}
-use Rattle.fixed_command.specs.Duty.{share_duty}
-use Rattle.frames_command.specs.Duty.{listing_duty}
-use Rattle.ledger_commands.specs.Migrating.{MigrateRow}
-use Rattle.durable_commands.specs.Auditing.{DurableAuditRow}
-use Rattle.durable_commands.specs.Serving.{DurableServeRow}
-use Rattle.durable_commands.specs.Soloing.{DurableSoloRow, HostAndDisks}
-use Rattle.durable_commands.specs.Surroundings.{Surroundings, world_in}
-use Rattle.feed_command.specs.Row.{FeedRow}
+use Rattle.ledger_audit.specs.AuditCommand.{AuditRow}
+use Rattle.stream_programs.specs.FixedDuty.{share_duty}
+use Rattle.stream_programs.specs.Duty.{listing_duty}
+use Rattle.ledger_audit.specs.Migrating.{MigrateRow}
+use Rattle.pool_commands.specs.DurableAuditing.{DurableAuditRow}
+use Rattle.pool_commands.specs.DurableServing.{DurableServeRow}
+use Rattle.pool_commands.specs.DurableSoloing.{DurableSoloRow, HostAndDisks}
+use Rattle.pool_commands.specs.Surroundings.{Surroundings, world_in}
+use Rattle.peer_commands.specs.FeedRow.{FeedRow}
 use Rattle.load_command.specs.Row.{LoadRow}
-use Rattle.mine_command.specs.Row.{MineRow}
+use Rattle.peer_commands.specs.Row.{MineRow}
 use Rattle.proxy_command.specs.Row.{ProxyRow}
-use Rattle.serve_command.specs.Row.{ServeRow}
+use Rattle.pool_commands.specs.ServeRow.{ServeRow}
 use Rattle.pool_io.specs.Hosts.{HostSeen}
 use Rattle.pool_network.specs.Worlds.{WorldSeen}
-use Rattle.solo_command.specs.Row.{DeclareRow, SoloRow}
+use Rattle.pool_commands.specs.SoloRow.{DeclareRow, SoloRow}
 use Rattle.command_line.specs.declared.words.Form.{Form}
 use Rattle.command_line.specs.declared.words.Form.TheVariants.{SoloFixed, Frames, Solo, Declare, Serve, Audit, Migrate, Load, Mine, Feed, Proxy, Durable}
 use Rattle.command_line.specs.declared.words.OnDisk.{OnDisk}

@@ -2,17 +2,17 @@
 
 ghost use Rattle.std.specs.Prelude.{◌≡◌};
 ghost use Rattle.pool_io.specs.Hosts.{IsHandedBack};
-ghost use Rattle.durable_commands.specs.Auditing.{DurableAuditRow};
-ghost use Rattle.durable_commands.specs.Serving.{DurableServeRow};
-ghost use Rattle.durable_commands.specs.Soloing.{DurableSoloRow};
-ghost use Rattle.durable_commands.specs.Surroundings.{IsAllBack, around};
+ghost use Rattle.pool_commands.specs.DurableAuditing.{DurableAuditRow};
+ghost use Rattle.pool_commands.specs.DurableServing.{DurableServeRow};
+ghost use Rattle.pool_commands.specs.DurableSoloing.{DurableSoloRow};
+ghost use Rattle.pool_commands.specs.Surroundings.{IsAllBack, around};
 ghost use Rattle.command_line.specs.declared.words.OnDisk.TheVariants as command;
 ghost use Rattle.command_line.specs.Forms.{IsDurable, IsDurableAudit, IsDurableServe, IsDurableSolo};
 ghost use Rattle.command_line.specs.Running.{OwesDurableRow, StaysOffNetwork};
 
 use crate::words::{OnDisk, Word, durable_audit_name, durable_serve_names, durable_solo_names};
-use disk_io::Disks;
-use durable_commands::{audit_on_disk, serve_on_disk, solo_on_disk};
+use ledger_disk::Disks;
+use pool_commands::{audit_on_disk, serve_on_disk, solo_on_disk};
 use pool_io::Host;
 use pool_network::{Door, Network};
 use std::alloc::Global;

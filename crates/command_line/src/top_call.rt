@@ -4,15 +4,15 @@ ghost use Rattle.std.specs.Prelude.{◌≡◌, ◌==◌, ◌↔◌, ◌⊎◌};
 ghost use Rattle.pool_io.specs.Outside.{CountsFailure};
 ghost use Rattle.stream_commands.specs.declared.status.Status.{Status as Answer};
 ghost use Rattle.stream_commands.specs.Statuses.{status_code};
-ghost use Rattle.ledger_commands.specs.Auditing.{AuditRow};
-ghost use Rattle.ledger_commands.specs.Migrating.{MigrateRow};
-ghost use Rattle.feed_command.specs.Row.{FeedRow};
-ghost use Rattle.mine_command.specs.Row.{MineRow};
+ghost use Rattle.ledger_audit.specs.AuditCommand.{AuditRow};
+ghost use Rattle.ledger_audit.specs.Migrating.{MigrateRow};
+ghost use Rattle.peer_commands.specs.FeedRow.{FeedRow};
+ghost use Rattle.peer_commands.specs.Row.{MineRow};
 ghost use Rattle.proxy_command.specs.Row.{ProxyRow};
-ghost use Rattle.serve_command.specs.Row.{ServeRow};
+ghost use Rattle.pool_commands.specs.ServeRow.{ServeRow};
 ghost use Rattle.pool_io.specs.Hosts.{IsHandedBack};
-ghost use Rattle.durable_commands.specs.Surroundings.{IsAllBack, IsWorldBack, around};
-ghost use Rattle.solo_command.specs.Row.{DeclareRow, SoloRow};
+ghost use Rattle.pool_commands.specs.Surroundings.{IsAllBack, IsWorldBack, around};
+ghost use Rattle.pool_commands.specs.SoloRow.{DeclareRow, SoloRow};
 ghost use Rattle.command_line.specs.declared.words.Form.{Form as Asked};
 ghost use Rattle.command_line.specs.Forms.{AskAtAddress, AskForDisk, HasNoForm, IsAudit, IsDeclare, IsDurable, IsDurableAudit, IsDurableServe, IsDurableSolo, IsFeed, IsForm, IsMigrate, IsMine, IsProxy, IsServe, IsSolo};
 ghost use Rattle.command_line.specs.Running.{DoesForm, IsAlone, IsOffDisk, IsWithinLimits, OwesDurableRow, OwesRow};
@@ -22,13 +22,10 @@ use crate::words::{
     Form, Word, audit_name, declare_names, feed_names, form_of, migrate_names, serve_names,
     solo_names,
 };
-use disk_io::Disks;
-use feed_command::feed;
-use fixed_command::judge_shares;
-use frames_command::list_frames;
-use ledger_commands::{audit_ledger, migrate_ledger};
+use ledger_audit::{audit_ledger, migrate_ledger};
+use ledger_disk::Disks;
 use load_command::load;
-use mine_command::mine;
+use peer_commands::{feed, mine};
 use pool_io::Host;
 use pool_network::{Door, Network};
 use proxy_command::proxy;
@@ -36,6 +33,7 @@ use std::alloc::Global;
 use std::sync::Wait;
 use std::thread::Threads;
 use stream_commands::Status;
+use stream_programs::{judge_shares, list_frames};
 
 /// Does what the words ask for, and answers the status of the process.
 pub fn run<R: Threads + Wait + Sync, H: Host, N: Network, V: Disks>(
@@ -159,7 +157,7 @@ where
         Some((settings, ledger)) => {
             let settings_name = settings.text();
             let ledger_name = ledger.text();
-            serve_command::serve_by_settings(rt, alloc, host, network, settings_name, ledger_name)
+            pool_commands::serve_by_settings(rt, alloc, host, network, settings_name, ledger_name)
         }
         None => unreachable!(),
     }
@@ -274,7 +272,7 @@ fn solo_named<H: Host>(alloc: Global, host: &mut H, words: &[Word]) -> Status
         Some((settings, ledger)) => {
             let settings_name = settings.text();
             let ledger_name = ledger.text();
-            solo_command::serve_by_settings(alloc, host, settings_name, ledger_name)
+            pool_commands::solo_by_settings(alloc, host, settings_name, ledger_name)
         }
         None => unreachable!(),
     }
@@ -293,7 +291,7 @@ fn declare_named<H: Host>(alloc: Global, host: &mut H, words: &[Word]) -> Status
         Some((settings, ledger)) => {
             let settings_name = settings.text();
             let ledger_name = ledger.text();
-            solo_command::declare_by_settings(alloc, host, settings_name, ledger_name)
+            pool_commands::declare_by_settings(alloc, host, settings_name, ledger_name)
         }
         None => unreachable!(),
     }

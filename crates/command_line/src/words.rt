@@ -5,13 +5,13 @@ ghost use Rattle.std.specs.Prelude.{IfSome, IfNone, Ok, [], ◌∷◌, codes};
 ghost use Rattle.hex.specs.Hex.{decode_sized};
 ghost use Rattle.pool_history.specs.Accounts.{account_of};
 ghost use Rattle.command_line.specs.Numbers.{IsNumber};
-ghost use Rattle.fixed_command.specs.declared.judge.Job.{Job as Work};
+ghost use Rattle.stream_programs.specs.declared.judge.Job.{Job as Work};
 ghost use Rattle.command_line.specs.declared.words.OnDisk.{OnDisk as Durable};
 ghost use Rattle.command_line.specs.Forms.{IsAudit, IsDeclare, IsDurable, IsDurableAudit, IsDurableServe, IsDurableSolo, IsFeed, IsForm, IsFrames, IsJob, IsLoad, IsMigrate, IsMine, IsProxy, IsServe, IsSolo, IsSoloFixed};
 
-use fixed_command::Job;
 use hex::FromHex;
 use std::marker::Model;
+use stream_programs::Job;
 
 /// A word of the command line: a text of any length.
 #[derive(Drop)]

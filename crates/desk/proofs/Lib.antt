@@ -8,3 +8,8 @@ pub mod Closes
 pub mod Missing
 pub mod Joined
 pub mod Crossing
+pub mod Calls
+pub mod ThreadsCrossing
+pub mod Done
+pub mod Pairs
+pub mod Workers

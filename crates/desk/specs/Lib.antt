@@ -4,3 +4,5 @@ pub mod Rule
 pub mod Plays
 pub mod Passes
 pub mod Closing
+pub mod Calling
+pub mod Parts

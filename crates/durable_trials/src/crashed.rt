@@ -1,20 +1,19 @@
 //! A session over a disk that fails, what a crash leaves of it, and a session after it.
 
 ghost use Rattle.std.specs.Prelude.{◌≡◌, IfSome};
-ghost use Rattle.disk_io.specs.Calls.{fresh_disk};
-ghost use Rattle.disk_book.specs.Books.{IsJustOpened};
+ghost use Rattle.ledger_disk.specs.Calls.{fresh_disk};
+ghost use Rattle.ledger_resume.specs.Books.{IsJustOpened};
 
-use disk_book::NoBook;
-use disk_io::{Failures, MemDisk};
-use durable_commands::{DiskEnd, ServedDisk, serve_disk};
 use ledger_audit::{verdict_of, write_verdict};
-use ledger_disk::DiskLedger;
-use pool_core::SessionEnd;
+use ledger_disk::{DiskLedger, Failures, MemDisk};
+use ledger_resume::NoBook;
+use pool_commands::{DiskEnd, ServedDisk, serve_disk};
 use pool_io::{Limits, Piece, SureSink, SureSource, Turn};
 use std::alloc::Global;
 use std::str;
 use sv2_types::Blob;
 use trial_support::{Subject, bytes, example_rules, number, told, word};
+use v2_sessions::SessionEnd;
 
 /// Input comes at once, so that nothing is waited for.
 const LIMITS: Limits = Limits {

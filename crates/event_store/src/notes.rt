@@ -18,11 +18,10 @@ use crate::audience::Heard;
 use crate::marks::Listener;
 use block_header::root_of;
 use coinbase::Assembly;
-use pool_history::{JobError, Kind, Lead, Note, Rules, TemplateData, TipData};
-use share_check::whole_extranonce;
+use pool_history::{JobError, Kind, Lead, Note, Rules, TemplateData, TipData, template_coinbase};
+use share_headers::whole_extranonce;
 use std::alloc::{AllocError, Global};
 use sv2_types::{Blob, Hashes, U256};
-use template_jobs::template_coinbase;
 
 /// A template's job as it is told.
 #[derive(Drop)]

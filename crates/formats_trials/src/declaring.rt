@@ -1,6 +1,6 @@
 //! What a session hears of tokens and declarations, and what comes of it.
 
-use declare_core::{Declared, Declarer};
+use job_declaration::{Declared, Declarer};
 use pool_history::{GrantError, Reply, Request, Script};
 use sv2_frames::Frame;
 use sv2_types::Blob;

@@ -1,8 +1,7 @@
 //! Disks in memory, by themselves, by their names and under ledgers, call by call and crash by crash.
 
 use crate::turns::numbers;
-use disk_io::{Disk, Disks, Failures, MemDisk, MemDisks, NamedDisk};
-use ledger_disk::DiskLedger;
+use ledger_disk::{Disk, DiskLedger, Disks, Failures, MemDisk, MemDisks, NamedDisk};
 use pool_io::Name;
 use trial_cases::{Case, Found, word};
 

@@ -1,7 +1,7 @@
 //! Headers, roots, paths, classes and targets, by Bitcoin's public record.
 
 use block_header::{Header, class_of_target, dsha, meets_class, meets_target, root_of, target_of};
-use merkle_trees::merkle_path;
+use job_declaration::merkle_path;
 use sv2_types::U256;
 use trial_cases::{Case, Found, word};
 

@@ -4,14 +4,13 @@ ghost use Rattle.std.specs.Prelude.{◌≡◌, false, IfOk};
 ghost use Rattle.serde_json.specs.View.{view};
 ghost use Rattle.serde_json.specs.Written.{has_float};
 
-use line_reader::LineReader;
 use serde_json::Value;
 use std::alloc::AllocError;
 use std::str;
 use trial_cases::{Case, Found};
 use v1_lines::{
-    NotifiedJob, V1Error, answer_id, answer_value, call_in, error_reply, hex_number, hex_word,
-    is_blank_line, line_value, notify_value, number_text, put_line, refusal_reply,
+    LineReader, NotifiedJob, V1Error, answer_id, answer_value, call_in, error_reply, hex_number,
+    hex_word, is_blank_line, line_value, notify_value, number_text, put_line, refusal_reply,
     set_difficulty_value, word_text,
 };
 

@@ -1,3 +1,4 @@
 pub mod Holding
 pub mod Judged
 pub mod Taken
+pub mod Cut

@@ -3,10 +3,10 @@ use Rattle.std.proofs.Common.{◌≡◌, ◌⊎◌, ℕ, ◌+◌, ◌≤◌, Non
 use Rattle.std.proofs.lemmas.List.{length-reverse, take-append-drop, take_at}
 use Rattle.std.specs.List.{AllByRecursion}
 use Rattle.history_laws.proofs.Legalities.{one_more_legal}
-use Rattle.ledger_laws.proofs.Growth.{hash-end, old_text-end, text-end}
-use Rattle.ledger_laws.specs.Growing.{hash_after}
-use Rattle.ledger_laws.specs.Keeping.{IsKept}
-use Rattle.ledger_laws.specs.WellFormed.{CanBeKept}
+use Rattle.ledger_records.proofs.Growth.{hash-end, old_text-end, text-end}
+use Rattle.ledger_records.specs.Growing.{hash_after}
+use Rattle.ledger_records.specs.Keeping.{IsKept}
+use Rattle.ledger_records.specs.WellFormed.{CanBeKept}
 use Rattle.ledger_records.specs.Records.{BeginsWithNoRecord, IsRecordOf, said_body_len}
 use Rattle.ledger_replay.specs.declared.replay.Replay.{Replay}
 use Rattle.ledger_replay.specs.Replays.{HasCause}

@@ -5,7 +5,7 @@ use Rattle.pool_history.specs.declared.events.Event.{Event}
 use Rattle.pool_history.specs.Ledger.{chain, magic_1, magic_2}
 use Rattle.pool_history.specs.Legal.{cause_of}
 use Rattle.pool_history.specs.Sessions.{past_of}
-use Rattle.ledger_laws.specs.Growing.{hash_after}
+use Rattle.ledger_records.specs.Growing.{hash_after}
 use Rattle.ledger_replay.specs.declared.error.ReplayError.{ReplayError}
 use Rattle.ledger_replay.specs.declared.error.ReplayError.TheVariants as error
 use Rattle.ledger_replay.specs.declared.replay.Replay.{Replay}

@@ -4,7 +4,7 @@ use Rattle.std.proofs.Math.Seq.{take-append_seam}
 use Rattle.std.proofs.lemmas.List.{take-append-le}
 use Rattle.pool_history.specs.declared.events.Event.{Event}
 use Rattle.pool_history.specs.Ledger.{record_body, record_of}
-use Rattle.ledger_laws.specs.WellFormed.{CanBeKept}
+use Rattle.ledger_records.specs.WellFormed.{CanBeKept}
 use Rattle.ledger_records.specs.Records.{AreNoRecord, BeginsWithNoRecord, said_body_len}
 use Rattle.ledger_audit.specs.declared.format.Format.{Format}
 use Rattle.ledger_audit.specs.declared.format.Format.TheVariants.{Plain, Chained}

@@ -8,3 +8,8 @@ pub mod Sound
 pub mod Stops
 pub mod Units
 pub mod Verdicts
+pub mod AuditCommand
+pub mod Copying
+pub mod Cutting
+pub mod Migrating
+pub mod SoundCommand

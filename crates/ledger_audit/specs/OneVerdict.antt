@@ -6,11 +6,11 @@ use Rattle.std.proofs.lemmas.List.{append-nil, append_assoc, append_cancel_left}
 use Rattle.std.specs.List.{AllByRecursion}
 use Rattle.sha2.proofs.Facts256.{length-sha256}
 use Rattle.history_laws.proofs.Legalities.{none_caused, some-none}
-use Rattle.ledger_laws.proofs.Growth.{hash-end, old_text-end, text-end}
-use Rattle.ledger_laws.proofs.Records.{formats_differ, joined, ledgers_begin, old_ledgers_begin, read_back, text_pieces}
-use Rattle.ledger_laws.specs.Growing.{hash_after}
-use Rattle.ledger_laws.specs.OneLedger.{ReadsTheSame}
-use Rattle.ledger_laws.specs.WellFormed.{CanBeKept}
+use Rattle.ledger_records.proofs.Growth.{hash-end, old_text-end, text-end}
+use Rattle.ledger_records.proofs.Records.{formats_differ, joined, ledgers_begin, old_ledgers_begin, read_back, text_pieces}
+use Rattle.ledger_records.specs.Growing.{hash_after}
+use Rattle.ledger_records.specs.OneLedger.{ReadsTheSame}
+use Rattle.ledger_records.specs.WellFormed.{CanBeKept}
 use Rattle.pool_base.specs.Lists.{Begins}
 use Rattle.pool_history.specs.declared.events.Event.{Event}
 use Rattle.pool_history.specs.Ledger.{chained, ledger_text, ledger_text_1, magic_1, magic_2, record_of}

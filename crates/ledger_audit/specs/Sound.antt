@@ -1,7 +1,7 @@
 -- An audit gives bytes one answer.
 use Rattle.std.proofs.Common.{◌≡◌, ◌⊎◌, ℕ, ◌<◌, ◌≤◌, None, Some, Option, List, [], ◌∷◌, ◌++◌, length, arith, refl, ap, subst, sym, ◌∙◌, inl, inr, ⊎_elim, append_assoc, length-append}
 use Rattle.std.proofs.lemmas.Bool.{cases_lt}
-use Rattle.ledger_laws.proofs.Records.{formats_differ}
+use Rattle.ledger_records.proofs.Records.{formats_differ}
 use Rattle.pool_history.specs.declared.events.Event.{Event}
 use Rattle.pool_history.specs.Ledger.{magic_1, magic_2}
 use Rattle.stream_commands.specs.Duties.{IsSoundDuty}

@@ -6,9 +6,9 @@ use Rattle.pool_history.specs.declared.events.Event.{Event}
 use Rattle.pool_history.specs.Ledger.{ledger_text, ledger_text_1, magic_1, magic_2, record_of}
 use Rattle.pool_history.specs.Legal.{cause_of}
 use Rattle.pool_history.specs.Sessions.{past_of}
-use Rattle.ledger_laws.specs.Growing.{hash_after}
-use Rattle.ledger_laws.specs.Keeping.{IsKept}
-use Rattle.ledger_laws.specs.WellFormed.{CanBeKept}
+use Rattle.ledger_records.specs.Growing.{hash_after}
+use Rattle.ledger_records.specs.Keeping.{IsKept}
+use Rattle.ledger_records.specs.WellFormed.{CanBeKept}
 use Rattle.ledger_audit.specs.declared.format.Format.{Format}
 use Rattle.ledger_audit.specs.declared.format.Format.TheVariants.{Plain, Chained}
 use Rattle.ledger_audit.specs.declared.verdict.Verdict.{Verdict}

@@ -3,10 +3,10 @@
 
 ghost use Rattle.std.specs.Prelude.{◌≡◌};
 
-use foreseen_shares::{Candidate, SharesAhead};
 use ledger_records::{RecordError, read_record};
 use ledger_replay::{Credited, Replay, submission_of};
 use pool_history::{Event, Kind, Lead, Submission};
+use share_headers::{Candidate, SharesAhead};
 use std::alloc::{AllocError, Global};
 use sv2_types::Blob;
 

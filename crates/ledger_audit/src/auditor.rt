@@ -6,8 +6,9 @@ ghost use Rattle.ledger_audit.specs.Lines.{verdict_line};
 use crate::format::{BODY_LIMIT, Format, HEAD_LEN, body_len};
 use crate::records::{Halt, Records};
 use crate::verdict::{Verdict, write_verdict};
+use pool_io::MOST_BYTES;
 use std::alloc::{AllocError, Global};
-use stream_commands::{MOST_BYTES, Stop, StreamCommand};
+use stream_commands::{Stop, StreamCommand};
 
 /// Holds less than a record, and what was told of those before it.
 #[derive(Drop)]

@@ -17,9 +17,8 @@ use crate::format::Format;
 use crate::verdict::Verdict;
 use ledger_records::{MAGIC, RecordError, chain, magic_hash, read_record};
 use ledger_replay::{Replay, ReplayError};
-use payouts::{Rule, Tally};
+use payouts::{Rule, Tally, write_summary};
 use pool_history::Event;
-use pool_summary::write_summary;
 use std::alloc::{AllocError, Global};
 
 /// The magic of format 1.

@@ -2,9 +2,9 @@
 use Rattle.std.proofs.Common.{◌≡◌, ◌⊎◌, inl, inr, ⊎_elim, ℕ, ◌+◌, ◌≤◌, true, false, List, [], ◌∷◌, ◌++◌, Option, None, Some, Result, Ok, Err, length, refl, sym, ◌∙◌, ap, subst, arith, append_assoc, length-append}
 use Rattle.std.specs.Int.{w32, to_le_bytes}
 use Rattle.pool_io.specs.declared.keeper.KeeperFailed.{KeeperFailed}
-use Rattle.disk_io.specs.declared.disk.DiskFailed.{DiskFailed}
-use Rattle.disk_io.specs.Calls.{overwritten}
-use Rattle.disk_io.specs.Moments.{MayLeave, Moment, last_content, synced_content}
+use Rattle.ledger_disk.specs.declared.disk.DiskFailed.{DiskFailed}
+use Rattle.ledger_disk.specs.Calls.{overwritten}
+use Rattle.ledger_disk.specs.Moments.{MayLeave, Moment, last_content, synced_content}
 use Rattle.ledger_disk.specs.declared.steps.PutFailed.{PutFailed}
 use Rattle.ledger_disk.specs.declared.steps.PutFailed.TheVariants.{Unwritten, Unsure}
 use Rattle.ledger_disk.specs.Crashes.{LeavesOnly, MayFind, StoresMore, Throughout, stored_entries}

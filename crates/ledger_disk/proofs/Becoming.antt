@@ -1,9 +1,9 @@
 -- What opening a disk makes of it, anew or of its entries.
 use Rattle.std.proofs.Common.{◌≡◌, inl, inr, ℕ, false, List, [], Option, None, Some, Result, Ok, refl, sym, ◌∙◌, ap, subst, arith}
 use Rattle.std.specs.Option.{IfSome, option_map}
-use Rattle.disk_io.specs.declared.disk.DiskFailed.{DiskFailed}
-use Rattle.disk_io.specs.Calls.{WhereTold}
-use Rattle.disk_io.specs.Moments.{Moment, last_content}
+use Rattle.ledger_disk.specs.declared.disk.DiskFailed.{DiskFailed}
+use Rattle.ledger_disk.specs.Calls.{WhereTold}
+use Rattle.ledger_disk.specs.Moments.{Moment, last_content}
 use Rattle.ledger_disk.specs.Crashes.{FindsJust, IsSettled, LeavesStored, MayFind, Throughout, stored_entries}
 use Rattle.ledger_disk.specs.Entries.{IsBlank, entries_on}
 use Rattle.ledger_disk.specs.Steps.{BecomesLedger, Closes, HoldsEntries, IsOnDisk, Makes}

@@ -6,12 +6,12 @@ use Rattle.std.proofs.lemmas.List.{append-nil, take-take, length-take, length-ta
 use Rattle.std.specs.Int.{w32, from_le_bytes}
 use Rattle.ledger_disk.specs.Entries.{Opens, entries_on, found_in, front, is_entry, magic, next_entry, said_length}
 use Rattle.std.proofs.lemmas.List.{drop-take, drop_all}
-use Rattle.disk_io.specs.declared.disk.DiskFailed.{DiskFailed}
-use Rattle.disk_io.specs.declared.disk.DiskFailed.TheVariants.{Failed, Memory}
-use Rattle.disk_io.specs.declared.disk.Doing.TheVariants.{CutTo, Synced}
-use Rattle.disk_io.specs.Calls.{LogsCut, LogsSync, WhereTold, overwritten}
-use Rattle.disk_io.specs.Moments.{Moment, TornCut, TornWrite, last_content, synced_content, with_call}
-use Rattle.disk_io.proofs.Crashes.{cut_done}
+use Rattle.ledger_disk.specs.declared.disk.DiskFailed.{DiskFailed}
+use Rattle.ledger_disk.specs.declared.disk.DiskFailed.TheVariants.{Failed, Memory}
+use Rattle.ledger_disk.specs.declared.disk.Doing.TheVariants.{CutTo, Synced}
+use Rattle.ledger_disk.specs.Calls.{LogsCut, LogsSync, WhereTold, overwritten}
+use Rattle.ledger_disk.specs.Moments.{Moment, TornCut, TornWrite, last_content, synced_content, with_call}
+use Rattle.ledger_disk.proofs.Crashes.{cut_done}
 use Rattle.ledger_disk.specs.Crashes.{FindsJust, LeavesOnly, MayFind, Throughout, stored_entries}
 use Rattle.ledger_disk.specs.Steps.{Closes, HoldsEntries, LogsTry}
 use Rattle.ledger_disk.proofs.Adding.{none_tells}

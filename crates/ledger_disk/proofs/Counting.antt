@@ -1,8 +1,8 @@
 -- How many entries are stored at each moment of an append.
 use Rattle.std.proofs.Common.{◌≡◌, ℕ, ◌+◌, List, [], ◌∷◌, ◌++◌, Option, None, Some, Result, Ok, Err, length, replicate, suc, refl, sym, ◌∙◌, ap, subst, append_assoc}
 use Rattle.std.proofs.lemmas.List.{replicate-append-replicate}
-use Rattle.disk_io.specs.declared.disk.Doing.TheVariants.{Wrote, Synced}
-use Rattle.disk_io.specs.Moments.{Moment, last_content, with_call}
+use Rattle.ledger_disk.specs.declared.disk.Doing.TheVariants.{Wrote, Synced}
+use Rattle.ledger_disk.specs.Moments.{Moment, last_content, with_call}
 use Rattle.ledger_disk.specs.Crashes.{AtEach, Throughout, counts_of, stored_entries}
 use Rattle.ledger_disk.specs.Steps.{CountsOn}
 use Rattle.ledger_disk.proofs.Moments.{some_is}

@@ -3,9 +3,9 @@ use Rattle.std.proofs.Common.{◌≡◌, ◌⊎◌, inl, inr, ⊎_elim, ℕ, ◌
 use Rattle.std.specs.Prelude.{IfSome}
 use Rattle.std.proofs.Math.Seq.{take-length}
 use Rattle.pool_io.specs.Crashes.{IsFrontFound, IsSettledWith, NeverFell, RoseTo}
-use Rattle.disk_io.specs.declared.disk.Doing.TheVariants.{Synced}
-use Rattle.disk_io.specs.Calls.{DiskSeen}
-use Rattle.disk_io.specs.Moments.{MayLeave, Moment, with_call}
+use Rattle.ledger_disk.specs.declared.disk.Doing.TheVariants.{Synced}
+use Rattle.ledger_disk.specs.Calls.{DiskSeen}
+use Rattle.ledger_disk.specs.Moments.{MayLeave, Moment, with_call}
 use Rattle.ledger_disk.specs.Crashes.{FindsJust, FindsNow, IsSettled, MayBeFound, MayFind, Throughout, counts_of, counts_told, stored_entries}
 use Rattle.ledger_disk.specs.Entries.{IsBlank, Opens, entries_on, magic}
 use Rattle.ledger_disk.proofs.Counting.{throughout_counts}

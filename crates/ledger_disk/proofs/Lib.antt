@@ -1,3 +1,6 @@
+pub mod Crashes
+mod Rooms
+mod LeftBehind
 mod Adding
 mod Becoming
 mod Closing

@@ -3,12 +3,12 @@ use Rattle.std.proofs.Common.{◌≡◌, inl, inr, ⊎_elim, ℕ, zero, suc, ◌
 use Rattle.std.proofs.lemmas.Bool.{false≢true}
 use Rattle.std.proofs.lemmas.Bool.Decides.{nat_tests}
 use Rattle.std.proofs.lemmas.List.{length-take}
-use Rattle.disk_io.specs.declared.disk.DiskFailed.{DiskFailed}
-use Rattle.disk_io.specs.declared.disk.DiskFailed.TheVariants.{Failed, Memory}
-use Rattle.disk_io.specs.declared.disk.Doing.TheVariants.{CutTo, Synced, Wrote}
-use Rattle.disk_io.specs.Calls.{LogsCut}
-use Rattle.disk_io.specs.Moments.{Moment, TornCut, TornWrite, last_content, synced_content, with_call}
-use Rattle.disk_io.proofs.Crashes.{content_left, cut_done}
+use Rattle.ledger_disk.specs.declared.disk.DiskFailed.{DiskFailed}
+use Rattle.ledger_disk.specs.declared.disk.DiskFailed.TheVariants.{Failed, Memory}
+use Rattle.ledger_disk.specs.declared.disk.Doing.TheVariants.{CutTo, Synced, Wrote}
+use Rattle.ledger_disk.specs.Calls.{LogsCut}
+use Rattle.ledger_disk.specs.Moments.{Moment, TornCut, TornWrite, last_content, synced_content, with_call}
+use Rattle.ledger_disk.proofs.Crashes.{content_left, cut_done}
 use Rattle.ledger_disk.specs.declared.steps.PutFailed.TheVariants.{Unwritten, Unsure}
 use Rattle.ledger_disk.specs.Crashes.{FindsJust, LeavesOnly, MayFind, Throughout, stored_entries}
 use Rattle.ledger_disk.specs.Entries.{Begins, IsBlank, Opens, entries_on, found_in, front, is_entry, magic, said_length}

@@ -1,7 +1,7 @@
 -- How what a crash may leave goes on from call to call.
 use Rattle.std.proofs.Common.{◌≡◌, ◌⊎◌, inl, inr, ⊎_elim, ℕ, List, [], ◌∷◌, ◌++◌, Option, None, Some, Result, Ok, Err, length, sym, ◌∙◌, ap, subst, append_assoc}
-use Rattle.disk_io.specs.Moments.{MayLeave, Moment, synced_content}
-use Rattle.disk_io.proofs.Crashes.{synced_left}
+use Rattle.ledger_disk.specs.Moments.{MayLeave, Moment, synced_content}
+use Rattle.ledger_disk.proofs.Crashes.{synced_left}
 use Rattle.ledger_disk.specs.declared.steps.PutFailed.{PutFailed}
 use Rattle.ledger_disk.specs.declared.steps.PutFailed.TheVariants.{Unwritten, Unsure}
 use Rattle.ledger_disk.specs.Crashes.{FindsNow, AtEach, LeavesOnly, MayFind, Throughout, stored_entries}

@@ -1,12 +1,12 @@
 -- What a put leaves, behind bytes that stand, or at the gate before them.
 use Rattle.std.proofs.Common.{◌≡◌, inl, inr, ⊎_elim, ℕ, ◌+◌, ◌≤◌, ◌<◌, List, [], ◌∷◌, ◌++◌, Option, Result, Ok, Err, length, take, drop, get_or, refl, sym, ◌∙◌, ap, subst, arith, append_assoc, length-append, take-append-drop}
 use Rattle.std.proofs.lemmas.List.{take_at, drop_at, drop_more}
-use Rattle.disk_io.specs.declared.disk.Doing.TheVariants.{Wrote, Synced}
-use Rattle.disk_io.specs.declared.disk.DiskFailed.{DiskFailed}
-use Rattle.disk_io.specs.declared.disk.DiskFailed.TheVariants.{Failed, Memory}
-use Rattle.disk_io.specs.Calls.{LogsWrite, overwritten}
-use Rattle.disk_io.specs.Moments.{Moment, TornWrite, last_content, with_call}
-use Rattle.disk_io.proofs.Crashes.{content_left, write_done}
+use Rattle.ledger_disk.specs.declared.disk.Doing.TheVariants.{Wrote, Synced}
+use Rattle.ledger_disk.specs.declared.disk.DiskFailed.{DiskFailed}
+use Rattle.ledger_disk.specs.declared.disk.DiskFailed.TheVariants.{Failed, Memory}
+use Rattle.ledger_disk.specs.Calls.{LogsWrite, overwritten}
+use Rattle.ledger_disk.specs.Moments.{Moment, TornWrite, last_content, with_call}
+use Rattle.ledger_disk.proofs.Crashes.{content_left, write_done}
 use Rattle.ledger_disk.specs.declared.steps.PutFailed.{PutFailed}
 use Rattle.ledger_disk.specs.declared.steps.PutFailed.TheVariants.{Unwritten, Unsure}
 use Rattle.ledger_disk.specs.Crashes.{LeavesOnly}

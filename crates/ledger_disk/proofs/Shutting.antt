@@ -1,6 +1,6 @@
 -- What the put of a closed gate leaves of a ledger whose last gate may be open.
 use Rattle.std.proofs.Common.{◌≡◌, ◌⊎◌, inl, inr, ⊎_elim, ℕ, ◌≤◌, Bool, true, false, List, [], ◌∷◌, ◌++◌, Option, Some, Result, Ok, Err, length, refl, sym, ◌∙◌, ap, subst, append_assoc}
-use Rattle.disk_io.specs.Moments.{Moment, last_content, synced_content}
+use Rattle.ledger_disk.specs.Moments.{Moment, last_content, synced_content}
 use Rattle.ledger_disk.specs.declared.steps.PutFailed.{PutFailed}
 use Rattle.ledger_disk.specs.declared.steps.PutFailed.TheVariants.{Unwritten, Unsure}
 use Rattle.ledger_disk.specs.Crashes.{LeavesOnly, MayFind, stored_entries}

@@ -4,8 +4,8 @@ use Rattle.std.proofs.lemmas.Bool.{false≢true}
 use Rattle.std.specs.Option.{IfSome, option_map}
 use Rattle.pool_io.specs.declared.keeper.KeeperFailed.{KeeperFailed}
 use Rattle.pool_io.specs.Outside.{AddsRecord}
-use Rattle.disk_io.specs.Calls.{WhereTold}
-use Rattle.disk_io.specs.Moments.{Moment}
+use Rattle.ledger_disk.specs.Calls.{WhereTold}
+use Rattle.ledger_disk.specs.Moments.{Moment}
 use Rattle.pool_io.specs.Crashes.{FindsMore, StoresNext, counts_at_end}
 use Rattle.ledger_disk.specs.Crashes.{LeavesStored, MayFind, StoresMore, Throughout, counts_of, stored_entries}
 use Rattle.ledger_disk.specs.Steps.{Adds, CountsOn, HoldsLedger, IsOnDisk, Shuts}

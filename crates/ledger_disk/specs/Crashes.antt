@@ -2,8 +2,8 @@
 -- own).
 use Rattle.std.specs.Prelude.{ℕ, ◌+◌, ◌≡◌, ◌⊎◌, Bool, true, false, List, [], ◌∷◌, ◌++◌, length, OnErr, Option, Some, IfSome, Result, Ok, Err}
 use Rattle.std.specs.Option.{option_map}
-use Rattle.disk_io.specs.Calls.{DiskSeen}
-use Rattle.disk_io.specs.Moments.{MayLeave, Moment, last_content, synced_content}
+use Rattle.ledger_disk.specs.Calls.{DiskSeen}
+use Rattle.ledger_disk.specs.Moments.{MayLeave, Moment, last_content, synced_content}
 use Rattle.ledger_disk.specs.declared.opening.DiskOpenError.{DiskOpenError}
 use Rattle.ledger_disk.specs.declared.opening.DiskOpenError.TheVariants.{Fault, Foreign, Memory}
 use Rattle.ledger_disk.specs.Entries.{Opens, entries_on}

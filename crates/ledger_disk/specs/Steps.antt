@@ -1,11 +1,11 @@
 -- What the steps of an append do, and what stands on the disk between two calls of a ledger.
 use Rattle.std.specs.Prelude.{ℕ, ◌+◌, ◌≡◌, ◌⊎◌, ◌<◌, ◌≤◌, Bool, true, false, List, [], ◌∷◌, ◌++◌, length, take, drop, replicate, OnErr, OnOk, Option, None, Some, IfSome, Result, Ok, Err}
 use Rattle.std.specs.Int.{w32, to_le_bytes}
-use Rattle.disk_io.specs.declared.disk.DiskFailed.{DiskFailed}
-use Rattle.disk_io.specs.declared.disk.DiskFailed.TheVariants as disk
-use Rattle.disk_io.specs.declared.disk.Doing.TheVariants.{Wrote, Synced}
-use Rattle.disk_io.specs.Calls.{is_failed_call, overwritten}
-use Rattle.disk_io.specs.Moments.{Moment, TornWrite, last_content, with_call}
+use Rattle.ledger_disk.specs.declared.disk.DiskFailed.{DiskFailed}
+use Rattle.ledger_disk.specs.declared.disk.DiskFailed.TheVariants as disk
+use Rattle.ledger_disk.specs.declared.disk.Doing.TheVariants.{Wrote, Synced}
+use Rattle.ledger_disk.specs.Calls.{is_failed_call, overwritten}
+use Rattle.ledger_disk.specs.Moments.{Moment, TornWrite, last_content, with_call}
 use Rattle.pool_io.specs.declared.keeper.KeeperFailed.{KeeperFailed}
 use Rattle.pool_io.specs.declared.keeper.KeeperFailed.TheVariants as keeper
 use Rattle.ledger_disk.specs.declared.steps.PutFailed.{PutFailed}

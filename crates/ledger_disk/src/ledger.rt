@@ -4,8 +4,8 @@ ghost use Rattle.std.specs.Prelude.{◌≡◌, ◌≤◌, ◌<◌, ◌^◌, ◌+
 ghost use Rattle.std.specs.Option.{option_map};
 ghost use Rattle.pool_io.specs.Crashes.{FindsMore, IsSettledWith, StoresNext};
 ghost use Rattle.pool_io.specs.Outside.{AddsRecord, CountsFailure, is_failed_append};
-ghost use Rattle.disk_io.specs.Calls.{WhereTold, fresh_disk};
-ghost use Rattle.disk_io.specs.Moments.{last_content};
+ghost use Rattle.ledger_disk.specs.Calls.{WhereTold, fresh_disk};
+ghost use Rattle.ledger_disk.specs.Moments.{last_content};
 ghost use Rattle.ledger_disk.specs.declared.opening.DiskOpenError.TheVariants.{Foreign};
 ghost use Rattle.ledger_disk.specs.Crashes.{FindsJust, IsSettled, LeavesStored, MayBeFound, MayFind, StoresMore, Throughout, counts_told, disk_after, entries_told, is_failed_opening, stored_entries};
 ghost use Rattle.ledger_disk.specs.Entries.{IsForeign, Opens, body, entries_on};
@@ -13,7 +13,7 @@ ghost use Rattle.ledger_disk.specs.Steps.{Adds, HoldsLedger, Shuts, keeper_faile
 
 use crate::opening::{DiskOpenError, open_disk, open_failed};
 use crate::steps::{PutFailed, put};
-use disk_io::{Disk, DiskFailed};
+use crate::{Disk, DiskFailed};
 use pool_io::{Keeper, KeeperFailed};
 use std::alloc::{AllocError, Global};
 use std::marker::Model;
@@ -31,7 +31,7 @@ pub struct DiskLedger<D: Disk> {
 }
 
 impl<D: Disk> Model for DiskLedger<D> {
-    ghost use Rattle.disk_io.specs.Calls.{DiskSeen};
+    ghost use Rattle.ledger_disk.specs.Calls.{DiskSeen};
     ghost use Rattle.ledger_disk.specs.Steps.{IsOnDisk};
 
     ghost Value = { DiskSeen };

@@ -2,8 +2,8 @@
 
 ghost use Rattle.std.specs.Prelude.{◌≡◌, ◌≢◌, ◌<◌, ◌-◌, ◌^◌, IfNone, IfOk, IfSome, Err, None, Some};
 ghost use Rattle.pool_io.specs.Outside.{CountsFailure};
-ghost use Rattle.disk_io.specs.Calls.{WhereTold, is_failed_call};
-ghost use Rattle.disk_io.specs.Moments.{last_content};
+ghost use Rattle.ledger_disk.specs.Calls.{WhereTold, is_failed_call};
+ghost use Rattle.ledger_disk.specs.Moments.{last_content};
 ghost use Rattle.ledger_disk.specs.declared.opening.DiskOpenError.TheVariants.{Foreign};
 ghost use Rattle.ledger_disk.specs.Crashes.{FindsJust, IsSettled, MayBeFound, MayFind, Throughout, is_fault, stored_entries};
 ghost use Rattle.ledger_disk.specs.Entries.{IsForeign, entries_on};
@@ -11,7 +11,7 @@ ghost use Rattle.ledger_disk.specs.Steps.{BecomesLedger, Closes, HoldsEntries, M
 
 use crate::reading::{has_magic, read_entries};
 use crate::steps::try_put;
-use disk_io::{Disk, DiskFailed};
+use crate::{Disk, DiskFailed};
 use std::alloc::Global;
 use sv2_types::Blob;
 use thiserror::Error;

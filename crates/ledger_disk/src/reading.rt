@@ -3,12 +3,12 @@
 ghost use Rattle.std.specs.Prelude.{◌≡◌, ◌≢◌, ◌≤◌, ◌<◌, ◌+◌, ◌∷◌, IfNone, IfOk, IfSome, IsFalse, IsTrue, List, ℕ, length, take, drop};
 ghost use Rattle.std.specs.Int.{to_le_bytes, w32};
 ghost use Rattle.pool_io.specs.Outside.{CountsFailure};
-ghost use Rattle.disk_io.specs.Calls.{WhereTold, is_failed_call};
-ghost use Rattle.disk_io.specs.Moments.{last_content};
+ghost use Rattle.ledger_disk.specs.Calls.{WhereTold, is_failed_call};
+ghost use Rattle.ledger_disk.specs.Moments.{last_content};
 ghost use Rattle.ledger_disk.specs.Entries.{HasNone, magic};
 ghost use Rattle.ledger_disk.specs.Steps.{HoldsEntries, ReadsEntry, ReadsLength};
 
-use disk_io::{Disk, DiskFailed};
+use crate::{Disk, DiskFailed};
 use std::alloc::Global;
 use sv2_types::Blob;
 

@@ -2,11 +2,11 @@
 
 ghost use Rattle.std.specs.Prelude.{◌≡◌, ◌≤◌, None, length};
 ghost use Rattle.pool_io.specs.Outside.{CountsFailure};
-ghost use Rattle.disk_io.specs.Calls.{WhereTold, is_failed_call};
-ghost use Rattle.disk_io.specs.Moments.{last_content};
+ghost use Rattle.ledger_disk.specs.Calls.{WhereTold, is_failed_call};
+ghost use Rattle.ledger_disk.specs.Moments.{last_content};
 ghost use Rattle.ledger_disk.specs.Steps.{LogsPut, LogsTry, is_failed_put, put_failed_by};
 
-use disk_io::{Disk, DiskFailed};
+use crate::{Disk, DiskFailed};
 
 /// Why bytes weren't put, or not for sure.
 #[derive(Clone, Copy)]

@@ -5,7 +5,7 @@ use Rattle.std.specs.Str.{IsUtf8}
 use Rattle.sv2_types.specs.Fields.{B0_255, STR0_255, Bytes, FieldValue, Spells}
 use Rattle.sv2_types.specs.Spelling.{spelled_str255}
 use Rattle.sv2_types.proofs.Laws.{spellings_agree, written_spells}
-use Rattle.ledger_laws.specs.WellFormed.{IsText}
+use Rattle.ledger_records.specs.WellFormed.{IsText}
 
 -- accounts that the bytes begin with are the first ones, and the rest is of those behind
 record IsFront (users others : List (List ℕ)) (rest : List ℕ) : Type 0 where

@@ -6,8 +6,8 @@ use Rattle.std.specs.Prelude.{IsErrOf}
 use Rattle.sv2_types.proofs.Items.{IsBytes}
 use Rattle.pool_history.specs.declared.events.Event.{Event}
 use Rattle.pool_history.specs.Ledger.{record_body, record_kind, record_of}
-use Rattle.ledger_laws.specs.WellFormed.{CanBeKept}
-use Rattle.ledger_laws.proofs.Bodies.{bodies_agree}
+use Rattle.ledger_records.specs.WellFormed.{CanBeKept}
+use Rattle.ledger_records.proofs.Bodies.{bodies_agree}
 use Rattle.ledger_records.specs.declared.error.RecordError.{RecordError}
 use Rattle.ledger_records.specs.declared.error.RecordError.TheVariants as errors
 use Rattle.ledger_records.specs.Bodies.{DecidesBody, IsBodyOf}

@@ -8,7 +8,7 @@ use Rattle.sv2_messages.specs.Messages.{types_of}
 use Rattle.sv2_messages.specs.Reading.{values_of}
 use Rattle.pool_history.specs.declared.events.Event.{Event}
 use Rattle.pool_history.specs.Ledger.{TextsFit, record_body, record_kind}
-use Rattle.ledger_laws.specs.WellFormed.{IsWellFormed}
+use Rattle.ledger_records.specs.WellFormed.{IsWellFormed}
 use Rattle.ledger_records.specs.declared.error.RecordError.{RecordError}
 use Rattle.ledger_records.specs.declared.error.RecordError.TheVariants as errors
 use Rattle.ledger_records.specs.Bodies.{DecidesBody, GivesEvent, IsBodyOf, IsNoEvent, SaysPath}

@@ -1,3 +1,15 @@
+pub mod Answered
+pub mod Bodies
+pub mod Called
+pub mod Examples
+pub mod FieldByField
+pub mod Growth
+pub mod Kept
+pub mod KeptOnes
+pub mod Records
+pub mod Sizes
+pub mod Started
+pub mod WorkedSession
 pub mod Accounts
 pub mod AtFront
 pub mod Decided

@@ -9,11 +9,11 @@ use Rattle.pool_history.specs.declared.events.Event.TheVariants as event
 use Rattle.pool_history.specs.declared.settings.Rules.{Rules}
 use Rattle.pool_history.specs.declared.templates.TemplateData.{TemplateData}
 use Rattle.pool_history.specs.Ledger.{EventFits, kind_number, record_body, record_kind, role_number}
-use Rattle.ledger_laws.specs.WellFormed.{CanBeKept}
-use Rattle.ledger_laws.proofs.Bodies as bodies
-use Rattle.ledger_laws.proofs.FieldByField.{AreOf, written, written_after-is}
-use Rattle.ledger_laws.proofs.Kept as kept
-use Rattle.ledger_laws.proofs.Kept.{kind-small, role-small, rule-small, window-small}
+use Rattle.ledger_records.specs.WellFormed.{CanBeKept}
+use Rattle.ledger_records.proofs.Bodies as bodies
+use Rattle.ledger_records.proofs.FieldByField.{AreOf, written, written_after-is}
+use Rattle.ledger_records.proofs.Kept as kept
+use Rattle.ledger_records.proofs.Kept.{kind-small, role-small, rule-small, window-small}
 use Rattle.ledger_records.specs.Bodies.{SaysPath}
 use Rattle.ledger_records.specs.Fields.{record_table, record_values, rule_byte, truth_byte, window_field}
 use Rattle.ledger_records.proofs.Spelled.{has_one_form}

@@ -8,7 +8,7 @@ use Rattle.sv2_types.proofs.Laws.{written_spells}
 use Rattle.sv2_messages.specs.Messages.{AreSpelled, Row, types_of}
 use Rattle.sv2_messages.specs.Reading.{values_of}
 use Rattle.sv2_messages.proofs.Defects.{fields_at-spelled, spelled-fields_at}
-use Rattle.ledger_laws.proofs.FieldByField.{AreOf, written}
+use Rattle.ledger_records.proofs.FieldByField.{AreOf, written}
 
 -- every type but BOOL has one spelling for a value
 abbrev pub has_one_form : FieldType → Bool

@@ -12,8 +12,8 @@ use Rattle.pool_history.specs.declared.events.Event.{Event}
 use Rattle.pool_history.specs.declared.events.Event.TheVariants as event
 use Rattle.pool_history.specs.declared.settings.Rules.{Rules}
 use Rattle.pool_history.specs.Ledger.{record_body, record_kind}
-use Rattle.ledger_laws.proofs.FieldByField.{written}
-use Rattle.ledger_laws.proofs.Kept.{apart}
+use Rattle.ledger_records.proofs.FieldByField.{written}
+use Rattle.ledger_records.proofs.Kept.{apart}
 use Rattle.ledger_records.specs.declared.error.RecordError.{RecordError}
 use Rattle.ledger_records.specs.declared.error.RecordError.TheVariants as errors
 use Rattle.ledger_records.specs.Bodies.{AreNoRules, DecidesBody, IsBodyOf, ReadsRules}

@@ -10,7 +10,7 @@ use Rattle.pool_history.specs.declared.events.Event.{Event}
 use Rattle.pool_history.specs.declared.events.Event.TheVariants as event
 use Rattle.pool_history.specs.declared.settings.Rules.{Rules}
 use Rattle.pool_history.specs.Ledger.{record_body, record_kind}
-use Rattle.ledger_laws.specs.WellFormed.{CanBeKept, IsText}
+use Rattle.ledger_records.specs.WellFormed.{CanBeKept, IsText}
 use Rattle.ledger_records.specs.declared.error.RecordError.{RecordError}
 use Rattle.ledger_records.specs.declared.error.RecordError.TheVariants as errors
 use Rattle.ledger_records.specs.Fields.{record_table, record_values, rules_row}

@@ -1,3 +1,8 @@
+pub mod Growing
+pub mod Keeping
+pub mod OneLedger
+pub mod Requests
+pub mod WellFormed
 pub mod Bodies
 pub mod Fields
 pub mod Pieces

@@ -3,7 +3,7 @@ use Rattle.std.specs.Prelude.{◌≡◌, ℕ, ◌+◌, ◌≤◌, Bool, ◌&&◌
 use Rattle.sv2_types.specs.Reading.{said}
 use Rattle.pool_history.specs.declared.events.Event.{Event}
 use Rattle.pool_history.specs.Ledger.{record_of}
-use Rattle.ledger_laws.specs.WellFormed.{CanBeKept}
+use Rattle.ledger_records.specs.WellFormed.{CanBeKept}
 use Rattle.ledger_records.specs.declared.error.RecordError.{RecordError}
 use Rattle.ledger_records.specs.declared.error.RecordError.TheVariants as errors
 

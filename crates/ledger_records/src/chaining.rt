@@ -2,7 +2,7 @@
 
 ghost use Rattle.std.specs.Prelude.{◌≡◌, [], ◌∷◌, ◌++◌, List, length, OnOk, OnErr, IfOk};
 ghost use Rattle.pool_history.specs.declared.events.Event.{Event};
-ghost use Rattle.ledger_laws.specs.Growing.{hash_after};
+ghost use Rattle.ledger_records.specs.Growing.{hash_after};
 ghost use Rattle.sha2.specs.Sha256.{sha256};
 ghost use Rattle.pool_base.specs.Lists.{Begins};
 ghost use Rattle.pool_history.specs.Ledger.{HasRecord, magic_2, record_of};

@@ -1,135 +1,230 @@
-//! The parts of records that are more than a field.
+//! That each event which a program holds is well formed and has UTF-8 texts: what the types of its
+//! fields say, told to contracts.
 
-ghost use Rattle.std.specs.Prelude.{◌≡◌, ◌≤◌, ◌<◌, ◌^◌, ◌++◌, length, OnOk, OnErr};
-ghost use Rattle.std.specs.List.{flat_map};
-ghost use Rattle.sv2_types.specs.Spelling.{spelled_str255, spelled_seq_u256};
-ghost use Rattle.pool_history.specs.Ledger as ledger;
+ghost use Rattle.std.specs.List.{AllByRecursion};
+ghost use Rattle.std.specs.Str.{IsUtf8};
+ghost use Rattle.pool_history.specs.Ledger.{TextsFit};
+ghost use Rattle.ledger_records.specs.WellFormed.{AreHashes, AreRules, IsCustom, IsHash, IsTemplate, IsText, IsTip, IsU16, IsU32, IsU64, IsU8, IsWellFormed, IsWindow};
 
-use pool_history::{CustomData, Kind, Role, Rules, TemplateData, TipData};
-use std::alloc::AllocError;
-use sv2_types::{
-    Hashes, Seq32, Str255, put_b64k, put_b255, put_boolean, put_seq_u256, put_str255, put_u8,
-    put_u16, put_u32, put_u64, put_u256,
-};
+use pool_history::{CustomData, Event, Rules, TemplateData, TipData};
+use sv2_types::{Hashes, Str255, U256};
 
-/// The byte of a role.
-pub(crate) fn role_number(role: Role) -> u8
-    ensures { result ≡ ledger.role_number role }
+/// Each field of an event is of its type. So an event that a program holds can be kept where it has
+/// a record.
+pub fn fields_fit(event: &Event)
+    ensures { IsWellFormed event.now }
 {
-    match role {
-        Role::Miner => 0,
-        Role::Feed => 1,
-        Role::Solo => 2,
+    match event {
+        Event::Start(rules) => rules_fit(rules.get()),
+        Event::Enter { worker, flags, .. } => {
+            u32_fits(*worker);
+            u32_fits(*flags)
+        }
+        Event::Template { session, template } => {
+            u32_fits(*session);
+            template_fits(template.get())
+        }
+        Event::Tip { session, tip } => {
+            u32_fits(*session);
+            tip_fits(tip.get())
+        }
+        Event::Open {
+            session,
+            account,
+            class,
+            ..
+        } => {
+            u32_fits(*session);
+            u8_fits(*class);
+            text_fits(account)
+        }
+        Event::Name {
+            session,
+            channel,
+            account,
+        } => {
+            u32_fits(*session);
+            u32_fits(*channel);
+            text_fits(account)
+        }
+        Event::Class {
+            session,
+            channel,
+            class,
+        } => {
+            u32_fits(*session);
+            u32_fits(*channel);
+            u8_fits(*class)
+        }
+        Event::Close { session, channel } => {
+            u32_fits(*session);
+            u32_fits(*channel)
+        }
+        Event::Leave { session } => u32_fits(*session),
+        Event::Credit {
+            session,
+            channel,
+            job,
+            nonce,
+            ntime,
+            version,
+            ..
+        } => {
+            u32_fits(*session);
+            u32_fits(*channel);
+            u32_fits(*job);
+            u32_fits(*nonce);
+            u32_fits(*ntime);
+            u32_fits(*version)
+        }
+        Event::Grant {
+            session,
+            account,
+            path,
+            ..
+        } => {
+            u32_fits(*session);
+            text_fits(account);
+            hashes_fit(path)
+        }
+        Event::Custom { session, custom } => {
+            u32_fits(*session);
+            custom_fits(custom.get())
+        }
     }
 }
 
-/// The byte of a channel's kind.
-pub(crate) fn kind_number(kind: Kind) -> u8
-    ensures { result ≡ ledger.kind_number kind }
+/// Each text of an event is UTF-8: the account of an Open, a Name and a Grant, and each user of a
+/// Start.
+pub fn texts_are_utf8(event: &Event)
+    ensures { TextsFit event.now }
 {
-    match kind {
-        Kind::Standard => 0,
-        Kind::Extended => 1,
-        Kind::V1 => 2,
+    match event {
+        Event::Start(rules) => accounts_are_utf8(rules.get().users.accounts()),
+        Event::Open { account, .. } => text_is_utf8(account),
+        Event::Name { account, .. } => text_is_utf8(account),
+        Event::Grant { account, .. } => text_is_utf8(account),
+        _ => {}
     }
 }
 
-/// One byte of count, then the hashes.
-pub(crate) fn put_path(out: &mut Vec<u8>, path: &Hashes) -> Result<(), AllocError>
-    requires { length path.now < 2 ^ 8 }
-    ensures { OnOk result (out.new.items ≡ out.old.items ++ spelled_seq_u256 path.now) }
+pub(crate) fn u8_fits(n: u8)
+    ensures { IsU8 n }
 {
-    put_seq_u256(out, Seq32::of(path.items()))
+    let _ = n;
 }
 
-/// Which rule it is, and its window.
-fn put_rule(out: &mut Vec<u8>, window: Option<u64>) -> Result<(), AllocError>
-    ensures { OnOk result (out.new.items ≡ out.old.items ++ ledger.spelled_rule window) }
+pub(crate) fn u16_fits(n: u16)
+    ensures { IsU16 n }
+{
+    let _ = n;
+}
+
+pub(crate) fn u32_fits(n: u32)
+    ensures { IsU32 n }
+{
+    let _ = n;
+}
+
+pub(crate) fn u64_fits(n: u64)
+    ensures { IsU64 n }
+{
+    let _ = n;
+}
+
+fn window_fits(window: Option<u64>)
+    ensures { IsWindow window }
 {
     match window {
-        None => {
-            put_u8(out, 0)?;
-            put_u64(out, 0)
-        }
-        Some(window) => {
-            put_u8(out, 1)?;
-            put_u64(out, window)
-        }
+        Some(window) => u64_fits(window),
+        None => {}
     }
 }
 
-/// The accounts one after the other.
-fn put_accounts(out: &mut Vec<u8>, accounts: &[Str255]) -> Result<(), AllocError>
-    ensures { OnOk result (out.new.items
-        ≡ out.old.items ++ flat_map spelled_str255 accounts.now) }
+pub(crate) fn text_fits(text: &Str255)
+    ensures { IsText text.now }
+{
+    let _text = text.text();
+}
+
+pub(crate) fn hash_fits(hash: &U256)
+    ensures { IsHash hash.now }
+{
+    let _bytes = hash.bytes();
+}
+
+pub(crate) fn hashes_fit(hashes: &Hashes)
+    ensures { AreHashes hashes.now }
+{
+    let _items = hashes.items();
+}
+
+fn texts_fit(texts: &[Str255])
+    ensures { AllByRecursion IsText texts.now }
+{
+    for text in texts {
+        text_fits(text);
+    }
+}
+
+fn rules_fit(rules: &Rules)
+    ensures { AreRules rules.now }
+{
+    u8_fits(rules.least_class);
+    u16_fits(rules.fee);
+    window_fits(rules.window);
+    u32_fits(rules.ntime_window);
+    u32_fits(rules.credit_limit);
+    texts_fit(rules.users.accounts())
+}
+
+pub(crate) fn template_fits(template: &TemplateData)
+    ensures { IsTemplate template.now }
+{
+    u64_fits(template.template_id);
+    u32_fits(template.version);
+    u32_fits(template.coinbase_tx_version);
+    u32_fits(template.coinbase_tx_input_sequence);
+    u64_fits(template.coinbase_tx_value_remaining);
+    u32_fits(template.coinbase_tx_outputs_count);
+    u32_fits(template.coinbase_tx_locktime);
+    hashes_fit(&template.merkle_path)
+}
+
+pub(crate) fn tip_fits(tip: &TipData)
+    ensures { IsTip tip.now }
+{
+    u64_fits(tip.template_id);
+    u32_fits(tip.header_timestamp);
+    u32_fits(tip.nbits);
+    hash_fits(&tip.prev_hash);
+    hash_fits(&tip.target)
+}
+
+pub(crate) fn custom_fits(custom: &CustomData)
+    ensures { IsCustom custom.now }
+{
+    u32_fits(custom.channel_id);
+    u32_fits(custom.version);
+    u32_fits(custom.min_ntime);
+    u32_fits(custom.nbits);
+    u32_fits(custom.coinbase_tx_version);
+    u32_fits(custom.coinbase_tx_input_sequence);
+    u32_fits(custom.coinbase_tx_locktime);
+    hash_fits(&custom.prev_hash);
+    hashes_fit(&custom.merkle_path)
+}
+
+pub(crate) fn text_is_utf8(text: &Str255)
+    ensures { IsUtf8 text.now }
+{
+    let _text = text.text();
+}
+
+fn accounts_are_utf8(accounts: &[Str255])
+    ensures { AllByRecursion IsUtf8 accounts.now }
 {
     for account in accounts {
-        put_str255(out, account.text())?;
+        text_is_utf8(account);
     }
-    Ok(())
-}
-
-/// The rules.
-pub(crate) fn put_rules(out: &mut Vec<u8>, rules: &Rules) -> Result<(), AllocError>
-    requires { ledger.RulesFit rules.now }
-    ensures { OnOk result (out.new.items ≡ out.old.items ++ ledger.spelled_rules rules.now) }
-{
-    put_b255(out, rules.pool_script.bytes())?;
-    put_u8(out, rules.least_class)?;
-    put_u16(out, rules.fee)?;
-    put_rule(out, rules.window)?;
-    put_u32(out, rules.ntime_window)?;
-    put_u32(out, rules.credit_limit)?;
-    put_boolean(out, rules.version_rolling)?;
-    put_u16(out, rules.users.accounts().len() as u16)?;
-    put_accounts(out, rules.users.accounts())
-}
-
-/// A template.
-pub(crate) fn put_template(out: &mut Vec<u8>, template: &TemplateData) -> Result<(), AllocError>
-    requires { ledger.TemplateFits template.now }
-    ensures { OnOk result (out.new.items
-        ≡ out.old.items ++ ledger.spelled_template template.now) }
-{
-    put_u64(out, template.template_id)?;
-    put_boolean(out, template.future_template)?;
-    put_u32(out, template.version)?;
-    put_u32(out, template.coinbase_tx_version)?;
-    put_b255(out, template.coinbase_prefix.bytes())?;
-    put_u32(out, template.coinbase_tx_input_sequence)?;
-    put_u64(out, template.coinbase_tx_value_remaining)?;
-    put_u32(out, template.coinbase_tx_outputs_count)?;
-    put_b64k(out, template.coinbase_tx_outputs.bytes())?;
-    put_u32(out, template.coinbase_tx_locktime)?;
-    put_path(out, &template.merkle_path)
-}
-
-/// A tip.
-pub(crate) fn put_tip(out: &mut Vec<u8>, tip: &TipData) -> Result<(), AllocError>
-    ensures { OnOk result (out.new.items ≡ out.old.items ++ ledger.spelled_tip tip.now) }
-{
-    put_u64(out, tip.template_id)?;
-    put_u256(out, tip.prev_hash)?;
-    put_u32(out, tip.header_timestamp)?;
-    put_u32(out, tip.nbits)?;
-    put_u256(out, tip.target)
-}
-
-/// A miner's own job.
-pub(crate) fn put_custom(out: &mut Vec<u8>, custom: &CustomData) -> Result<(), AllocError>
-    requires { ledger.CustomFits custom.now }
-    ensures { OnOk result (out.new.items ≡ out.old.items ++ ledger.spelled_custom custom.now) }
-{
-    put_u32(out, custom.channel_id)?;
-    put_b255(out, custom.token.bytes())?;
-    put_u32(out, custom.version)?;
-    put_u256(out, custom.prev_hash)?;
-    put_u32(out, custom.min_ntime)?;
-    put_u32(out, custom.nbits)?;
-    put_u32(out, custom.coinbase_tx_version)?;
-    put_b255(out, custom.coinbase_prefix.bytes())?;
-    put_u32(out, custom.coinbase_tx_input_sequence)?;
-    put_b64k(out, custom.coinbase_tx_outputs.bytes())?;
-    put_u32(out, custom.coinbase_tx_locktime)?;
-    put_path(out, &custom.merkle_path)
 }

@@ -3,7 +3,7 @@
 ghost use Rattle.std.specs.Prelude.{◌≡◌, ◌≤◌, ◌↔◌, ◌++◌, ℕ, List, length, IfOk, IsErrOf, IsTrue};
 ghost use Rattle.pool_history.specs.declared.events.Event.{Event};
 ghost use Rattle.pool_history.specs.Ledger.{record_of};
-ghost use Rattle.ledger_laws.specs.WellFormed.{CanBeKept};
+ghost use Rattle.ledger_records.specs.WellFormed.{CanBeKept};
 ghost use Rattle.ledger_records.specs.Bodies.{DecidesBody, ReadsBody};
 ghost use Rattle.ledger_records.specs.Records.{BeginsWithNoRecord, is_cut, IsReadAs, IsRecordOf, IsRefused};
 
@@ -13,7 +13,7 @@ use crate::events::{
     read_name, read_open, read_template, read_tip,
 };
 use crate::starting::read_start;
-use ledger_laws::{fields_fit, texts_are_utf8};
+use crate::{fields_fit, texts_are_utf8};
 use pool_history::Event;
 use std::alloc::Global;
 

@@ -7,7 +7,7 @@ ghost use Rattle.ledger_records.specs.Fields.{rule_byte, window_field};
 use crate::error::RecordError;
 use crate::events::truth_of;
 use crate::users::read_users;
-use ledger_laws::{fields_fit, texts_are_utf8};
+use crate::{fields_fit, texts_are_utf8};
 use pool_history::{Boxed, Event, Rules};
 use std::alloc::Global;
 use sv2_messages::FieldReader;

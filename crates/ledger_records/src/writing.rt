@@ -5,11 +5,11 @@ ghost use Rattle.pool_base.specs.Lists.{Begins};
 ghost use Rattle.pool_history.specs.Ledger.{HasRecord, EventFits, record_body, record_of};
 ghost use Rattle.sv2_types.specs.Spelling.{spelled_u8, spelled_u32, spelled_b16m};
 
-use crate::fields::{
+use crate::reading::HEAD_LEN;
+use crate::record_fields::{
     kind_number, put_custom, put_path, put_rules, put_template, put_tip, role_number,
 };
-use crate::reading::HEAD_LEN;
-use ledger_laws::record_kind;
+use crate::record_kind;
 use pool_history::Event;
 use std::alloc::{AllocError, Global};
 use sv2_types::{put_b16m, put_b32, put_boolean, put_str255, put_u8, put_u32};

@@ -5,7 +5,7 @@ use Rattle.std.specs.Option.{option_map}
 use Rattle.std.specs.Prelude.{is_some}
 use Rattle.channels.specs.declared.channel.Channel.{Channel}
 use Rattle.channels.specs.Tables.{AllAnswerFor, ChannelTable, IsTold, ShowsSameChannels, kept_channel, kept_of}
-use Rattle.grant_table.specs.Tables.{OtherEventsLeaveGrants, moves_grants}
+use Rattle.pool_tables.specs.GrantTables.{OtherEventsLeaveGrants, moves_grants}
 use Rattle.pool_history.specs.declared.causes.Cause.TheVariants as cause
 use Rattle.pool_history.specs.declared.events.Event.{Event}
 use Rattle.pool_history.specs.declared.events.Event.TheVariants as event
@@ -17,7 +17,7 @@ use Rattle.pool_history.specs.Jobs.{job_moves}
 use Rattle.pool_history.specs.Legal.{cause_of, is_class, may_become, may_get, may_mine, within}
 use Rattle.pool_history.specs.Refusing.{own_channel}
 use Rattle.pool_history.specs.Sessions.{rules_of}
-use Rattle.session_table.specs.Tables.{OtherEventsLeaveSessions, moves_sessions}
+use Rattle.pool_tables.specs.Tables.{OtherEventsLeaveSessions, moves_sessions}
 use Rattle.template_jobs.specs.Told.{WasTold}
 use Rattle.channels.proofs.Cuts.{AnswersIfAny, kept-same, none-same, own-answers}
 use Rattle.channels.specs.Cuts.{IsAskedWithin}

@@ -1,12 +1,12 @@
 -- What credits do to the tables.
 use Rattle.std.proofs.Common.{◌≡◌, ℕ, ◌+◌, None, Ok, Err, List, ◌∷◌, refl, ap, subst, sym, ◌∙◌}
-use Rattle.grant_table.specs.Tables.{OtherEventsLeaveGrants}
+use Rattle.pool_tables.specs.GrantTables.{OtherEventsLeaveGrants}
 use Rattle.payouts.specs.Tallies.{Weighing}
 use Rattle.pool_history.specs.declared.events.Event.{Event}
 use Rattle.pool_history.specs.Crediting.{first_failed}
 use Rattle.pool_history.specs.Legal.{cause_of, failed_as, may_mine, within}
-use Rattle.session_table.specs.Tables.{OtherEventsLeaveSessions}
-use Rattle.share_judging.specs.Headers.{HeaderSet}
+use Rattle.pool_tables.specs.Tables.{OtherEventsLeaveSessions}
+use Rattle.pool_tables.specs.Headers.{HeaderSet}
 use Rattle.ledger_replay.specs.declared.error.ReplayError.{ReplayError}
 use Rattle.ledger_replay.specs.declared.share_events.Credited.{Credited}
 use Rattle.ledger_replay.specs.declared.share_events.Unbooked.{Unbooked}

@@ -10,9 +10,9 @@ use Rattle.coinbase.specs.declared.error.OutputsError.TheVariants as outputs
 use Rattle.channels.specs.Histories.{TablesShowHistories}
 use Rattle.channels.specs.Tables.{kept_channel, kept_of}
 use Rattle.channels.specs.declared.channel.Channel.{Channel}
-use Rattle.grant_table.proofs.RefusedJobs.{channel-none, channel-some, coinbase_made, coinbase_refused}
-use Rattle.grant_table.specs.OwnJobs.{refusal_before_coinbase}
-use Rattle.grant_table.specs.Tables.{GrantTable, HasOneToSpend, ShowsGrants}
+use Rattle.pool_tables.proofs.RefusedJobs.{channel-none, channel-some, coinbase_made, coinbase_refused}
+use Rattle.pool_tables.specs.OwnJobs.{refusal_before_coinbase}
+use Rattle.pool_tables.specs.GrantTables.{GrantTable, HasOneToSpend, ShowsGrants}
 use Rattle.history_laws.specs.KeptJobs.{KeptJobs}
 use Rattle.history_laws.specs.Limits.{customs}
 use Rattle.pool_history.specs.declared.causes.Cause.{Cause}
@@ -26,7 +26,7 @@ use Rattle.pool_history.specs.Jobs.{Brought, job_moves, jobs_of}
 use Rattle.pool_history.specs.Judging.{custom_terms}
 use Rattle.pool_history.specs.Legal.{cause_of, custom_cause, may_select_work, within}
 use Rattle.pool_history.specs.Refusing.{custom_refusal, outputs_refusal, own_channel}
-use Rattle.session_table.specs.Tables.{OtherEventsLeaveSessions}
+use Rattle.pool_tables.specs.Tables.{OtherEventsLeaveSessions}
 use Rattle.template_jobs.proofs.OwnCounted.{own-counted}
 use Rattle.template_jobs.specs.HeldJobs.{HasCoinbase}
 use Rattle.template_jobs.specs.Tables.{IsSameButRoom, JobTable, TakesMove, held_jobs}

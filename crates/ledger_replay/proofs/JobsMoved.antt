@@ -3,7 +3,7 @@ use Rattle.std.proofs.Common.{◌≡◌, ℕ, ◌+◌, Option, None, Some, Ok, E
 use Rattle.std.proofs.lemmas.List.{reverse-reverse}
 use Rattle.std.specs.List.{AllByRecursion}
 use Rattle.std.specs.Option.{option_map}
-use Rattle.grant_table.specs.Tables.{OtherEventsLeaveGrants}
+use Rattle.pool_tables.specs.GrantTables.{OtherEventsLeaveGrants}
 use Rattle.pool_history.specs.declared.causes.Cause.TheVariants as cause
 use Rattle.pool_history.specs.declared.events.Event.{Event}
 use Rattle.pool_history.specs.declared.events.Event.TheVariants as event
@@ -14,9 +14,9 @@ use Rattle.pool_history.specs.declared.templates.TipData.{TipData}
 use Rattle.pool_history.specs.Conditions.{found}
 use Rattle.pool_history.specs.Jobs.{Came, Job, Tipped, future_in, job_moves, jobs_of}
 use Rattle.pool_history.specs.Legal.{may_feed, refused_as, unfound_as, within}
-use Rattle.session_table.specs.Tables.{OtherEventsLeaveSessions}
+use Rattle.pool_tables.specs.Tables.{OtherEventsLeaveSessions}
 use Rattle.template_jobs.specs.HeldJobs.{HasCoinbase}
-use Rattle.template_jobs.specs.Refusals.{IsRefusal}
+use Rattle.pool_history.specs.JobRefusals.{IsRefusal}
 use Rattle.template_jobs.specs.Tables.{IsSameButRoom, JobTable, TakesMove, held_jobs, kept_jobs, refusal_of}
 use Rattle.template_jobs.specs.Told.{HistoriesAreRead, MovesAreTold, ReadsJobs, WasTold}
 use Rattle.ledger_replay.specs.declared.error.ReplayError.{ReplayError}

@@ -4,7 +4,7 @@ use Rattle.std.proofs.lemmas.Bool.{eqb-true, false≢true}
 use Rattle.std.proofs.lemmas.Slice.Eq.{bytes_eq-Decides}
 use Rattle.std.specs.Str.{bytes_eq}
 use Rattle.channels.specs.Tables.{ChannelTable, IsTold, ShowsSameChannels}
-use Rattle.grant_table.specs.Tables.{OtherEventsLeaveGrants}
+use Rattle.pool_tables.specs.GrantTables.{OtherEventsLeaveGrants}
 use Rattle.history_laws.proofs.Stepping.{opened-opens}
 use Rattle.pool_history.specs.declared.causes.Cause.{Cause}
 use Rattle.pool_history.specs.declared.causes.Cause.TheVariants as cause
@@ -19,7 +19,7 @@ use Rattle.pool_history.specs.Conditions.{first_false, or_code}
 use Rattle.pool_history.specs.Legal.{cause_of, is_class, is_just, is_lead_length, is_next_lead, is_opening_account, may_mine, within}
 use Rattle.pool_history.specs.Refusing.{count_among, has_too_many, has_too_many_among, held_leads, lead_unless}
 use Rattle.pool_history.specs.Spaces.{lowest}
-use Rattle.session_table.specs.Tables.{OtherEventsLeaveSessions}
+use Rattle.pool_tables.specs.Tables.{OtherEventsLeaveSessions}
 use Rattle.channels.proofs.Cuts.{full-same, leads-same}
 use Rattle.history_laws.specs.AskedPlaces.{is_asked_after}
 use Rattle.ledger_replay.specs.Openings.{is_full_for, is_said_lead, next_lead_on}

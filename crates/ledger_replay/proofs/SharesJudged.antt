@@ -15,11 +15,11 @@ use Rattle.pool_history.specs.Headers.{Briefing}
 use Rattle.pool_history.specs.Judging.{Admitted, Share, admission, briefing_of, rebuilt_header, share_of}
 use Rattle.pool_history.specs.Legal.{is_standard_in}
 use Rattle.pool_history.specs.Sessions.{rules_of, script_in, script_of}
-use Rattle.share_check.specs.Submitted.{SubmittedIsRebuilt, submitted_header}
-use Rattle.share_judging.proofs.Ranges.{window_and_limit}
-use Rattle.share_judging.specs.Headers.{HeaderSet}
-use Rattle.share_judging.specs.Passing.{IsBookedAs, Passes}
-use Rattle.share_judging.specs.declared.passing.Passed.{Passed}
+use Rattle.share_headers.specs.Submitted.{SubmittedIsRebuilt, submitted_header}
+use Rattle.pool_tables.proofs.Ranges.{window_and_limit}
+use Rattle.pool_tables.specs.Headers.{HeaderSet}
+use Rattle.pool_tables.specs.Passing.{IsBookedAs, Passes}
+use Rattle.pool_tables.specs.declared.passing.Passed.{Passed}
 use Rattle.payouts.specs.Tallies.{Weighing}
 use Rattle.template_jobs.specs.Tables.{HasCoinbases, JobTable}
 use Rattle.channels.specs.Tables.{ChannelTable}

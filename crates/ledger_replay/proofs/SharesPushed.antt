@@ -8,8 +8,8 @@ use Rattle.pool_history.specs.Settling.{Settled}
 use Rattle.payouts.specs.Plans.{Applies, BlockPlan, IsPlanOf, Planning}
 use Rattle.payouts.specs.Tallies.{DiffersInRoom, Remembers, Weighing}
 use Rattle.payouts.specs.Totals.{HasSums, SumsPlan}
-use Rattle.share_judging.specs.Headers.{HeaderSet, ShowsHeaders}
-use Rattle.share_judging.specs.declared.passing.Passed.{Passed}
+use Rattle.pool_tables.specs.Headers.{HeaderSet, ShowsHeaders}
+use Rattle.pool_tables.specs.declared.passing.Passed.{Passed}
 use Rattle.ledger_replay.specs.Shares.{BooksNothing, BooksPassed, WereBooked, booked_for}
 
 -- a tally and headers that have more room were told the same

@@ -1,12 +1,12 @@
 -- What tokens do to the tables.
 use Rattle.std.proofs.Common.{◌≡◌, ℕ, ◌+◌, Bool, Option, None, Some, List, ◌∷◌, length, refl, ap, sym, ◌∙◌}
-use Rattle.grant_table.specs.Tables.{GrantTable, ShowsGrants, grant_refusal_after, granted_count}
+use Rattle.pool_tables.specs.GrantTables.{GrantTable, ShowsGrants, grant_refusal_after, granted_count}
 use Rattle.pool_history.specs.declared.causes.Cause.{Cause}
 use Rattle.pool_history.specs.declared.events.Event.{Event}
 use Rattle.pool_history.specs.declared.events.Event.TheVariants as event
 use Rattle.pool_history.specs.declared.refusals.GrantError.{GrantError}
 use Rattle.pool_history.specs.Legal.{cause_of, grant_cause, may_select_work, within}
-use Rattle.session_table.specs.Tables.{OtherEventsLeaveSessions}
+use Rattle.pool_tables.specs.Tables.{OtherEventsLeaveSessions}
 use Rattle.ledger_replay.specs.Replays.{HasCause, ReplayTables, WereReplayed}
 use Rattle.ledger_replay.proofs.Caused.{by_own, fewer-told, one-longer}
 

@@ -3,7 +3,7 @@ use Rattle.std.specs.Prelude.{◌≡◌, ℕ, true, None, Some, Result, Ok, Err,
 use Rattle.history_laws.specs.AskedPlaces.{is_asked_after}
 use Rattle.channels.specs.Cuts.{with_cut}
 use Rattle.channels.specs.Tables.{ChannelTable, IsTold}
-use Rattle.grant_table.specs.Tables.{GrantTable, ShowsGrants}
+use Rattle.pool_tables.specs.GrantTables.{GrantTable, ShowsGrants}
 use Rattle.coinbase.specs.declared.error.OutputsError.{OutputsError}
 use Rattle.coinbase.specs.declared.error.OutputsError.TheVariants as outputs
 use Rattle.pool_history.specs.declared.causes.Cause.{Cause}
@@ -20,8 +20,8 @@ use Rattle.pool_history.specs.Jobs.{job_moves}
 use Rattle.pool_history.specs.Legal.{LegalPast, cause_of, is_class, is_opening_account, may_mine, within}
 use Rattle.pool_history.specs.Sessions.{rules_of}
 use Rattle.payouts.specs.Tallies.{Weighing}
-use Rattle.session_table.specs.Tables.{SessionTable, ShowsSessions}
-use Rattle.share_judging.specs.Headers.{HeaderSet}
+use Rattle.pool_tables.specs.Tables.{SessionTable, ShowsSessions}
+use Rattle.pool_tables.specs.Headers.{HeaderSet}
 use Rattle.template_jobs.specs.Tables.{HasCoinbases, JobTable}
 use Rattle.template_jobs.specs.Told.{WasTold}
 use Rattle.ledger_replay.specs.declared.error.ReplayError.{ReplayError}

@@ -13,10 +13,10 @@ use Rattle.pool_history.specs.Judging.{Admitted, Share, admission, rebuilt_heade
 use Rattle.pool_history.specs.Legal.{LegalPast, is_standard_in}
 use Rattle.pool_history.specs.Sessions.{credits, rules_of}
 use Rattle.channels.specs.Tables.{ChannelTable}
-use Rattle.share_judging.specs.Admission.{ShowsShares}
-use Rattle.share_judging.specs.Headers.{HeaderSet, ShowsHeaders}
-use Rattle.share_judging.specs.Passing.{IsBookedAs}
-use Rattle.share_judging.specs.declared.passing.Passed.{Passed}
+use Rattle.pool_tables.specs.Admission.{ShowsShares}
+use Rattle.pool_tables.specs.Headers.{HeaderSet, ShowsHeaders}
+use Rattle.pool_tables.specs.Passing.{IsBookedAs}
+use Rattle.pool_tables.specs.declared.passing.Passed.{Passed}
 use Rattle.template_jobs.specs.Tables.{JobTable}
 use Rattle.ledger_replay.specs.declared.error.ReplayError.{ReplayError}
 use Rattle.ledger_replay.specs.declared.error.ReplayError.TheVariants as error

@@ -3,10 +3,9 @@
 use crate::error::ReplayError;
 use crate::replay::Replay;
 use crate::sessions_by::{Right, session_cause};
-use channels::{Channel, ChannelPlan, is_known_account};
-use grant_table::other_events_leave_grants;
-use pool_history::{Cause, Class, Kind, Rules};
-use session_table::other_events_leave_sessions;
+use channels::{Channel, ChannelPlan};
+use pool_history::{Cause, Class, Kind, Rules, is_known_account};
+use pool_tables::{other_events_leave_grants, other_events_leave_sessions};
 use sv2_types::Str255;
 
 impl Replay {

@@ -4,8 +4,8 @@ ghost use Rattle.std.specs.Prelude.{◌≡◌};
 
 use crate::replay::Replay;
 use channels::Channels;
-use foreseen_shares::{Candidate, SharesAhead};
-use share_judging::admit;
+use pool_tables::admit;
+use share_headers::{Candidate, SharesAhead};
 use std::alloc::AllocError;
 
 impl Replay {

@@ -3,9 +3,8 @@
 use crate::error::ReplayError;
 use crate::replay::Replay;
 use crate::sessions_by::{Right, session_cause};
-use grant_table::other_events_leave_grants;
 use pool_history::{Cause, JobError, TemplateData, TipData};
-use session_table::other_events_leave_sessions;
+use pool_tables::{other_events_leave_grants, other_events_leave_sessions};
 use template_jobs::{histories_are_read, moves_are_told};
 
 impl Replay {

@@ -4,10 +4,9 @@ use crate::channel_events::class_in_range;
 use crate::error::ReplayError;
 use crate::replay::Replay;
 use crate::sessions_by::{Right, session_cause};
-use channels::{ChannelPlan, Channels, is_known_account};
-use grant_table::other_events_leave_grants;
-use pool_history::{Cause, Class, Kind, Lead, OpenAsk, OpenError, Opened, Rules};
-use session_table::other_events_leave_sessions;
+use channels::{ChannelPlan, Channels};
+use pool_history::{Cause, Class, Kind, Lead, OpenAsk, OpenError, Opened, Rules, is_known_account};
+use pool_tables::{other_events_leave_grants, other_events_leave_sessions};
 use std::alloc::Global;
 use sv2_types::{Str255, U256};
 

@@ -5,9 +5,8 @@ use crate::replay::Replay;
 use crate::sessions_by::{Right, session_cause};
 use channels::tables_show_histories;
 use coinbase::OutputsError;
-use grant_table::own_job_refusal;
 use pool_history::{Cause, CustomData, CustomError};
-use session_table::other_events_leave_sessions;
+use pool_tables::{other_events_leave_sessions, own_job_refusal};
 use template_jobs::moves_are_told;
 
 /// As many jobs of miners' own as tokens can be granted, each of which is spent by one.

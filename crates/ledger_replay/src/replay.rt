@@ -5,12 +5,12 @@ ghost use Rattle.pool_history.specs.Accounts.{are_in_range};
 
 use crate::error::ReplayError;
 use channels::Channels;
-use foreseen_shares::Foresight;
-use grant_table::{Grants, other_events_leave_grants};
 use payouts::{Rule, Tally};
 use pool_history::{Cause, Event, Rules, are_rules_in_range};
-use session_table::{Sessions, other_events_leave_sessions};
-use share_judging::Headers;
+use pool_tables::{
+    Grants, Headers, Sessions, other_events_leave_grants, other_events_leave_sessions,
+};
+use share_headers::Foresight;
 use std::alloc::{AllocError, Global};
 use template_jobs::Jobs;
 

@@ -3,8 +3,8 @@
 use crate::error::ReplayError;
 use crate::replay::Replay;
 use crate::sessions_by::{Right, session_cause};
-use grant_table::other_events_leave_grants;
 use pool_history::{Cause, Role};
+use pool_tables::other_events_leave_grants;
 
 impl Replay {
     ghost use Rattle.std.specs.Prelude.{◌≡◌, ◌+◌, ◌<◌, ◌-◌, ◌^◌, OnOk};

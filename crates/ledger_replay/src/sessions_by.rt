@@ -4,11 +4,11 @@ ghost use Rattle.std.specs.Prelude.{◌≡◌, List, None};
 ghost use Rattle.pool_history.specs.declared.events.Event.{Event};
 ghost use Rattle.pool_history.specs.Legal.{within};
 ghost use Rattle.pool_history.specs.Sessions.{is_number};
-ghost use Rattle.session_table.specs.Tables.{ShowsSessions, present_in};
+ghost use Rattle.pool_tables.specs.Tables.{ShowsSessions, present_in};
 ghost use Rattle.ledger_replay.specs.Rights.{right_test};
 
 use pool_history::Cause;
-use session_table::{Entered, Sessions};
+use pool_tables::{Entered, Sessions};
 
 /// What a session has to be entered with.
 #[derive(Clone, Copy)]

@@ -1,7 +1,7 @@
 //! The summary of what was replayed.
 
 use crate::replay::Replay;
-use pool_summary::write_summary;
+use payouts::write_summary;
 use std::alloc::AllocError;
 
 impl Replay {

@@ -3,9 +3,8 @@
 use crate::error::ReplayError;
 use crate::replay::Replay;
 use crate::sessions_by::{Right, session_cause};
-use grant_table::grant_refusal_of;
 use pool_history::{Cause, GrantError};
-use session_table::other_events_leave_sessions;
+use pool_tables::{grant_refusal_of, other_events_leave_sessions};
 use sv2_types::{Hashes, Str255};
 
 impl Replay {

@@ -4,7 +4,7 @@ use Rattle.pool_history.specs.declared.asking.Request.{Request}
 use Rattle.pool_history.specs.declared.events.Event.{Event}
 use Rattle.pool_history.specs.declared.replies.Reply.{Reply}
 use Rattle.ledger_audit.specs.Judging.{in_a_row}
-use Rattle.ledger_laws.proofs.Records.{ledgers}
+use Rattle.ledger_records.proofs.Records.{ledgers}
 use Rattle.share_ledger.specs.Books.{IsReplied}
 use Rattle.ledger_resume.specs.Answers.{ResumedBooksAnswerAlike}
 use Rattle.ledger_resume.specs.Histories.{IsHistoryOf}

@@ -16,10 +16,10 @@ use Rattle.pool_history.specs.Sessions.{past_of}
 use Rattle.event_store.specs.Blocks.{is_block_event}
 use Rattle.history_laws.proofs.Legalities.{held, legal_starts, past-one, some-none, starts_with_start}
 use Rattle.history_laws.specs.Legality.{Starts}
-use Rattle.ledger_laws.proofs.Growth.{hash-end}
-use Rattle.ledger_laws.specs.Growing.{hash_after}
-use Rattle.ledger_laws.specs.OneLedger.{AllCanBeKept}
-use Rattle.ledger_laws.specs.WellFormed.{CanBeKept}
+use Rattle.ledger_records.proofs.Growth.{hash-end}
+use Rattle.ledger_records.specs.Growing.{hash_after}
+use Rattle.ledger_records.specs.OneLedger.{AllCanBeKept}
+use Rattle.ledger_records.specs.WellFormed.{CanBeKept}
 use Rattle.ledger_records.specs.Pieces.{first_piece, piece_behind}
 use Rattle.ledger_replay.specs.declared.replay.Replay.{Replay}
 use Rattle.ledger_replay.specs.Replays.{HasCause, WasReplayed}

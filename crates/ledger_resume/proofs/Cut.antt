@@ -11,11 +11,11 @@ use Rattle.pool_history.specs.declared.events.Event.{Event}
 use Rattle.pool_history.specs.Ledger.{chain, chained, kept_records, ledger_text, ledger_text_1, magic_1, magic_2, record_body, record_of}
 use Rattle.history_laws.proofs.Legalities.{legal_starts}
 use Rattle.history_laws.specs.Legality.{Starts}
-use Rattle.ledger_laws.specs.Growing.{hash_after}
-use Rattle.ledger_laws.specs.Keeping.{IsKept, IsLedgerOf}
-use Rattle.ledger_laws.specs.OneLedger.{AllCanBeKept}
-use Rattle.ledger_laws.specs.WellFormed.{CanBeKept}
-use Rattle.ledger_laws.proofs.Records.{formats_differ}
+use Rattle.ledger_records.specs.Growing.{hash_after}
+use Rattle.ledger_records.specs.Keeping.{IsKept, IsLedgerOf}
+use Rattle.ledger_records.specs.OneLedger.{AllCanBeKept}
+use Rattle.ledger_records.specs.WellFormed.{CanBeKept}
+use Rattle.ledger_records.proofs.Records.{formats_differ}
 use Rattle.ledger_records.specs.Pieces.{piece_behind}
 use Rattle.ledger_records.specs.Records.{said_body_len}
 use Rattle.ledger_audit.specs.Judging.{in_a_row}

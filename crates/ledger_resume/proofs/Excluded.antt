@@ -10,7 +10,7 @@ use Rattle.ledger_audit.specs.declared.verdict.Verdict.TheVariants as verdict
 use Rattle.ledger_audit.specs.Judging.{in_a_row}
 use Rattle.ledger_audit.specs.OneVerdict.{kept-legal, one-verdict}
 use Rattle.ledger_audit.specs.Verdicts.{IsVerdictOf}
-use Rattle.ledger_laws.proofs.Records.{joined, ledgers, text_pieces}
+use Rattle.ledger_records.proofs.Records.{joined, ledgers, text_pieces}
 use Rattle.pool_io.specs.Crashes.{IsSettledWith}
 use Rattle.pool_io.specs.Seen.{KeeperSeen}
 use Rattle.sha2.specs.Sha256.{sha256}

@@ -5,3 +5,8 @@ pub mod Cut
 pub mod Excluded
 pub mod OneUnit
 pub mod Pieces
+pub mod GoneOn
+pub mod Lasting
+pub mod Leaves
+pub mod Opened
+pub mod StartOf

@@ -3,7 +3,7 @@ use Rattle.std.proofs.Common.{◌≡◌, ◌⊎◌, ℕ, ◌+◌, ◌≤◌, Ok,
 use Rattle.std.proofs.lemmas.List.{drop_at, take-append-drop}
 use Rattle.pool_history.specs.declared.events.Event.{Event}
 use Rattle.pool_history.specs.Ledger.{chain, record_of}
-use Rattle.ledger_laws.specs.WellFormed.{CanBeKept}
+use Rattle.ledger_records.specs.WellFormed.{CanBeKept}
 use Rattle.ledger_records.specs.Pieces.{piece_behind}
 use Rattle.ledger_records.specs.Records.{IsReadAs, IsRecordOf}
 use Rattle.ledger_records.specs.declared.error.RecordError.{RecordError}

@@ -10,11 +10,11 @@ use Rattle.pool_history.specs.Legal.{cause_of}
 use Rattle.pool_history.specs.Sessions.{past_of}
 use Rattle.history_laws.proofs.Legalities.{none_caused}
 use Rattle.history_laws.specs.Legality.{Starts}
-use Rattle.ledger_laws.proofs.Growth.{hash_behind}
-use Rattle.ledger_laws.proofs.Records.{read_back}
-use Rattle.ledger_laws.specs.Growing.{hash_after}
-use Rattle.ledger_laws.specs.OneLedger.{AllCanBeKept}
-use Rattle.ledger_laws.specs.WellFormed.{CanBeKept}
+use Rattle.ledger_records.proofs.Growth.{hash_behind}
+use Rattle.ledger_records.proofs.Records.{read_back}
+use Rattle.ledger_records.specs.Growing.{hash_after}
+use Rattle.ledger_records.specs.OneLedger.{AllCanBeKept}
+use Rattle.ledger_records.specs.WellFormed.{CanBeKept}
 use Rattle.ledger_records.specs.Pieces.{first_piece, piece_behind}
 use Rattle.ledger_resume.specs.Histories.{IsHistoryOf}
 

@@ -1,7 +1,7 @@
 -- How records are cut (this project's own).
 use Rattle.std.specs.Prelude.{◌≡◌, ℕ, ◌+◌, if◌then◌else◌, Bool, List, drop, length}
 use Rattle.pool_history.specs.declared.events.Event.{Event}
-use Rattle.ledger_laws.specs.Keeping.{IsLedgerOf}
+use Rattle.ledger_records.specs.Keeping.{IsLedgerOf}
 use Rattle.ledger_records.specs.Records.{said_body_len}
 
 -- bytes are the ledger of some history

@@ -3,7 +3,7 @@ use Rattle.std.specs.Prelude.{◌≡◌, ℕ, List}
 use Rattle.pool_history.specs.declared.events.Event.{Event}
 use Rattle.pool_history.specs.Ledger.{kept_records}
 use Rattle.history_laws.specs.Legality.{Starts}
-use Rattle.ledger_laws.specs.Keeping.{IsKept}
+use Rattle.ledger_records.specs.Keeping.{IsKept}
 
 -- a history that begins, is legal and has a ledger is kept as just these records: the magic with the
 -- first event's, then one for each event more

@@ -3,3 +3,8 @@ pub mod Cutting
 pub mod Histories
 pub mod Refusals
 pub mod Restoring
+pub mod Books
+pub mod Causes
+pub mod Leaving
+pub mod Laws
+pub mod Runs

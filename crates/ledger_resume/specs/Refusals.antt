@@ -8,7 +8,7 @@ use Rattle.ledger_audit.specs.declared.verdict.Verdict.{Verdict}
 use Rattle.ledger_audit.specs.declared.verdict.Verdict.TheVariants as verdict
 use Rattle.ledger_audit.specs.Judging.{in_a_row}
 use Rattle.ledger_audit.specs.Verdicts.{IsVerdictOf}
-use Rattle.ledger_laws.specs.Keeping.{IsLedgerOf}
+use Rattle.ledger_records.specs.Keeping.{IsLedgerOf}
 use Rattle.share_ledger.specs.Recovery.{pieces_of}
 use Rattle.ledger_resume.specs.declared.error.ResumeError.{ResumeError}
 use Rattle.ledger_resume.specs.declared.error.ResumeError.TheVariants as error

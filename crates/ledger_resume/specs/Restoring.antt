@@ -6,9 +6,9 @@ use Rattle.pool_history.specs.Ledger.{chain, kept_records, magic_2, record_of}
 use Rattle.pool_history.specs.Legal.{cause_of}
 use Rattle.pool_history.specs.Sessions.{past_of}
 use Rattle.history_laws.specs.Legality.{Starts}
-use Rattle.ledger_laws.specs.Growing.{hash_after}
-use Rattle.ledger_laws.specs.OneLedger.{AllCanBeKept}
-use Rattle.ledger_laws.specs.WellFormed.{CanBeKept}
+use Rattle.ledger_records.specs.Growing.{hash_after}
+use Rattle.ledger_records.specs.OneLedger.{AllCanBeKept}
+use Rattle.ledger_records.specs.WellFormed.{CanBeKept}
 use Rattle.ledger_records.specs.Pieces.{first_piece, piece_behind}
 use Rattle.event_store.specs.Blocks.{is_block_event}
 use Rattle.ledger_replay.specs.declared.replay.Replay.{Replay}

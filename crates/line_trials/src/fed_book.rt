@@ -3,9 +3,9 @@
 use crate::feeding::bring;
 use pool_history::Request;
 use pool_io::Keeper;
-use session_loop::{Acted, Acting};
-use solo_session::SoleBook;
+use pool_sessions::SoleBook;
 use std::alloc::Global;
+use v2_sessions::{Acted, Acting};
 
 /// The worker whose session brings templates.
 pub(crate) const FEED: u32 = 1;

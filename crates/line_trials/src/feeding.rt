@@ -1,9 +1,9 @@
 //! The feed of a pool: what it brings, and what it is told behind a session.
 
 use pool_history::{Note, Reply, Request, TemplateData, TipData};
-use session_loop::Acting;
 use std::alloc::{AllocError, Global};
 use sv2_types::{Blob, Hashes, U256};
+use v2_sessions::Acting;
 
 /// The feed brings the worked session's template and tip.
 pub(crate) fn bring<A: Acting>(alloc: Global, acting: &mut A) -> Result<(), AllocError>

@@ -5,20 +5,18 @@ use crate::feeding::tell_solutions;
 use crate::steps::turns_of;
 use anyhow::{Result, bail};
 use case_lines::{part, word};
-use line_sessions::serve_lines;
-use pool_core::SessionEnd;
 use pool_history::{Request, Role, Rules, Users, are_rules_in_range};
-use pool_io::{Keeper, SureKeeper, SureSink, SureSource};
+use pool_io::{Keeper, PIECE_LEN, SureKeeper, SureSink, SureSource};
 use pool_network::{Link, Streams};
-use session_loop::{Acting, begin};
+use pool_sessions::SoleBook;
 use session_steps::Manner;
 use share_ledger::Book;
-use solo_session::SoleBook;
 use std::alloc::{AllocError, Global};
-use stream_commands::PIECE_LEN;
 use sv2_types::Str255;
 use trial_support::example_rules;
+use v1_sessions::serve_lines;
 use v1_translate::V1Terms;
+use v2_sessions::{Acting, SessionEnd, begin};
 
 /// The worker whose session is tried.
 

@@ -7,12 +7,12 @@ use Rattle.pool_network.specs.Seen.{LinkSeen}
 use Rattle.link_turns.specs.declared.waiting.Limit.TheVariants as limit
 use Rattle.link_turns.specs.declared.waiting.Waiting.{Waiting}
 use Rattle.link_turns.specs.Waits.{TakesOf, waiting_after}
-use Rattle.line_reader.specs.Holding.{HoldsLongLine, IsHeldLine}
-use Rattle.line_reader.specs.Lines.{IsLineText}
+use Rattle.v1_lines.specs.Holding.{HoldsLongLine, IsHeldLine}
+use Rattle.v1_lines.specs.Lines.{IsLineText}
 use Rattle.session_steps.specs.declared.ends.SessionEnd.{SessionEnd}
 use Rattle.session_steps.specs.declared.ends.SessionEnd.TheVariants as end
 use Rattle.session_steps.specs.States.{input_end}
-use Rattle.session_loop.specs.Standing.{GoesOnOrEnds, Intake}
+use Rattle.v2_sessions.specs.Standing.{GoesOnOrEnds, Intake}
 use Rattle.line_turns.specs.declared.hearing.Lines.{Lines}
 use Rattle.line_turns.specs.Hearing.{CanTakeTurn, GoesOnOr, Hearing, HearsIdle, HearsLine, HearsLines, HearsOn, HearsToEnd, after_idle, intake_at, with_bytes}
 use Rattle.line_turns.specs.Listening.{HearsHeld, HearsIdleOf, IsListening, intake_of}

@@ -4,12 +4,12 @@ use Rattle.pool_io.specs.declared.source.Took.TheVariants as took
 use Rattle.pool_network.specs.Seen.{LinkSeen}
 use Rattle.link_turns.specs.declared.waiting.Waiting.{Waiting}
 use Rattle.link_turns.specs.Waits.{TakesOf}
-use Rattle.line_reader.specs.Holding.{HoldsLongLine}
-use Rattle.line_reader.specs.Lines.{IsLineText}
+use Rattle.v1_lines.specs.Holding.{HoldsLongLine}
+use Rattle.v1_lines.specs.Lines.{IsLineText}
 use Rattle.session_steps.specs.declared.ends.SessionEnd.{SessionEnd}
 use Rattle.session_steps.specs.declared.ends.SessionEnd.TheVariants as end
 use Rattle.session_steps.specs.States.{input_end}
-use Rattle.session_loop.specs.Standing.{Intake}
+use Rattle.v2_sessions.specs.Standing.{Intake}
 
 -- what is waited for and isn't heard yet, who hears it, and the link
 pub record Hearing (T : Type 0) : Type 0 where

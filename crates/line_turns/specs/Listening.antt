@@ -3,9 +3,9 @@ use Rattle.std.specs.Prelude.{◌≡◌, ℕ, ◌<◌, Result, List, ◌++◌}
 use Rattle.pool_io.specs.declared.source.Took.TheVariants as took
 use Rattle.pool_network.specs.Seen.{LinkSeen}
 use Rattle.link_turns.specs.Waits.{IsBelowLimits, TakesOf}
-use Rattle.line_reader.specs.Lines.{IsLineText}
+use Rattle.v1_lines.specs.Lines.{IsLineText}
 use Rattle.session_steps.specs.declared.ends.SessionEnd.{SessionEnd}
-use Rattle.session_loop.specs.Standing.{Intake}
+use Rattle.v2_sessions.specs.Standing.{Intake}
 use Rattle.line_turns.specs.declared.hearing.Lines.{Lines}
 use Rattle.line_turns.specs.Hearing.{CanTakeTurn, Hearing, HearsOn, intake_at, with_idle}
 

@@ -3,18 +3,17 @@
 ghost use Rattle.std.specs.Prelude.{◌≡◌, ◌<◌, ◌≤◌, ◌++◌, length, OnOk};
 ghost use Rattle.link_turns.specs.Waits.{turns_left};
 ghost use Rattle.session_steps.specs.States as states;
-ghost use Rattle.line_reader.specs.Lines.{IsLineText};
+ghost use Rattle.v1_lines.specs.Lines.{IsLineText};
 ghost use Rattle.line_turns.specs.Hearing.{HearsToEnd, intake_at};
 
 use crate::talker::LineTalker;
-use line_reader::{LineReader, LineTooLong};
 use link_turns::Waiting;
-use pool_io::Took;
+use pool_io::{PIECE_LEN, Took};
 use pool_network::Link;
-use session_loop::{input_end, keep_limits};
 use session_steps::SessionEnd;
 use std::alloc::Global;
-use stream_commands::PIECE_LEN;
+use v1_lines::{LineReader, LineTooLong};
+use v2_sessions::{input_end, keep_limits};
 
 /// What came of a line that isn't whole, and what is still waited for.
 #[derive(Drop)]

@@ -12,7 +12,7 @@ use Rattle.link_turns.specs.declared.waiting.Waiting.{Waiting}
 use Rattle.link_turns.specs.Waits.{IsLimitOf, TakesOf, waiting_after}
 use Rattle.session_steps.specs.declared.ends.SessionEnd.{SessionEnd}
 use Rattle.session_steps.specs.declared.ends.SessionEnd.TheVariants as end
-use Rattle.session_loop.specs.Standing.{GoesOnOrEnds, end_at_limit}
+use Rattle.v2_sessions.specs.Standing.{GoesOnOrEnds, end_at_limit}
 
 -- what is still waited for, who hears, and the link
 pub record Hearing (H : Type 0) : Type 0 where

@@ -6,11 +6,10 @@ ghost use Rattle.link_hearing.specs.Hearing.{HearsAll, IsKept, TakesTurnOrEnds, 
 
 use crate::hearer::TurnHearer;
 use link_turns::Waiting;
-use pool_io::Took;
+use pool_io::{PIECE_LEN, Took};
 use pool_network::Link;
-use session_loop::keep_limits;
 use session_steps::SessionEnd;
-use stream_commands::PIECE_LEN;
+use v2_sessions::keep_limits;
 
 /// Goes on with what was heard, unless it is over or a limit is reached.
 fn keep(heard: Result<(), SessionEnd>, waiting: &Waiting) -> Result<(), SessionEnd>

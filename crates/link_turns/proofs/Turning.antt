@@ -11,7 +11,7 @@ use Rattle.pool_io.specs.Outside.{AddsBytes, TakesTurn}
 use Rattle.pool_io.specs.Steps.{Bounds, IsFreeBefore, bytes_in}
 use Rattle.pool_io.proofs.Stepping.{bytes_in-idle, bytes_in-more, free_bytes, free_idle, idles_after-idle, idles_after-more, within_limits}
 use Rattle.pool_network.specs.Seen.{LinkSeen}
-use Rattle.stream_commands.proofs.Puts.{Adds-more}
+use Rattle.pool_io.proofs.Puts.{Adds-more}
 use Rattle.link_turns.specs.declared.talking.TalkEnd.{TalkEnd}
 use Rattle.link_turns.specs.declared.talking.TalkEnd.TheVariants as end
 use Rattle.link_turns.specs.declared.waiting.Waiting.{Waiting}

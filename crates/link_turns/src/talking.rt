@@ -10,10 +10,9 @@ ghost use Rattle.link_turns.specs.Waits.{IsBelowLimits, IsLimitOf, turns_left};
 
 use crate::partner::Partner;
 use crate::waiting::{Limit, Waiting};
-use pool_io::{SinkFailed, Took};
+use pool_io::{PIECE_LEN, SinkFailed, Took};
 use pool_network::{Link, put_whole};
 use std::alloc::Global;
-use stream_commands::PIECE_LEN;
 
 /// How a talk ended.
 #[derive(Drop)]

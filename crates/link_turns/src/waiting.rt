@@ -3,9 +3,8 @@
 ghost use Rattle.std.specs.Prelude.{◌≡◌, ◌<◌, length};
 ghost use Rattle.pool_io.specs.Outside.{IsWithinRoom};
 
-use pool_io::Took;
+use pool_io::{MOST_BYTES, Took};
 use pool_network::Link;
-use stream_commands::MOST_BYTES;
 
 /// What was waited for too long, or came too often.
 #[derive(Clone, Copy)]

@@ -16,15 +16,15 @@ use Rattle.sv2_messages.proofs.Answering.{read_back}
 use Rattle.sv2_messages.proofs.Defects.{fields_at-spelled}
 use Rattle.session_steps.specs.Meeting.{Brings, table_for}
 use Rattle.session_steps.specs.Setups.{setup_in}
-use Rattle.session_loop.specs.Good.{AreGood, IsGoodInput, IsGoodSetup, IsIgnoredOrMessage, IsWithinLimit, talk_of}
+use Rattle.v2_sessions.specs.Good.{AreGood, IsGoodInput, IsGoodSetup, IsIgnoredOrMessage, IsWithinLimit, talk_of}
 use Rattle.pool_io.proofs.Stepping.{bytes_in-map}
 use Rattle.pool_io.specs.declared.turn.Turn.TheVariants as turn
 use Rattle.pool_io.specs.Steps.{IsAtLimit, IsFree, ReadStep, bytes_in, idles_after, steps_of}
-use Rattle.session_limits.specs.Ends.{session_bounds}
-use Rattle.solo_session.specs.Solo.{solo_manner}
+use Rattle.v2_sessions.specs.Ends.{session_bounds}
+use Rattle.pool_sessions.specs.Solo.{solo_manner}
 use Rattle.load_command.specs.Loads.{load_idle_turns, load_rules}
-use Rattle.load_frames.specs.Frames.{is_job_step, job_frames, load_frames, news_frames, opening_message, openings_frames, random_at, setup_frame, setup_message, share_message, step_frames, steps_frames, template_message, templates_at, tip_message, user_name}
-use Rattle.load_frames.proofs.Fitting.{opening_fits, share_fits, template_fits, tip_fits}
+use Rattle.load_command.specs.Frames.{is_job_step, job_frames, load_frames, news_frames, opening_message, openings_frames, random_at, setup_frame, setup_message, share_message, step_frames, steps_frames, template_message, templates_at, tip_message, user_name}
+use Rattle.load_command.proofs.Fitting.{opening_fits, share_fits, template_fits, tip_fits}
 use Rattle.mining_msgs.proofs.PlainSetups.{plain_setup_fits}
 
 -- a message's frame

@@ -1,3 +1,5 @@
+pub mod Fitting
+pub mod Steps
 pub mod Counted
 pub mod Good
 pub mod Loaded

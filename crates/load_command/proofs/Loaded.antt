@@ -9,10 +9,10 @@ use Rattle.pool_history.specs.Sessions.{past_of}
 use Rattle.pool_history.specs.Summary.{summary_of, summary_text}
 use Rattle.session_steps.specs.declared.ends.SessionEnd.{SessionEnd}
 use Rattle.session_steps.specs.declared.ends.SessionEnd.TheVariants as end
-use Rattle.load_frames.specs.Frames.{load_frames}
-use Rattle.session_limits.specs.Ends.{IsWellEnded}
-use Rattle.solo_session.specs.declared.serving.SoloEnd.TheVariants as solo
-use Rattle.solo_session.specs.Solo.{IsSoloSession, Outsides, ServesGoodInput}
+use Rattle.load_command.specs.Frames.{load_frames}
+use Rattle.v2_sessions.specs.Ends.{IsWellEnded}
+use Rattle.pool_sessions.specs.declared.alone.SoloEnd.TheVariants as solo
+use Rattle.pool_sessions.specs.Solo.{IsSoloSession, Outsides, ServesGoodInput}
 use Rattle.load_command.specs.Loads.{IsLoadText, counts_text, load_idle_turns, load_rules, load_text}
 use Rattle.load_command.proofs.Good.{free_load, good_load}
 

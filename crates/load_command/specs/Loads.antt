@@ -8,8 +8,8 @@ use Rattle.pool_history.specs.declared.settings.Rules.{Rules}
 use Rattle.pool_history.specs.Sessions.{past_of}
 use Rattle.pool_history.specs.Summary.{line, summary_of, summary_text}
 use Rattle.session_steps.specs.declared.ends.SessionEnd.TheVariants as end
-use Rattle.load_frames.specs.Frames.{load_frames}
-use Rattle.solo_session.specs.Solo.{IsSoloSession, Outsides}
+use Rattle.load_command.specs.Frames.{load_frames}
+use Rattle.pool_sessions.specs.Solo.{IsSoloSession, Outsides}
 
 -- the script is OP_TRUE, no class is too easy, two percent stay with the pool, the rule is PPLNS with
 -- a window of 1,000, miners may roll the version, and each account is known

@@ -4,21 +4,21 @@ ghost use Rattle.std.specs.Prelude.{◌≡◌, ◌++◌, ◌∷◌, [], IfOk, Is
 ghost use Rattle.pool_io.specs.declared.turn.Turn.TheVariants as turn;
 ghost use Rattle.pool_history.specs.declared.events.Event.TheVariants as event;
 ghost use Rattle.pool_history.specs.Accounts.{are_in_range};
-ghost use Rattle.load_frames.specs.Frames as frames;
+ghost use Rattle.load_command.specs.Frames as frames;
 ghost use Rattle.load_command.specs.Loads.{IsLoadText};
 ghost use Rattle.load_command.specs.Loads as loads;
 
 use crate::counting::count_credits;
+use crate::{STEPS, put_load};
 use event_store::History;
-use load_frames::{STEPS, put_load};
-use pool_core::SessionEnd;
+use payouts::put_line;
 use pool_history::{Rules, Users};
 use pool_io::{Limits, Piece, SureKeeper, SureSink, SureSource, Turn};
-use pool_summary::put_line;
+use pool_sessions::{ServedBook, serve_book};
 use share_ledger::Book;
-use solo_session::{ServedBook, serve_book};
 use std::alloc::{AllocError, Global};
 use sv2_types::Blob;
+use v2_sessions::SessionEnd;
 
 /// The input is all there, so that nothing is waited for.
 const LIMITS: Limits = Limits {

@@ -11,3 +11,4 @@ pub mod Tallied
 pub mod Told
 pub mod Totalled
 pub mod Weighed
+pub mod Summed

@@ -7,3 +7,4 @@ pub mod Tallies
 pub mod Totals
 pub mod Weights
 pub mod Window
+pub mod SummaryTotals

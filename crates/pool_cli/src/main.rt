@@ -6,7 +6,7 @@ ghost use Rattle.std.specs.Prelude.{◌≡◌, IfOk, map, drop, string_bytes};
 ghost use Rattle.std.specs.Vec.Iter.{into_iter_items};
 
 use command_line::{Word, run};
-use disk_io::Disks;
+use ledger_disk::Disks;
 use pool_io::Host;
 use pool_network::{Door, Network};
 use real_edge::{FileDisks, StreamHost, TcpNetwork};

@@ -7,12 +7,14 @@ pub mod Codes
 pub mod Conditions
 pub mod Crediting
 pub mod Headers
+pub mod JobRefusals
 pub mod Jobs
 pub mod Judging
 pub mod Leads
 pub mod Ledger
 pub mod Legal
 pub mod News
+pub mod OwnedFields
 pub mod Refusing
 pub mod Sessions
 pub mod Settling

@@ -2,10 +2,12 @@
 //! crates above keep the history, and answer by these definitions.
 #![tactic(auto)]
 
+mod accounts;
 mod asking;
 mod boxed;
 mod causes;
 mod codes;
+mod coinbases;
 mod events;
 mod laws;
 mod leads;
@@ -18,9 +20,11 @@ mod spans;
 mod telling;
 mod templates;
 
+pub use accounts::{account_in, is_known_account};
 pub use asking::{OpenAsk, Request};
 pub use boxed::Boxed;
 pub use causes::Cause;
+pub use coinbases::template_coinbase;
 pub use events::{Event, JobState, Kind, Role};
 pub use laws::{classes_by_places, jobs_by_places, states_by_places};
 pub use leads::Lead;

@@ -25,3 +25,9 @@ pub use shelf::Shelf;
 pub use sink::{Sink, SinkFailed};
 pub use source::{Source, Took};
 pub use turn::{Piece, Turn};
+
+/// The most bytes that are taken.
+pub const MOST_BYTES: u64 = 1 << 40;
+
+/// The most bytes that are taken at once.
+pub const PIECE_LEN: usize = 4096;

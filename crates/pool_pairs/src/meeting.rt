@@ -6,7 +6,6 @@ use crate::counted_link::CountedLink;
 use crate::pair_link::{PairLink, pair};
 use anyhow::{Context, Result};
 use link_turns::{TalkEnd, talk};
-use pool_core::SessionEnd;
 use pool_io::{Keeper, Limits, SureKeeper};
 use pool_network::{Arrival, Door, Link, MemDoor};
 use pool_server::{Served, serve};
@@ -20,6 +19,7 @@ use sv2_types::Str255;
 use test_miner::{Feed, FeedEnd, Miner, MinerEnd, MinerTask, Script};
 use trial_support::example_rules;
 use v1_translate::V1Terms;
+use v2_sessions::SessionEnd;
 
 /// How many turns in a row may bring nothing: so many that only who is waited for in vain gets there.
 pub(crate) const IDLE_TURNS: u64 = 10_000_000;

@@ -3,7 +3,7 @@ use Rattle.std.proofs.Common.{◌≡◌, ℕ, ◌+◌, ◌-◌, ◌^◌, ◌≤�
 use Rattle.std.specs.Prelude.{if◌then◌else◌}
 use Rattle.pool_io.specs.Outside.{next_count}
 use Rattle.pool_history.specs.Calls.{PoolCall, has_keeper_failed}
-use Rattle.session_workers.specs.Calling.{faults_after, faults_through}
+use Rattle.pool_server.specs.Calling.{faults_after, faults_through}
 use Rattle.pool_server.specs.Counting.{capped, count_if, faulted_in}
 
 count_one_more : (b : Bool) (n rest : ℕ) → n ≤ 2 ^ 64 - 1

@@ -4,8 +4,8 @@ use denote.RattleType.{RattleType}
 use denote.Param.Send.{IsSend, sendable}
 use denote.Param.SendFields.{declared_send}
 use Rattle.std.proofs.Crossing.{crosses}
-use Rattle.thread_parts.specs.contracts.parts.ThreadPart as ThreadPart
-use Rattle.thread_parts.specs.contracts.parts.ThreadTask as ThreadTask
+use Rattle.door_threads.specs.contracts.parts.ThreadPart as ThreadPart
+use Rattle.door_threads.specs.contracts.parts.ThreadTask as ThreadTask
 
 task_send : (D L : RattleType) → IsSend D → IsSend L → IsSend (ThreadTask.the_row D L)
 task_send D L d l = search (sendable, crosses) depth 40

@@ -6,24 +6,24 @@ use Rattle.atomic_table.specs.Seated.{TableId}
 use Rattle.desk.specs.Closing.{calls_of}
 use Rattle.desk.specs.Passes.{fresh_passes}
 use Rattle.desk.specs.Views.{workers_from}
-use Rattle.desk_threads.specs.Parts.{TendsEach}
+use Rattle.desk.specs.Parts.{TendsEach}
 use Rattle.pool_network.specs.Seen.{DoorSeen}
 use Rattle.pool_history.specs.declared.events.Event.{Event}
 use Rattle.pool_history.specs.declared.events.Role.TheVariants as role
 use Rattle.pool_history.specs.Calls.{PoolCall}
-use Rattle.link_session.specs.Courses.{Course, calls_on}
-use Rattle.session_workers.specs.Calling.{PoolPass}
-use Rattle.session_workers.specs.Visits.{Asking, IsVisit, ServesLink}
-use Rattle.session_workers.specs.Shifts.{IsWorked, Shift, calls_at}
-use Rattle.thread_parts.specs.declared.parts.ThreadPart.{ThreadPart}
-use Rattle.thread_parts.specs.declared.parts.ThreadTask.{ThreadTask}
-use Rattle.thread_parts.specs.declared.parts.ThreadTask.TheVariants as task
+use Rattle.pool_sessions.specs.Courses.{Course, calls_on}
+use Rattle.pool_server.specs.Calling.{PoolPass}
+use Rattle.pool_server.specs.Visits.{Asking, IsVisit, ServesLink}
+use Rattle.pool_server.specs.Shifts.{IsWorked, Shift, calls_at}
+use Rattle.door_threads.specs.declared.parts.ThreadPart.{ThreadPart}
+use Rattle.door_threads.specs.declared.parts.ThreadTask.{ThreadTask}
+use Rattle.door_threads.specs.declared.parts.ThreadTask.TheVariants as task
 use Rattle.pool_server.specs.Counting.{capped, faulted_in}
-use Rattle.thread_parts.specs.Listing.{DoorRow, LinkRow, HasDoneTasks, door_part, door_row_part, faults_in, link_part, link_row_part, parts_of, rows_of}
+use Rattle.door_threads.specs.Listing.{DoorRow, LinkRow, HasDoneTasks, door_part, door_row_part, faults_in, link_part, link_row_part, parts_of, rows_of}
 use Rattle.pool_server.specs.Parts.{DoesTask, IsAttended, Seeing, manner_of}
 use Rattle.pool_server.specs.Serving.{AreShifts, NumbersRise}
 use Rattle.pool_server.specs.Tending.{all_calls, calls_of_shifts}
-use Rattle.thread_parts.proofs.Counts.{capped_sum}
+use Rattle.door_threads.proofs.Counts.{capped_sum}
 use Rattle.pool_server.proofs.Counts.{faulted_both, through_zero}
 
 -- a pass that was just dealt

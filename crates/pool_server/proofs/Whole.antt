@@ -5,23 +5,23 @@ use Rattle.pool_base.specs.Calls.{Parted}
 use Rattle.desk.specs.Machines.{Telling}
 use Rattle.desk.specs.Passes.{HasJustOpened, IsSamePass, Opening, fresh_passes}
 use Rattle.desk.specs.Views.{workers_from}
-use Rattle.desk_threads.specs.Parts.{HasTended}
+use Rattle.desk.specs.Parts.{HasTended}
 use Rattle.pool_history.specs.declared.events.Event.{Event}
 use Rattle.pool_history.specs.Answering.{Answer}
 use Rattle.pool_history.specs.Calls.{GoodPoolCalls, PoolCall, wants_memory}
-use Rattle.ledger_laws.specs.Keeping.{IsKept}
+use Rattle.ledger_records.specs.Keeping.{IsKept}
 use Rattle.share_ledger.specs.Books.{BookSeen, KeepsInstead, KeepsLedger, health_of}
-use Rattle.session_workers.specs.Calling.{PoolPass}
-use Rattle.session_workers.specs.Visits.{Asking}
-use Rattle.thread_parts.specs.declared.listing.Tended.{Tended}
-use Rattle.thread_parts.specs.declared.parts.ThreadPart.{ThreadPart}
-use Rattle.thread_parts.specs.declared.parts.ThreadTask.{ThreadTask}
-use Rattle.thread_parts.specs.declared.parts.ThreadTask.TheVariants as task
-use Rattle.pool_server.specs.declared.serving.Served.{Served}
-use Rattle.pool_server.specs.declared.serving.Served.TheVariants as served
+use Rattle.pool_server.specs.Calling.{PoolPass}
+use Rattle.pool_server.specs.Visits.{Asking}
+use Rattle.door_threads.specs.declared.listing.Tended.{Tended}
+use Rattle.door_threads.specs.declared.parts.ThreadPart.{ThreadPart}
+use Rattle.door_threads.specs.declared.parts.ThreadTask.{ThreadTask}
+use Rattle.door_threads.specs.declared.parts.ThreadTask.TheVariants as task
+use Rattle.pool_server.specs.declared.doors.Served.{Served}
+use Rattle.pool_server.specs.declared.doors.Served.TheVariants as served
 use Rattle.pool_server.specs.Counting.{capped, failed_in, starved_in}
 use Rattle.pool_server.specs.Ending.{HasServed, IsFinished}
-use Rattle.thread_parts.specs.Listing.{HasDoneTasks, IsUnlisted, parts_of}
+use Rattle.door_threads.specs.Listing.{HasDoneTasks, IsUnlisted, parts_of}
 use Rattle.pool_server.specs.Parts.{DoesTask, IsAttended, Seeing, asking_of}
 use Rattle.pool_server.specs.Serving.{HasRun}
 use Rattle.pool_server.proofs.Rows.{AllDone, all_done, done_long, whole}

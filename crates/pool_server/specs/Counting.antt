@@ -1,7 +1,7 @@
 -- How calls are counted that the keeper's fault answered (this project's own).
 use Rattle.std.specs.Prelude.{ℕ, ◌+◌, List, [], ◌∷◌}
 use Rattle.pool_history.specs.Calls.{PoolCall, has_keeper_failed}
-pub use Rattle.thread_parts.specs.Counting.{capped, count_if, failed_in, is_starved_end, starved_in}
+pub use Rattle.door_threads.specs.Counting.{capped, count_if, failed_in, is_starved_end, starved_in}
 
 -- the calls that the keeper's fault answered
 abbrev pub faulted_in : List PoolCall → ℕ

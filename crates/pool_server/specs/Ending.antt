@@ -1,11 +1,11 @@
 -- How serving ends (this project's own).
 use Rattle.std.specs.Prelude.{◌≡◌, map}
 use Rattle.std.specs.Global.{Vec}
-use Rattle.ledger_laws.specs.Keeping.{IsKept}
+use Rattle.ledger_records.specs.Keeping.{IsKept}
 use Rattle.share_ledger.specs.Books.{BookSeen, KeepsLedger}
-use Rattle.thread_parts.specs.declared.listing.Tended.{Tended}
-use Rattle.pool_server.specs.declared.serving.Served.{Served}
-use Rattle.pool_server.specs.declared.serving.Served.TheVariants as served
+use Rattle.door_threads.specs.declared.listing.Tended.{Tended}
+use Rattle.pool_server.specs.declared.doors.Served.{Served}
+use Rattle.pool_server.specs.declared.doors.Served.TheVariants as served
 use Rattle.pool_server.specs.Parts.{Seeing}
 use Rattle.pool_server.specs.Serving.{HasRun}
 

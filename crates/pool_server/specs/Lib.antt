@@ -1,3 +1,6 @@
+pub mod Calling
+pub mod Shifts
+pub mod Visits
 pub mod Counting
 pub mod Parts
 pub mod Tending

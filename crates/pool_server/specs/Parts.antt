@@ -6,14 +6,14 @@ use Rattle.pool_history.specs.declared.events.Role.{Role}
 use Rattle.pool_history.specs.declared.events.Role.TheVariants as role
 use Rattle.session_steps.specs.declared.ends.SessionEnd.{SessionEnd}
 use Rattle.session_steps.specs.declared.manner.Manner.{Manner}
-use Rattle.v1_rules.specs.State.{Terms}
-use Rattle.session_workers.specs.Calling.{PoolPass}
-use Rattle.session_workers.specs.Visits.{Asking, ServesLink}
-use Rattle.door_workers.specs.declared.working.DoorEnd.{DoorEnd}
-use Rattle.session_workers.specs.Shifts.{IsWorked}
-use Rattle.thread_parts.specs.declared.parts.ThreadPart.{ThreadPart}
-use Rattle.thread_parts.specs.declared.parts.ThreadTask.{ThreadTask}
-use Rattle.thread_parts.specs.declared.parts.ThreadTask.TheVariants as task
+use Rattle.v1_translate.specs.State.{Terms}
+use Rattle.pool_server.specs.Calling.{PoolPass}
+use Rattle.pool_server.specs.Visits.{Asking, ServesLink}
+use Rattle.door_threads.specs.declared.working.DoorEnd.{DoorEnd}
+use Rattle.pool_server.specs.Shifts.{IsWorked}
+use Rattle.door_threads.specs.declared.parts.ThreadPart.{ThreadPart}
+use Rattle.door_threads.specs.declared.parts.ThreadTask.{ThreadTask}
+use Rattle.door_threads.specs.declared.parts.ThreadTask.TheVariants as task
 
 -- the rules, with the class whose difficulty is shown as 1 to miners of Stratum V1, and after how many
 -- Idle answers in a row a session ends and a door is asked no more

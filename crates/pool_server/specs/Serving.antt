@@ -6,13 +6,13 @@ use Rattle.pool_base.specs.Calls.{Parted, RiseFrom}
 use Rattle.pool_network.specs.Seen.{DoorSeen, LinkSeen}
 use Rattle.pool_history.specs.declared.events.Role.TheVariants as role
 use Rattle.pool_history.specs.Calls.{GoodPoolCalls, PoolCall}
-use Rattle.ledger_laws.specs.Keeping.{IsKept}
+use Rattle.ledger_records.specs.Keeping.{IsKept}
 use Rattle.share_ledger.specs.Books.{BookSeen, KeepsInstead}
 use Rattle.share_ledger.specs.Recovery.{KeepsBeginning}
 use Rattle.session_steps.specs.declared.ends.SessionEnd.{SessionEnd}
-use Rattle.link_session.specs.Courses.{Course, calls_on}
-use Rattle.session_workers.specs.Visits.{IsVisit}
-use Rattle.session_workers.specs.Shifts.{IsShift, Shift, calls_at}
+use Rattle.pool_sessions.specs.Courses.{Course, calls_on}
+use Rattle.pool_server.specs.Visits.{IsVisit}
+use Rattle.pool_server.specs.Shifts.{IsShift, Shift, calls_at}
 use Rattle.pool_server.specs.Counting.{capped, failed_in, faulted_in, starved_in}
 use Rattle.pool_server.specs.Parts.{Service, manner_of}
 use Rattle.pool_server.specs.Tending.{all_calls}

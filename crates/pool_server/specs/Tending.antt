@@ -1,8 +1,8 @@
 -- The calls of a feed's session and of shifts at doors (this project's own).
 use Rattle.std.specs.Prelude.{List, [], ◌∷◌, ◌++◌}
 use Rattle.pool_history.specs.Calls.{PoolCall}
-use Rattle.link_session.specs.Courses.{Course, calls_on}
-use Rattle.session_workers.specs.Shifts.{Shift, calls_at}
+use Rattle.pool_sessions.specs.Courses.{Course, calls_on}
+use Rattle.pool_server.specs.Shifts.{Shift, calls_at}
 
 -- the calls of all shifts, and with those of the feed's session
 abbrev pub calls_of_shifts : List Shift → List PoolCall

@@ -4,17 +4,16 @@ ghost use Rattle.std.specs.Prelude.{◌≡◌, ◌<◌};
 ghost use Rattle.pool_server.specs.Parts as manners;
 ghost use Rattle.pool_server.specs.Parts.{IsAttended, seeing_of, service_of};
 
-use desk::{Desk, Pass};
-use desk_threads::Tending;
+use crate::{DeskWorker, serve_link, work};
+use desk::{Desk, Pass, Tending};
+use door_threads::{ThreadPart, ThreadTask};
 use pool_history::Role;
 use pool_io::{Keeper, Limits};
 use pool_network::Door;
 use session_steps::Manner;
-use session_workers::{DeskWorker, serve_link, work};
 use share_ledger::Book;
 use std::alloc::Global;
 use std::sync::Wait;
-use thread_parts::{ThreadPart, ThreadTask};
 use v1_translate::V1Terms;
 
 /// What all threads share: how sessions are held.

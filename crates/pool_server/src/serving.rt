@@ -1,145 +1,44 @@
-//! All sessions on one book, from its desk's opening to its closing.
+//! The session, from its greeting to its leaving.
 
-ghost use Rattle.std.specs.Prelude.{◌≡◌, ◌<◌, ◌-◌, ◌+◌, ◌≤◌, ◌^◌, [], vec_len};
-ghost use Rattle.std.specs.Vec.{vec_capacity};
-ghost use Rattle.desk.specs.Passes.{HasJustOpened};
-ghost use Rattle.share_ledger.specs.Books.{BookSeen};
-ghost use Rattle.pool_server.specs.Ending.{HasServed, IsFinished};
-ghost use Rattle.pool_server.specs.Parts.{seeing_of, service_of};
+ghost use Rattle.std.specs.Prelude.{◌≡◌, ◌<◌, List, Some};
+ghost use Rattle.pool_io.specs.declared.turn.Turn.{Turn};
+ghost use Rattle.v2_sessions.specs.Good.{IsGoodEnd};
+ghost use Rattle.pool_sessions.specs.Courses.{IsGoodSpeech};
+ghost use Rattle.pool_server.specs.Visits.{ServesLink};
 
-use crate::parts::Attending;
-use desk::{Desk, Pass};
-use desk_threads::tend_all;
-use pool_core::SessionEnd;
-use pool_io::{Keeper, Limits};
-use pool_network::Door;
-use share_ledger::Book;
+use crate::{DeskWorker, desk_calls_go_on};
+use pool_io::Keeper;
+use pool_network::Link;
+use pool_sessions::serve_session;
+use session_steps::Manner;
 use std::alloc::Global;
 use std::sync::Wait;
-use std::thread::Threads;
-use thread_parts::{Tended, ThreadPart, list, unlist};
 use v1_translate::V1Terms;
+use v2_sessions::SessionEnd;
 
-/// What is left of a book, its doors and a feed's link.
-pub enum Served<K: Keeper, D: Door> {
-    /// All were served.
-    Ran {
-        book: Book<K>,
-        /// The doors, in their order.
-        doors: Vec<D>,
-        feed: D::L,
-        feed_end: SessionEnd,
-        /// How many calls the keeper's fault answered, how many doors failed, and how many had no
-        /// memory for a caller. Each stays at 2^64 - 1 once it is there.
-        ledger_faults: u64,
-        door_faults: u64,
-        door_memory: u64,
-    },
-    /// There was no memory, and nothing was called.
-    Memory(Book<K>, Vec<D>, D::L),
-}
-
-/// Serves a feed's link and the callers of all doors at once, on one book, until the feed's session
-/// is over and no door is asked any more. Each door has a thread, and so has the feed; where no
-/// thread can be made, they are served one after the other.
-pub fn serve<R: Threads + Wait + Sync, K: Keeper + Send, D: Door + Send>(
-    rt: &R,
+/// Serves one session over a link, in the language that its first byte tells, by calls of one pass at
+/// its desk, up to its end, leaves, and hangs up.
+pub fn serve_link<R: Wait, K: Keeper, L: Link>(
     alloc: Global,
-    book: Book<K>,
-    doors: Vec<D>,
-    feed: D::L,
+    asker: &mut DeskWorker<'_, R, K>,
+    link: &mut L,
+    manner: Manner,
     terms: &V1Terms,
-    limits: Limits,
-) -> Served<K, D>
-where
-    D::L: Send,
-    requires few { vec_len doors < 2 ^ 32 - 1 }
-    requires waits { (0 < limits.idle_turns) × (0 < limits.door_turns) }
-    ensures { HasServed (seeing_of D.seen D.L.seen (service_of terms.now limits))
-        book doors feed result }
-{
-    let Ok(parts) = Vec::with_capacity(alloc, doors.len() + 1) else {
-        return Served::Memory(book, doors, feed);
-    };
-    let Ok(pairs) = Vec::with_capacity(alloc, doors.len() + 1) else {
-        parts.destroy_empty();
-        return Served::Memory(book, doors, feed);
-    };
-    let count = doors.len() as u32 + 1;
-    match Desk::new(alloc, book, count) {
-        Ok((desk, passes)) => {
-            let room = Room { parts, pairs };
-            let work = Attending {
-                alloc,
-                terms,
-                limits,
-            };
-            run(rt, &work, desk, passes, doors, feed, room)
-        }
-        Err((book, _)) => {
-            parts.destroy_empty();
-            pairs.destroy_empty();
-            Served::Memory(book, doors, feed)
-        }
-    }
-}
+) -> SessionEnd
+    requires desk { asker.old.pass.now.table ≡ asker.old.desk.now.table }
+    requires waits { 0 < manner.idle_turns }
+    ensures desk { asker.new.pass.now.table ≡ asker.new.desk.now.table }
+    ensures pass { asker.new.pass.ghost_name ≡ asker.old.pass.ghost_name }
+    ensures served { ServesLink terms.now manner (L.seen link.old) (L.seen link.new)
+        (record { pass = asker.old.pass.now; faults = asker.old.faults })
+        (record { pass = asker.new.pass.now; faults = asker.new.faults }) result }
 
-/// Room for all parts, and for each with its pass.
-struct Room<D, L, K: Keeper> {
-    parts: Vec<ThreadPart<D, L>>,
-    pairs: Vec<(ThreadPart<D, L>, Pass<Book<K>>)>,
-}
-
-/// Serves the feed's link with the first pass and each door with a later one, all at once, and closes
-/// the desk.
-fn run<R: Threads + Wait + Sync, K: Keeper + Send, D: Door + Send>(
-    rt: &R,
-    work: &Attending<'_>,
-    desk: Desk<Book<K>>,
-    passes: Vec<Pass<Book<K>>>,
-    mut doors: Vec<D>,
-    feed: D::L,
-    room: Room<D, D::L, K>,
-) -> Served<K, D>
-where
-    D::L: Send,
-    requires opened { HasJustOpened (λ (seen : BookSeen). seen.events) desk.start desk.count desk
-        passes.items }
-    requires as_many { vec_len doors + 1 ≡ desk.count }
-    requires waits { (0 < work.now.limits.idle_turns) × (0 < work.now.limits.door_turns) }
-    requires empty { (room.parts.items ≡ []) × (room.pairs.items ≡ []) }
-    requires room { (vec_len doors + 1 ≤ vec_capacity room.parts)
-        × (vec_len doors + 1 ≤ vec_capacity room.pairs) }
-    ensures { HasServed (seeing_of D.seen D.L.seen (service_of work.now.terms.now work.now.limits))
-        desk.start doors feed result }
+    // Input that is to blame for nothing isn't blamed.
+    ensures good { (told : List Turn) → (L.seen link.old).source.left ≡ Some told
+        → IsGoodSpeech manner told → IsGoodEnd result }
 {
-    let Room { mut parts, pairs } = room;
-    list(&mut doors, feed, &mut parts);
-    let (book, parts) = tend_all(rt, desk, passes, parts, pairs, work);
-    let tended = unlist(parts, doors);
-    finish(book, tended)
-}
-
-/// Says what is left of a book that a desk gave, and of what came back.
-fn finish<K: Keeper, D: Door>(book: Book<K>, tended: Tended<D, D::L>) -> Served<K, D>
-    ensures { IsFinished book tended result }
-{
-    let Tended {
-        doors,
-        link,
-        link_end,
-        faults,
-        door_faults,
-        door_memory,
-    } = tended;
-    book.history_is_kept();
-    Served::Ran {
-        book,
-        doors,
-        feed: link,
-        feed_end: link_end,
-        ledger_faults: faults,
-        door_faults,
-        door_memory,
-    }
+    desk_calls_go_on();
+    let end = serve_session(alloc, link, asker, manner, terms);
+    link.hang_up();
+    end
 }

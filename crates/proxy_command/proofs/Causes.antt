@@ -8,16 +8,16 @@ use Rattle.pool_io.specs.declared.host.HostError.{HostError}
 use Rattle.pool_io.specs.Outside.{CountsFailure, is_failed_gift}
 use Rattle.pool_network.specs.Seen.{LinkSeen}
 use Rattle.pool_network.specs.Worlds.{WorldSeen}
-use Rattle.network_places.specs.Failing.{HasFailedLink, SomeDoorFailed}
-use Rattle.network_places.specs.Places.{IsUnserved}
-use Rattle.network_places.proofs.Failed.{some_failed, some_if}
-use Rattle.network_places.proofs.Printed.{printed_or, refused}
-use Rattle.door_workers.specs.Asking.{is_failed_end}
+use Rattle.door_threads.specs.Failing.{HasFailedLink, SomeDoorFailed}
+use Rattle.door_threads.specs.Places.{IsUnserved}
+use Rattle.door_threads.proofs.Failed.{some_failed, some_if}
+use Rattle.door_threads.proofs.Printed.{printed_or, refused}
+use Rattle.door_threads.specs.Asking.{is_failed_end}
 use Rattle.session_steps.specs.declared.ends.SessionEnd.{SessionEnd}
 use Rattle.session_steps.specs.declared.ends.SessionEnd.TheVariants as end
 use Rattle.proxy_rules.specs.declared.events.ProxyEvent.{ProxyEvent}
-use Rattle.pool_proxy.specs.Parts.{ProxyService}
-use Rattle.pool_proxy.specs.Serving.{AreShiftsFrom, MinersShift}
+use Rattle.proxy_server.specs.Parts.{ProxyService}
+use Rattle.proxy_server.specs.ServingDoors.{AreShiftsFrom, MinersShift}
 use Rattle.stream_commands.specs.declared.status.Status.{Status}
 use Rattle.stream_commands.specs.declared.status.Status.TheVariants as status
 use Rattle.stream_commands.specs.Statuses.{status_code, status_of_refusal}

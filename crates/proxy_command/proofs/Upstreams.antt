@@ -15,13 +15,13 @@ use Rattle.link_hearing.specs.Hearing.{HearsAll, HearsEach, HearsOne, Hearing, I
 use Rattle.session_steps.specs.declared.ends.SessionEnd.{SessionEnd}
 use Rattle.session_steps.specs.declared.ends.SessionEnd.TheVariants as end
 use Rattle.session_steps.specs.States.{input_end}
-use Rattle.session_loop.specs.Standing.{end_at_limit}
+use Rattle.v2_sessions.specs.Standing.{end_at_limit}
 use Rattle.proxy_rules.specs.declared.requests.ProxyRequest.{ProxyRequest}
-use Rattle.proxy_links.specs.declared.phase.UpPhase.{UpPhase}
-use Rattle.proxy_links.specs.Calls.{ProxyCall}
-use Rattle.proxy_links.specs.Links.{EndsSo, Frames, LinkState, Stop, Overran, Broke, Refused, Lacked, Untold, Unpolled, Unput, StopsBy, is_write_over}
-use Rattle.proxy_links.specs.Serving.{LeavesAtEnd, end_unleft}
-use Rattle.proxy_links.specs.Upstreams.{HearsUpstream, ServesUpstream, UpStand}
+use Rattle.proxy_server.specs.declared.phase.UpPhase.{UpPhase}
+use Rattle.proxy_server.specs.Calls.{ProxyCall}
+use Rattle.proxy_server.specs.Links.{EndsSo, Frames, LinkState, Stop, Overran, Broke, Refused, Lacked, Untold, Unpolled, Unput, StopsBy, is_write_over}
+use Rattle.proxy_server.specs.Serving.{LeavesAtEnd, end_unleft}
+use Rattle.proxy_server.specs.Upstreams.{HearsUpstream, ServesUpstream, UpStand}
 
 -- ---- no deed ends by a failed read
 

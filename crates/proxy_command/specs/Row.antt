@@ -5,7 +5,7 @@ use Rattle.pool_io.specs.Hosts.{HostSeen}
 use Rattle.pool_io.specs.Seen.{SinkSeen}
 use Rattle.pool_network.specs.Seen.{LinkSeen}
 use Rattle.pool_network.specs.Worlds.{WorldSeen}
-use Rattle.network_places.specs.Failing.{HasFailedDoor, HasFailedItem, HasFailedLink}
+use Rattle.door_threads.specs.Failing.{HasFailedDoor, HasFailedItem, HasFailedLink}
 use Rattle.pool_history.specs.Summary.{line}
 use Rattle.proxy_rules.specs.declared.events.ProxyEvent.{ProxyEvent}
 use Rattle.proxy_rules.specs.Steps.{relay_of}

@@ -4,13 +4,13 @@ use Rattle.pool_io.specs.declared.host.HostError.{HostError}
 use Rattle.pool_io.specs.declared.host.HostError.TheVariants as host
 use Rattle.pool_network.specs.Networks.{NetworkSeen}
 use Rattle.pool_network.specs.Seen.{DoorSeen, LinkSeen}
-use Rattle.network_places.specs.Places.{GivesBoth, IsUnserved, Places}
+use Rattle.door_threads.specs.Places.{GivesBoth, IsUnserved, Places}
 use Rattle.stream_commands.specs.declared.TheConstants.{IDLE_TURNS}
 use Rattle.session_steps.specs.declared.ends.SessionEnd.{SessionEnd}
 use Rattle.proxy_rules.specs.declared.events.ProxyEvent.{ProxyEvent}
 use Rattle.proxy_rules.specs.declared.events.ProxyEvent.TheVariants as event
-use Rattle.pool_proxy.specs.Parts.{ProxyService}
-use Rattle.pool_proxy.specs.Serving.{HasRunProxy}
+use Rattle.proxy_server.specs.Parts.{ProxyService}
+use Rattle.proxy_server.specs.ServingDoors.{HasRunProxy}
 use Rattle.proxy_command.specs.declared.serving.Reached.{Reached}
 use Rattle.proxy_command.specs.declared.serving.Reached.TheVariants as reached
 

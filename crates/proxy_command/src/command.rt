@@ -9,9 +9,9 @@ ghost use Rattle.proxy_command.specs.Row.{FinishesProxy, ProxyRow, proxied_text}
 
 use crate::serving::{Reached, proxy_on_network};
 use crate::status::proxied_status;
+use payouts::put_line;
 use pool_io::Host;
 use pool_network::{Door, Network};
-use pool_summary::put_line;
 use proxy_core::Proxy;
 use std::alloc::Global;
 use std::sync::Wait;

@@ -3,11 +3,11 @@
 ghost use Rattle.std.specs.Prelude.{◌≡◌, ◌≤◌, IfOk, length};
 ghost use Rattle.proxy_command.specs.Serving.{ProxiesOnNetwork, start_for};
 
-use network_places::{Opened, leave_places, open_places};
+use door_threads::{Opened, leave_places, open_places};
 use pool_io::{HostError, Limits};
 use pool_network::{Door, Network};
-use pool_proxy::{Proxied, serve_proxy};
 use proxy_core::Proxy;
+use proxy_server::{Proxied, serve_proxy};
 use session_steps::SessionEnd;
 use std::alloc::{AllocError, Global};
 use std::sync::Wait;

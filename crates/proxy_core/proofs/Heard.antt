@@ -1,6 +1,6 @@
 -- A job with a time or without one is heard as it is held.
 use Rattle.std.proofs.Common.{◌≡◌, ℕ, Option, None, Some, refl}
-use Rattle.v1_rules.specs.Heard.{ToldJob, told_job}
+use Rattle.v1_translate.specs.Heard.{ToldJob, told_job}
 use Rattle.proxy_rules.specs.State.{Relay}
 use Rattle.proxy_rules.specs.Steps.{heard, job_heard}
 

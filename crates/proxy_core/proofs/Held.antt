@@ -5,8 +5,8 @@ use Rattle.std.proofs.lemmas.Bool.{cases_Bool, cases_lt, lt-ltb}
 use Rattle.std.proofs.lemmas.List.{append-nil, map-append, take_more}
 use Rattle.std.proofs.lemmas.List.Elements.{filter-append}
 use Rattle.std.proofs.lemmas.List.Quantifiers.{position-Some}
-use Rattle.v1_rules.specs.Heard.{Told}
-use Rattle.v1_rules.specs.State.{Terms}
+use Rattle.v1_translate.specs.Heard.{Told}
+use Rattle.v1_translate.specs.State.{Terms}
 use Rattle.proxy_rules.specs.Jobs.{without_first}
 use Rattle.proxy_rules.specs.Miners.{told_all, told_to}
 use Rattle.proxy_rules.specs.State.{Miner, RelayedJob}

@@ -11,7 +11,7 @@ use Rattle.sv2_messages.proofs.Answering.{only, refused}
 use Rattle.mining_msgs.specs.declared.message.Mining.{Mining}
 use Rattle.mining_msgs.specs.declared.message.Mining.TheVariants as messages
 use Rattle.mining_msgs.specs.Seen.{mining_message}
-use Rattle.v1_rules.specs.Heard.{Nothing}
+use Rattle.v1_translate.specs.Heard.{Nothing}
 use Rattle.proxy_rules.specs.Frames.{Tells, told_by_kind, told_by_payload, told_by_values}
 use Rattle.proxy_core.specs.Reading.{told_by_message}
 

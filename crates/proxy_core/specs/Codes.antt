@@ -2,8 +2,8 @@
 use Rattle.std.specs.Prelude.{ℕ, Bool, Option, List, refl}
 use Rattle.std.specs.Coded.{Coded, code_by, coded×, coded_list, coded_option, coded_bool, coded_ℕ}
 use Rattle.serde_json.specs.Data.{Data}
-use Rattle.v1_rules.specs.Heard.{OpenedChannel, ToldJob, ToldTip}
-use Rattle.v1_rules.specs.State.{V1State}
+use Rattle.v1_translate.specs.Heard.{OpenedChannel, ToldJob, ToldTip}
+use Rattle.v1_translate.specs.State.{V1State}
 use Rattle.v1_translate.specs.Codes.{data_code, state_code}
 use Rattle.proxy_rules.specs.State.{Miner, RelayedJob, Relay, Seat, SentOn, Session}
 

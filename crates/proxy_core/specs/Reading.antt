@@ -5,7 +5,7 @@ use Rattle.sv2_frames.specs.Framing.{FrameValue}
 use Rattle.mining_msgs.specs.declared.channels.OpenExtendedMiningChannelSuccess.{OpenExtendedMiningChannelSuccess}
 use Rattle.mining_msgs.specs.declared.message.Mining.{Mining}
 use Rattle.mining_msgs.specs.declared.message.Mining.TheVariants as messages
-use Rattle.v1_rules.specs.Heard.{Nothing, OpenedChannel, told_by}
+use Rattle.v1_translate.specs.Heard.{Nothing, OpenedChannel, told_by}
 use Rattle.proxy_rules.specs.Frames.{UpTold, Tells, set_up_by}
 
 -- a frame, without where its payload lies in memory

@@ -1,6 +1,6 @@
 -- What a miner's session makes of what it hears.
 use Rattle.std.specs.Prelude.{◌≡◌, ℕ, List}
-use Rattle.v1_rules.specs.State.{Reaction}
+use Rattle.v1_translate.specs.State.{Reaction}
 use Rattle.v1_translate.specs.Saying.{with_lines}
 use Rattle.proxy_rules.specs.State.{Session}
 

@@ -2,8 +2,8 @@
 use Rattle.std.specs.Prelude.{◌≡◌, ◌==◌, Bool, true, not, List, nat_le}
 use Rattle.std.specs.List.{filter}
 use Rattle.serde_json.specs.Data.{Data}
-use Rattle.v1_rules.specs.Lines.{yes}
-use Rattle.v1_rules.specs.State.{Saying, Answer, CodeRefusal}
+use Rattle.v1_translate.specs.Lines.{yes}
+use Rattle.v1_translate.specs.State.{Saying, Answer, CodeRefusal}
 use Rattle.proxy_core.specs.declared.waiting.Verdict.{Verdict}
 use Rattle.proxy_core.specs.declared.waiting.Verdict.TheVariants as verdict
 use Rattle.proxy_rules.specs.declared.refusals.ProxyRefusal.TheVariants.{UpstreamLost}

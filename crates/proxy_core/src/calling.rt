@@ -3,7 +3,7 @@
 ghost use Rattle.std.specs.Prelude.{◌≡◌, IfOk, map, option_map};
 ghost use Rattle.proxy_rules.specs.Miners as callers;
 ghost use Rattle.proxy_rules.specs.Steps as steps;
-ghost use Rattle.v1_rules.specs.Heard.{told_by};
+ghost use Rattle.v1_translate.specs.Heard.{told_by};
 ghost use Rattle.v1_translate.specs.Saying.{asking_of};
 
 use crate::channel::Seat;

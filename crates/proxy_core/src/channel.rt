@@ -24,7 +24,7 @@ pub(crate) struct UpChannel {
 }
 
 impl Model for UpChannel {
-    ghost use Rattle.v1_rules.specs.Heard.{OpenedChannel};
+    ghost use Rattle.v1_translate.specs.Heard.{OpenedChannel};
 
     ghost Value = { OpenedChannel };
 
@@ -38,7 +38,7 @@ impl Model for UpChannel {
 
 impl UpChannel {
     ghost use Rattle.std.specs.Prelude.{◌≡◌, IfOk, IsTrue};
-    ghost use Rattle.v1_rules.specs.Heard.{Opened, told_by};
+    ghost use Rattle.v1_translate.specs.Heard.{Opened, told_by};
     ghost use Rattle.proxy_core.specs.Reading.{channel_in};
     ghost use Rattle.proxy_rules.specs.Steps.{offer_of, retargeted, serves};
 
@@ -123,7 +123,7 @@ impl Model for Offer {
 
 impl Offer {
     ghost use Rattle.std.specs.Prelude.{◌≡◌};
-    ghost use Rattle.v1_rules.specs.Heard.{Opened, told_by};
+    ghost use Rattle.v1_translate.specs.Heard.{Opened, told_by};
     ghost use Rattle.proxy_rules.specs.Steps.{seat_of};
 
     pub(crate) fn seat(&self) -> Seat

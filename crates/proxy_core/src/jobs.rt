@@ -2,7 +2,7 @@
 
 ghost use Rattle.std.specs.Prelude.{◌≡◌, IfOk, count_by, map, position};
 ghost use Rattle.proxy_rules.specs.Jobs as jobs;
-ghost use Rattle.v1_translate.specs.Messages.{job_in};
+ghost use Rattle.v1_translate.specs.SentMessages.{job_in};
 
 use mining_msgs::{Mining, NewExtendedMiningJob, SetNewPrevHash};
 use std::alloc::{AllocError, Global};
@@ -48,8 +48,8 @@ impl Model for RelayedJob {
 
 impl RelayedJob {
     ghost use Rattle.std.specs.Prelude.{◌≡◌, Some, IfOk};
-    ghost use Rattle.v1_rules.specs.Heard.{told_by, told_job};
-    ghost use Rattle.v1_translate.specs.Messages.{job_in};
+    ghost use Rattle.v1_translate.specs.Heard.{told_by, told_job};
+    ghost use Rattle.v1_translate.specs.SentMessages.{job_in};
     ghost use Rattle.proxy_rules.specs.Jobs as jobs;
 
     /// A copy of what the message says.
@@ -143,7 +143,7 @@ pub(crate) struct RelayedTip {
 }
 
 impl Model for RelayedTip {
-    ghost use Rattle.v1_rules.specs.Heard.{ToldTip};
+    ghost use Rattle.v1_translate.specs.Heard.{ToldTip};
 
     ghost Value = { ToldTip };
 
@@ -157,8 +157,8 @@ impl Model for RelayedTip {
 
 impl RelayedTip {
     ghost use Rattle.std.specs.Prelude.{◌≡◌};
-    ghost use Rattle.v1_rules.specs.Heard.{Tipped, told_by};
-    ghost use Rattle.v1_translate.specs.Messages.{tip_in};
+    ghost use Rattle.v1_translate.specs.Heard.{Tipped, told_by};
+    ghost use Rattle.v1_translate.specs.SentMessages.{tip_in};
 
     pub(crate) fn of(message: &SetNewPrevHash) -> RelayedTip
         ensures { result ≡ tip_in message.now }

@@ -32,9 +32,9 @@ impl MinerSession {
     ghost use Rattle.proxy_core.specs.Telling.{Hears};
     ghost use Rattle.proxy_rules.specs.Miners as miners;
     ghost use Rattle.proxy_rules.specs.Steps.{may_take};
-    ghost use Rattle.v1_rules.specs.Heard.{told_by};
-    ghost use Rattle.v1_rules.specs.Lines.{line_reaction};
-    ghost use Rattle.v1_rules.specs.Messages as messages;
+    ghost use Rattle.v1_translate.specs.Heard.{told_by};
+    ghost use Rattle.v1_translate.specs.Lines.{line_reaction};
+    ghost use Rattle.v1_translate.specs.Messages as messages;
     ghost use Rattle.v1_translate.specs.Saying.{asking_of};
 
     pub(crate) fn new(alloc: Global) -> MinerSession
@@ -163,9 +163,9 @@ impl Miner {
     ghost use Rattle.std.specs.Prelude.{◌≡◌, ◌==◌, IfOk, is_some, option_map};
     ghost use Rattle.proxy_rules.specs.Miners as miners;
     ghost use Rattle.proxy_rules.specs.Steps as steps;
-    ghost use Rattle.v1_rules.specs.Heard.{told_by};
-    ghost use Rattle.v1_rules.specs.Lines.{yes};
-    ghost use Rattle.v1_rules.specs.State.{Answer, CodeRefusal};
+    ghost use Rattle.v1_translate.specs.Heard.{told_by};
+    ghost use Rattle.v1_translate.specs.Lines.{yes};
+    ghost use Rattle.v1_translate.specs.State.{Answer, CodeRefusal};
     ghost use Rattle.v1_translate.specs.Saying.{asking_of};
 
     /// A caller that joins, to whom nothing was written.

@@ -76,9 +76,9 @@ impl Relay {
     ghost use Rattle.proxy_rules.specs.Miners as callers;
     ghost use Rattle.proxy_rules.specs.State.{terms_of};
     ghost use Rattle.proxy_rules.specs.Steps as steps;
-    ghost use Rattle.v1_rules.specs.Heard as heard;
-    ghost use Rattle.v1_rules.specs.Heard.{told_by, told_job};
-    ghost use Rattle.v1_translate.specs.Messages.{job_in, tip_in};
+    ghost use Rattle.v1_translate.specs.Heard as heard;
+    ghost use Rattle.v1_translate.specs.Heard.{told_by, told_job};
+    ghost use Rattle.v1_translate.specs.SentMessages.{job_in, tip_in};
     ghost use Rattle.v1_translate.specs.Saying.{asking_of};
 
     /// A proxy that starts.

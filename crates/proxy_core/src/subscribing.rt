@@ -5,7 +5,7 @@ ghost use Rattle.proxy_rules.specs.Jobs as jobs;
 ghost use Rattle.proxy_rules.specs.Miners as callers;
 ghost use Rattle.proxy_rules.specs.Refusals.{code_of};
 ghost use Rattle.proxy_rules.specs.Steps as steps;
-ghost use Rattle.v1_rules.specs.Heard as heard;
+ghost use Rattle.v1_translate.specs.Heard as heard;
 
 use crate::channel::{Offer, UpChannel};
 use crate::jobs::{RelayedJob, RelayedTip};

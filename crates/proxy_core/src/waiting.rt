@@ -102,8 +102,8 @@ impl Verdict<'_> {
 ghost use Rattle.proxy_core.specs.Verdicts as verdicts;
 ghost use Rattle.proxy_core.specs.Waiting as shares;
 ghost use Rattle.proxy_rules.specs.Miners.{at_caller, with_line};
-ghost use Rattle.v1_rules.specs.Lines.{yes};
-ghost use Rattle.v1_rules.specs.State.{Answer, CodeRefusal};
+ghost use Rattle.v1_translate.specs.Lines.{yes};
+ghost use Rattle.v1_translate.specs.State.{Answer, CodeRefusal};
 
 /// Answers a line of a caller by true.
 fn say_yes_at(

@@ -1,7 +1,7 @@
 -- The leads of the miners that are joined differ, and fit the channel.
 use Rattle.std.proofs.Common.{◌≡◌, ℕ, ◌==◌, ◌||◌, ◌⊎◌, Bool, true, false, Option, None, Some, List, [], ◌∷◌, ◌++◌, inl, inr, refl, sym, ap, subst, ◌∙◌}
 use Rattle.std.proofs.lemmas.Bool.{cases_Bool, eq-eqb, eqb-true}
-use Rattle.v1_rules.specs.Heard.{OpenedChannel}
+use Rattle.v1_translate.specs.Heard.{OpenedChannel}
 use Rattle.proxy_rules.specs.Laws.{AreApart, AllFit, FitsChannel, is_among, lead_of, leads_in}
 use Rattle.proxy_rules.specs.Miners.{at_caller, holds_lead, is_held, new_miner, seat_holds, seat_in}
 use Rattle.proxy_rules.specs.State.{Miner, Seat, Session}

@@ -6,14 +6,14 @@ use Rattle.serde_json.specs.Data.{Data, Items}
 use Rattle.serde_json.specs.Find.{get_item}
 use Rattle.pool_history.specs.Accounts.{account_of, is_known}
 use Rattle.v1_lines.specs.Requests.{MethodCall, answer_id, call_in, is_blank_line, line_value, text_at}
-use Rattle.v1_rules.specs.Configuring.{Configuration, configuration_in, configured}
-use Rattle.v1_rules.specs.Difficulty.{asked_difficulty}
-use Rattle.v1_rules.specs.Laws.{answered_in, request_of}
-use Rattle.v1_rules.specs.Lines.{authorized, by_call, by_method, by_value, id_in, line_reaction, method_of, subscribed, suggested, with_channel, yes}
-use Rattle.v1_rules.specs.State.{Terms, V1State, Waiting, Saying, Answer, SentShare, Asking, Silence, Open, Update, Share, Name, Reaction}
-use Rattle.v1_rules.specs.Submitting.{AskedShare, NotSent, ByError, ByCode, asked_share, checked_share, sent_or_refused, submitted}
-use Rattle.v1_rules.specs.declared.methods.Method.{Method}
-use Rattle.v1_rules.specs.declared.methods.Method.TheVariants.{Configure, Subscribe, Authorize, SuggestDifficulty, SubscribeExtranonce, Submit, Unknown}
+use Rattle.v1_translate.specs.Configuring.{Configuration, configuration_in, configured}
+use Rattle.v1_translate.specs.Difficulty.{asked_difficulty}
+use Rattle.v1_translate.specs.Laws.{answered_in, request_of}
+use Rattle.v1_translate.specs.Lines.{authorized, by_call, by_method, by_value, id_in, line_reaction, method_of, subscribed, suggested, with_channel, yes}
+use Rattle.v1_translate.specs.State.{Terms, V1State, Waiting, Saying, Answer, SentShare, Asking, Silence, Open, Update, Share, Name, Reaction}
+use Rattle.v1_translate.specs.Submitting.{AskedShare, NotSent, ByError, ByCode, asked_share, checked_share, sent_or_refused, submitted}
+use Rattle.v1_translate.specs.declared.methods.Method.{Method}
+use Rattle.v1_translate.specs.declared.methods.Method.TheVariants.{Configure, Subscribe, Authorize, SuggestDifficulty, SubscribeExtranonce, Submit, Unknown}
 use Rattle.proxy_rules.specs.Sayings.{IsSilent, SentLinesAreSilent}
 use Rattle.proxy_rules.proofs.ShareIds.{checked_number}
 

@@ -5,9 +5,9 @@ use Rattle.std.specs.Prelude.{is_some, nat_le}
 use Rattle.std.proofs.lemmas.Bool.{cases_Bool, eq-eqb, eqb-true}
 use Rattle.std.proofs.lemmas.List.{append-nil}
 use Rattle.serde_json.specs.Data.{Data}
-use Rattle.v1_rules.specs.Heard.{Told, Opened, NotOpened, Target, Accepted, Refused, Future, Live, Tipped, Nothing}
-use Rattle.v1_rules.specs.State.{SentShare, Saying, Answer, CodeRefusal, Asking, Silence, Open, Update, Share, Name}
-use Rattle.v1_rules.specs.Lines.{yes}
+use Rattle.v1_translate.specs.Heard.{Told, Opened, NotOpened, Target, Accepted, Refused, Future, Live, Tipped, Nothing}
+use Rattle.v1_translate.specs.State.{SentShare, Saying, Answer, CodeRefusal, Asking, Silence, Open, Update, Share, Name}
+use Rattle.v1_translate.specs.Lines.{yes}
 use Rattle.v1_translate.specs.Saying.{line_of}
 use Rattle.proxy_rules.specs.declared.events.ProxyEvent.{ProxyEvent}
 use Rattle.proxy_rules.specs.declared.events.ProxyEvent.TheVariants as event

@@ -3,8 +3,8 @@ use Rattle.std.proofs.Common.{◌≡◌, ℕ, ◌==◌, true, false, Option, Non
 use Rattle.std.specs.Prelude.{is_some}
 use Rattle.std.proofs.lemmas.Bool.{cases_Bool}
 use Rattle.serde_json.specs.Data.{Data}
-use Rattle.v1_rules.specs.Heard.{Told}
-use Rattle.v1_rules.specs.State.{Terms, Saying}
+use Rattle.v1_translate.specs.Heard.{Told}
+use Rattle.v1_translate.specs.State.{Terms, Saying}
 use Rattle.proxy_rules.specs.Miners.{at_caller, is_joined, relayed_seat, relayed_session, relayed_to, seat_in, told_all, told_session, told_to, with_line}
 use Rattle.proxy_rules.specs.State.{Miner, Seat, SentOn, Session}
 use Rattle.proxy_rules.specs.Steps.{handed_over, handed_over_session, line_said, line_said_by, named, named_session, said_each}

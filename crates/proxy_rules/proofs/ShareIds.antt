@@ -8,14 +8,14 @@ use Rattle.pool_history.specs.Accounts.{account_of, is_known}
 use Rattle.pool_history.specs.Conditions.{found, provided}
 use Rattle.v1_lines.specs.HexNumbers.{hex_number}
 use Rattle.v1_lines.specs.Requests.{MethodCall, answer_id, call_in, is_blank_line, line_value, text_at}
-use Rattle.v1_rules.specs.Configuring.{Configuration, configuration_in, configured}
-use Rattle.v1_rules.specs.Difficulty.{asked_difficulty}
-use Rattle.v1_rules.specs.Lines.{authorized, by_call, by_method, by_value, id_in, line_reaction, method_of, subscribed, suggested, with_channel}
-use Rattle.v1_rules.specs.Messages.{answered}
-use Rattle.v1_rules.specs.State.{Terms, V1State, Waiting, SentShare, Reaction}
-use Rattle.v1_rules.specs.Submitting.{AskedShare, NotSent, ByCode, are_within, share_for, asked_share, checked_share, extranonce_in, sent_or_refused, submitted}
-use Rattle.v1_rules.specs.declared.methods.Method.{Method}
-use Rattle.v1_rules.specs.declared.methods.Method.TheVariants.{Configure, Subscribe, Authorize, SuggestDifficulty, SubscribeExtranonce, Submit, Unknown}
+use Rattle.v1_translate.specs.Configuring.{Configuration, configuration_in, configured}
+use Rattle.v1_translate.specs.Difficulty.{asked_difficulty}
+use Rattle.v1_translate.specs.Lines.{authorized, by_call, by_method, by_value, id_in, line_reaction, method_of, subscribed, suggested, with_channel}
+use Rattle.v1_translate.specs.Messages.{answered}
+use Rattle.v1_translate.specs.State.{Terms, V1State, Waiting, SentShare, Reaction}
+use Rattle.v1_translate.specs.Submitting.{AskedShare, NotSent, ByCode, are_within, share_for, asked_share, checked_share, extranonce_in, sent_or_refused, submitted}
+use Rattle.v1_translate.specs.declared.methods.Method.{Method}
+use Rattle.v1_translate.specs.declared.methods.Method.TheVariants.{Configure, Subscribe, Authorize, SuggestDifficulty, SubscribeExtranonce, Submit, Unknown}
 use Rattle.proxy_rules.specs.Laws.{WaitsBy}
 
 -- ---- a share has the session's next number

@@ -4,7 +4,7 @@ use Rattle.std.specs.Int.{from_be_bytes, to_be_bytes, w16}
 use Rattle.std.proofs.lemmas.Bool.{eq-eqb}
 use Rattle.std.proofs.lemmas.List.{append_cancel_left, length-append, take_at}
 use Rattle.std.proofs.lemmas.Nat.{from_be_bytes-to_be_bytes_2}
-use Rattle.v1_rules.specs.Heard.{OpenedChannel}
+use Rattle.v1_translate.specs.Heard.{OpenedChannel}
 use Rattle.proxy_rules.specs.declared.events.ProxyEvent.{ProxyEvent}
 use Rattle.proxy_rules.specs.Laws.{AllFit, AreApart, AreSpaces, FitsChannel, IsApartFrom, IsInChannel, IsInSeat, is_among, lead_of, leads_in, seat_list, seats_in}
 use Rattle.proxy_rules.specs.Miners.{lead_bytes, seat_in}

@@ -4,9 +4,9 @@ use Rattle.std.specs.List.{filter}
 use Rattle.std.specs.Prelude.{nat_le, option_map}
 use Rattle.std.proofs.lemmas.Bool.{cases_Bool, leb-true}
 use Rattle.serde_json.specs.Data.{Data}
-use Rattle.v1_rules.specs.Heard.{Told, Opened, NotOpened, Target, Accepted, Refused, Future, Live, Tipped, Nothing, OpenedChannel}
-use Rattle.v1_rules.specs.State.{SentShare, Saying, Answer, Asking, Silence, Open, Update, Share, Name, CodeRefusal}
-use Rattle.v1_rules.specs.Lines.{yes}
+use Rattle.v1_translate.specs.Heard.{Told, Opened, NotOpened, Target, Accepted, Refused, Future, Live, Tipped, Nothing, OpenedChannel}
+use Rattle.v1_translate.specs.State.{SentShare, Saying, Answer, Asking, Silence, Open, Update, Share, Name, CodeRefusal}
+use Rattle.v1_translate.specs.Lines.{yes}
 use Rattle.proxy_rules.specs.declared.events.ProxyEvent.{ProxyEvent}
 use Rattle.proxy_rules.specs.declared.events.ProxyEvent.TheVariants as event
 use Rattle.proxy_rules.specs.declared.refusals.ProxyRefusal.{ProxyRefusal}

@@ -7,12 +7,12 @@ use Rattle.std.specs.Prelude.{option_map, nat_le}
 use Rattle.std.proofs.lemmas.Bool.{cases_Bool, eq-eqb, eqb-true}
 use Rattle.std.proofs.lemmas.List.{append-nil}
 use Rattle.serde_json.specs.Data.{Data}
-use Rattle.v1_rules.specs.Heard.{Told, Opened, NotOpened, Target, Accepted, Refused, Future, Live, Tipped, Nothing, OpenedChannel, ToldJob, ToldTip}
-use Rattle.v1_rules.specs.Laws.{answered_in, answered_by, request_of}
-use Rattle.v1_rules.specs.Lines.{line_reaction, yes}
-use Rattle.v1_rules.specs.Messages.{answered, live_notice, message_reaction, name_reaction, still_waiting, tip_notice, to_subscriber}
-use Rattle.v1_rules.specs.State.{Terms, V1State, Tip, SentShare, Saying, Answer, CodeRefusal, Difficulty, Asking, Silence, Open, Update, Share, Name, Reaction, start}
-use Rattle.v1_rules.specs.Submitting.{held_job}
+use Rattle.v1_translate.specs.Heard.{Told, Opened, NotOpened, Target, Accepted, Refused, Future, Live, Tipped, Nothing, OpenedChannel, ToldJob, ToldTip}
+use Rattle.v1_translate.specs.Laws.{answered_in, answered_by, request_of}
+use Rattle.v1_translate.specs.Lines.{line_reaction, yes}
+use Rattle.v1_translate.specs.Messages.{answered, live_notice, message_reaction, name_reaction, still_waiting, tip_notice, to_subscriber}
+use Rattle.v1_translate.specs.State.{Terms, V1State, Tip, SentShare, Saying, Answer, CodeRefusal, Difficulty, Asking, Silence, Open, Update, Share, Name, Reaction, start}
+use Rattle.v1_translate.specs.Submitting.{held_job}
 use Rattle.v1_translate.specs.Saying.{frame_of_message, line_of, with_lines}
 use Rattle.proxy_rules.specs.declared.events.ProxyEvent.{ProxyEvent}
 use Rattle.proxy_rules.specs.declared.events.ProxyEvent.TheVariants as event

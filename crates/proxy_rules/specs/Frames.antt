@@ -7,7 +7,7 @@ use Rattle.sv2_messages.specs.declared.error.MsgError.{MsgError}
 use Rattle.sv2_messages.specs.declared.kinds.TheConstants as kinds
 use Rattle.sv2_messages.specs.Reading.{values_of}
 use Rattle.sv2_messages.specs.Tables.{mining_table}
-use Rattle.v1_rules.specs.Heard.{Told, Opened, NotOpened, Target, Accepted, Refused, Tipped, Nothing, told_job}
+use Rattle.v1_translate.specs.Heard.{Told, Opened, NotOpened, Target, Accepted, Refused, Tipped, Nothing, told_job}
 
 -- ---- the frame that some bytes are
 

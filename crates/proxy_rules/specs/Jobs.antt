@@ -2,8 +2,8 @@
 -- miner is told of them when it subscribes.
 use Rattle.std.specs.Prelude.{ℕ, ◌==◌, Bool, true, false, not, if◌then◌else◌, Option, None, Some, List, [], ◌∷◌, ◌++◌, map, is_some, nat_lt, count_by}
 use Rattle.std.specs.List.{filter}
-use Rattle.v1_rules.specs.Heard.{Told, Future, Tipped, ToldTip, told_job}
-use Rattle.v1_rules.specs.Messages.{most_future, most_live}
+use Rattle.v1_translate.specs.Heard.{Told, Future, Tipped, ToldTip, told_job}
+use Rattle.v1_translate.specs.Messages.{most_future, most_live}
 use Rattle.proxy_rules.specs.State.{RelayedJob}
 
 -- live jobs have a time

@@ -3,12 +3,12 @@ use Rattle.std.specs.Prelude.{◌≡◌, ℕ, ◌+◌, ◌==◌, ◌<◌, ◌≤
 use Rattle.std.specs.List.{filter, flat_map, list_any}
 use Rattle.serde_json.specs.Data.{Data}
 use Rattle.sv2_messages.specs.Messages.{Message}
-use Rattle.v1_rules.specs.Asked.{share_message}
-use Rattle.v1_rules.specs.Heard.{Accepted, Refused, OpenedChannel, Told}
+use Rattle.v1_translate.specs.Asked.{share_message}
+use Rattle.v1_translate.specs.Heard.{Accepted, Refused, OpenedChannel, Told}
 use Rattle.v1_lines.specs.Requests.{line_value}
-use Rattle.v1_rules.specs.Lines.{id_in, line_reaction, yes}
-use Rattle.v1_rules.specs.Messages.{answered}
-use Rattle.v1_rules.specs.State.{Terms, V1State, SentShare, Saying, Answer, CodeRefusal, Asking, Share, Reaction}
+use Rattle.v1_translate.specs.Lines.{id_in, line_reaction, yes}
+use Rattle.v1_translate.specs.Messages.{answered}
+use Rattle.v1_translate.specs.State.{Terms, V1State, SentShare, Saying, Answer, CodeRefusal, Asking, Share, Reaction}
 use Rattle.v1_translate.specs.Saying.{frame_of_message, line_of}
 use Rattle.proxy_rules.specs.declared.events.ProxyEvent.{ProxyEvent}
 use Rattle.proxy_rules.specs.declared.events.ProxyEvent.TheVariants as event

@@ -3,9 +3,9 @@ use Rattle.std.specs.Prelude.{ℕ, zero, suc, ◌+◌, ◌==◌, Bool, false, if
 use Rattle.std.specs.Int.{w16, to_be_bytes}
 use Rattle.std.specs.List.{list_any}
 use Rattle.std.specs.Option.{option_and_then}
-use Rattle.v1_rules.specs.Heard.{Told}
-use Rattle.v1_rules.specs.Messages.{message_reaction}
-use Rattle.v1_rules.specs.State.{Terms, Saying, Reaction, start}
+use Rattle.v1_translate.specs.Heard.{Told}
+use Rattle.v1_translate.specs.Messages.{message_reaction}
+use Rattle.v1_translate.specs.State.{Terms, Saying, Reaction, start}
 use Rattle.v1_translate.specs.Saying.{line_of, with_lines}
 use Rattle.proxy_rules.specs.State.{Miner, Seat, Session}
 

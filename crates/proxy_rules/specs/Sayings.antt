@@ -2,11 +2,11 @@
 use Rattle.std.specs.Prelude.{◌≡◌, ℕ, ◌==◌, if◌then◌else◌, Option, None, Some, Result, Ok, Err, List, [], ◌∷◌, ◌++◌, map}
 use Rattle.std.specs.List.{filter}
 use Rattle.serde_json.specs.Data.{Data}
-use Rattle.v1_rules.specs.Heard.{Told, Opened, NotOpened, Target, Future, Live, Tipped, ToldTip}
-use Rattle.v1_rules.specs.Laws.{answered_in, request_of}
-use Rattle.v1_rules.specs.Lines.{line_reaction}
-use Rattle.v1_rules.specs.Messages.{answered, message_reaction, name_reaction}
-use Rattle.v1_rules.specs.State.{Terms, V1State, SentShare, Saying, CodeRefusal, Asking, Silence, Open, Update, Share, Name, Reaction}
+use Rattle.v1_translate.specs.Heard.{Told, Opened, NotOpened, Target, Future, Live, Tipped, ToldTip}
+use Rattle.v1_translate.specs.Laws.{answered_in, request_of}
+use Rattle.v1_translate.specs.Lines.{line_reaction}
+use Rattle.v1_translate.specs.Messages.{answered, message_reaction, name_reaction}
+use Rattle.v1_translate.specs.State.{Terms, V1State, SentShare, Saying, CodeRefusal, Asking, Silence, Open, Update, Share, Name, Reaction}
 use Rattle.v1_translate.specs.Saying.{with_lines}
 use Rattle.proxy_rules.specs.declared.events.ProxyEvent.{ProxyEvent}
 use Rattle.proxy_rules.specs.declared.events.ProxyEvent.TheVariants as event

@@ -2,8 +2,8 @@
 -- share it.
 use Rattle.std.specs.Prelude.{ℕ, Bool, true, Option, None, List, []}
 use Rattle.serde_json.specs.Data.{Data}
-use Rattle.v1_rules.specs.Heard.{OpenedChannel, ToldJob, ToldTip}
-use Rattle.v1_rules.specs.State.{Terms, V1State}
+use Rattle.v1_translate.specs.Heard.{OpenedChannel, ToldJob, ToldTip}
+use Rattle.v1_translate.specs.State.{Terms, V1State}
 
 -- a job of the upstream that is held, and its time; a future job has none
 pub record RelayedJob : Type 0 where

@@ -9,11 +9,11 @@ use Rattle.sv2_messages.specs.declared.kinds.TheConstants as kinds
 use Rattle.sv2_messages.specs.Messages.{Message}
 use Rattle.sv2_types.specs.Fields.{Number, Bytes}
 use Rattle.mining_msgs.specs.PlainSetup.{plain_setup}
-use Rattle.v1_rules.specs.Asked.{no_rate, share_message}
-use Rattle.v1_rules.specs.Heard.{Told, Opened, NotOpened, Target, Accepted, Refused, Future, Live, Tipped, Nothing, OpenedChannel, ToldTip}
-use Rattle.v1_rules.specs.Lines.{line_reaction, yes}
-use Rattle.v1_rules.specs.Messages.{answered, name_reaction, still_waiting}
-use Rattle.v1_rules.specs.State.{Terms, SentShare, Saying, Answer, CodeRefusal, Asking, Silence, Open, Update, Share, Name}
+use Rattle.v1_translate.specs.Asked.{no_rate, share_message}
+use Rattle.v1_translate.specs.Heard.{Told, Opened, NotOpened, Target, Accepted, Refused, Future, Live, Tipped, Nothing, OpenedChannel, ToldTip}
+use Rattle.v1_translate.specs.Lines.{line_reaction, yes}
+use Rattle.v1_translate.specs.Messages.{answered, name_reaction, still_waiting}
+use Rattle.v1_translate.specs.State.{Terms, SentShare, Saying, Answer, CodeRefusal, Asking, Silence, Open, Update, Share, Name}
 use Rattle.v1_translate.specs.Saying.{frame_of_message}
 use Rattle.proxy_rules.specs.declared.events.ProxyEvent.{ProxyEvent}
 use Rattle.proxy_rules.specs.declared.events.ProxyEvent.TheVariants as event

@@ -2,7 +2,7 @@
 -- memory does.
 use Rattle.std.specs.Prelude.{ℕ, List, [], take, Option, None}
 use Rattle.std.specs.Io.KnownBytes.{Consumes, Keeps, IsAtEnd}
-use Rattle.disk_io.specs.Calls.{DiskSeen}
+use Rattle.ledger_disk.specs.Calls.{DiskSeen}
 use Rattle.pool_io.specs.Seen.{KeeperSeen, SinkSeen, SourceSeen}
 use Rattle.pool_io.specs.declared.source.Took.{Took}
 use Rattle.pool_io.specs.declared.source.Took.TheVariants.{Bytes, End, Idle, Failed}

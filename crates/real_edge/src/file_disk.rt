@@ -2,13 +2,13 @@
 
 ghost use Rattle.std.specs.Prelude.{◌≡◌, [], false};
 ghost use Rattle.pool_io.specs.Outside.{CountsFailure, next_count};
-ghost use Rattle.disk_io.specs.declared.disk.DiskFailed.TheVariants as disk;
-ghost use Rattle.disk_io.specs.Calls.{is_failed_call};
+ghost use Rattle.ledger_disk.specs.declared.disk.DiskFailed.TheVariants as disk;
+ghost use Rattle.ledger_disk.specs.Calls.{is_failed_call};
 
 #[cfg(test)]
 mod tests;
 
-use disk_io::{Disk, DiskFailed, Disks};
+use ledger_disk::{Disk, DiskFailed, Disks};
 use pool_io::{HostError, Shelf};
 use std::alloc::Global;
 use std::fs::{File, OpenFile};

@@ -4,7 +4,7 @@ use block_header::target_of;
 use ledger_records::read_record;
 use pool_history::{BookError, Event, Kind, OpenAsk, Opened, Reply, Request, Submission};
 use pool_io::Keeper;
-use share_check::{check, rolled_length};
+use share_headers::{check, rolled_length};
 use share_ledger::Book;
 use std::alloc::Global;
 use std::str;

@@ -18,7 +18,7 @@ use Rattle.pool_history.proofs.Given.{extended_rolls, template_of, tip_of}
 use Rattle.session_steps.specs.declared.about.About.{About}
 use Rattle.session_steps.specs.declared.about.About.TheVariants.{Nothing, Opening, Share, Token, OwnJob, Declared}
 use Rattle.session_steps.specs.Answers.{answer_frames, greeting}
-use Rattle.declare_rules.specs.State.{start}
+use Rattle.job_declaration.specs.State.{start}
 use Rattle.session_steps.specs.Asking.{Asks, message_of}
 use Rattle.session_steps.specs.Setups.{Accepted, setup_in}
 use Rattle.session_steps.specs.Steps.{bytes_of_frames}

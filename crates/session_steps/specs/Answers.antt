@@ -17,8 +17,8 @@ use Rattle.pool_history.specs.Channels.{group_id}
 use Rattle.pool_history.specs.Codes.{custom_code, open_code, share_code, update_code}
 use Rattle.pool_history.specs.Headers.{extranonce_prefix, rolled_length}
 use Rattle.pool_history.specs.Refusing.{token_of}
-use Rattle.declare_rules.specs.declared.refusals.DeclareError.TheVariants as refusal
-use Rattle.declare_rules.specs.Declaring.{error_frame, success_frame}
+use Rattle.job_declaration.specs.declared.refusals.DeclareError.TheVariants as refusal
+use Rattle.job_declaration.specs.Declaring.{error_frame, success_frame}
 use Rattle.session_steps.specs.declared.about.About.{About}
 use Rattle.session_steps.specs.declared.about.About.TheVariants.{Opening, Channel, Share, Token, OwnJob, Declared}
 use Rattle.session_steps.specs.declared.meeting.SetupCode.{SetupCode}

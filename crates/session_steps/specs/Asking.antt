@@ -11,7 +11,7 @@ use Rattle.pool_history.specs.declared.events.Kind.{Kind}
 use Rattle.pool_history.specs.declared.events.Kind.TheVariants.{Standard, Extended, V1}
 use Rattle.pool_history.specs.declared.shares.Submission.{Submission}
 use Rattle.pool_history.specs.declared.templates.CustomData.{CustomData}
-use Rattle.template_jobs.specs.Messages.{custom_fields, template_fields, tip_fields}
+use Rattle.pool_history.specs.OwnedFields.{custom_fields, template_fields, tip_fields}
 use Rattle.session_steps.specs.declared.about.About.{About}
 use Rattle.session_steps.specs.declared.about.About.TheVariants.{Nothing, Opening, Channel, Share, Token, OwnJob}
 

@@ -7,10 +7,10 @@ use Rattle.sv2_messages.specs.Messages.{Message, MsgOf, Row}
 use Rattle.sv2_messages.specs.Tables.{mining_table, template_table, declare_table}
 use Rattle.pool_history.specs.declared.asking.Request.{Request}
 use Rattle.pool_history.specs.declared.asking.Request.TheVariants as request
-use Rattle.declare_rules.specs.declared.asked.Asked.{Asked}
-use Rattle.declare_rules.specs.declared.asked.Asked.TheVariants as asks
-use Rattle.declare_rules.specs.Declaring.{Says, AsksGrant, asking_token, reaction}
-use Rattle.declare_rules.specs.State.{DeclareState}
+use Rattle.job_declaration.specs.declared.asked.Asked.{Asked}
+use Rattle.job_declaration.specs.declared.asked.Asked.TheVariants as asks
+use Rattle.job_declaration.specs.Declaring.{Says, AsksGrant, asking_token, reaction}
+use Rattle.job_declaration.specs.State.{DeclareState}
 use Rattle.session_steps.specs.declared.about.About.{About}
 use Rattle.session_steps.specs.declared.about.About.TheVariants.{Nothing, Declared}
 use Rattle.session_steps.specs.declared.meeting.Step.{Step}

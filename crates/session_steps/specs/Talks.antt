@@ -3,8 +3,8 @@ use Rattle.std.specs.Prelude.{ℕ, Bool, Option, None}
 use Rattle.pool_history.specs.declared.events.Role.{Role}
 use Rattle.pool_history.specs.declared.replies.Reply.{Reply}
 use Rattle.pool_history.specs.declared.replies.Reply.TheVariants as reply
-use Rattle.declare_rules.specs.Declaring as declaring
-use Rattle.declare_rules.specs.State.{DeclareState, start}
+use Rattle.job_declaration.specs.Declaring as declaring
+use Rattle.job_declaration.specs.State.{DeclareState, start}
 use Rattle.session_steps.specs.declared.about.About.{About}
 use Rattle.session_steps.specs.declared.about.About.TheVariants.{Nothing}
 

@@ -13,11 +13,11 @@ use Rattle.std.proofs.lemmas.List.{length-take}
 use Rattle.pool_history.specs.Ledger.{HasRecord, chain, kept_records, ledger_text, magic_2, record_body, record_kind, record_of}
 use Rattle.pool_history.specs.Sessions.{past_of}
 use Rattle.history_laws.specs.Legality.{Starts}
-use Rattle.ledger_laws.specs.Growing.{PiecesGrow, LedgersGrow, hash_after}
-use Rattle.ledger_laws.specs.Keeping.{AnswersCanBeKept, IsKept, KeepsOn}
-use Rattle.ledger_laws.specs.OneLedger.{AllCanBeKept}
-use Rattle.ledger_laws.specs.Requests.{IsWellFormedRequest}
-use Rattle.ledger_laws.specs.WellFormed.{IsU32}
+use Rattle.ledger_records.specs.Growing.{PiecesGrow, LedgersGrow, hash_after}
+use Rattle.ledger_records.specs.Keeping.{AnswersCanBeKept, IsKept, KeepsOn}
+use Rattle.ledger_records.specs.OneLedger.{AllCanBeKept}
+use Rattle.ledger_records.specs.Requests.{IsWellFormedRequest}
+use Rattle.ledger_records.specs.WellFormed.{IsU32}
 use Rattle.ledger_records.specs.Pieces.{piece_behind}
 use Rattle.pool_io.specs.Outside.{AddsRecord}
 use Rattle.event_store.specs.Kept.{KeptHistory}

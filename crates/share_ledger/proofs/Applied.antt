@@ -20,17 +20,17 @@ use Rattle.pool_history.specs.Sessions.{past_of, rules_of, script_of}
 use Rattle.pool_history.specs.Settling.{Settled}
 use Rattle.history_laws.proofs.Legalities.{some-none}
 use Rattle.history_laws.specs.AskedPlaces.{is_asked_after}
-use Rattle.ledger_laws.specs.Keeping.{KeepsOn}
+use Rattle.ledger_records.specs.Keeping.{KeepsOn}
 use Rattle.channels.specs.Plans.{IsAskedAsPlanned, planned_move}
 use Rattle.channels.specs.Tables.{ChannelTable, IsTold}
 use Rattle.channels.specs.declared.plan.ChannelPlan.{ChannelPlan}
 use Rattle.event_store.specs.Kept.{KeptHistory}
-use Rattle.grant_table.specs.Tables.{GrantTable, OtherEventsLeaveGrants, ShowsGrants}
+use Rattle.pool_tables.specs.GrantTables.{GrantTable, OtherEventsLeaveGrants, ShowsGrants}
 use Rattle.payouts.specs.Plans.{Applies, BlockPlan, Planning}
 use Rattle.payouts.specs.Tallies.{Remembers, Weighing}
 use Rattle.payouts.specs.Totals.{HasSums, SumsPlan}
-use Rattle.session_table.specs.Tables.{OtherEventsLeaveSessions, SessionTable, ShowsSessions}
-use Rattle.share_judging.specs.Headers.{HeaderSet, ShowsHeaders}
+use Rattle.pool_tables.specs.Tables.{OtherEventsLeaveSessions, SessionTable, ShowsSessions}
+use Rattle.pool_tables.specs.Headers.{HeaderSet, ShowsHeaders}
 use Rattle.template_jobs.specs.Plans.{IsPlannedAs, PlannedJob, move_of}
 use Rattle.template_jobs.specs.Tables.{AppliesPlan, JobTable, TakesMove, kept_jobs}
 use Rattle.template_jobs.specs.Told.{MovesAreTold}

@@ -19,7 +19,7 @@ use Rattle.pool_history.specs.Refusing.{template_refusal, tippable}
 use Rattle.pool_history.specs.Sessions.{rules_of, script_of}
 use Rattle.history_laws.proofs.Legalities.{some-same}
 use Rattle.template_jobs.specs.Plans.{IsPlannedAs, PlannedJob}
-use Rattle.template_jobs.specs.Refusals.{IsRefusal}
+use Rattle.pool_history.specs.JobRefusals.{IsRefusal}
 use Rattle.template_jobs.specs.Tables.{JobTable, Fits, kept_jobs, refusal_of}
 use Rattle.template_jobs.specs.Told.{HistoriesAreRead, ReadsJobs}
 use Rattle.share_ledger.specs.declared.planning.Change.TheVariants as change

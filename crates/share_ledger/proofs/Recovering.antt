@@ -12,8 +12,8 @@ use Rattle.pool_history.specs.declared.events.Event.{Event}
 use Rattle.pool_history.specs.declared.events.Event.TheVariants as event
 use Rattle.pool_history.specs.Ledger.{chain, chained, kept_records, ledger_text, magic_2, record_of}
 use Rattle.history_laws.specs.Legality.{Starts}
-use Rattle.ledger_laws.specs.Growing.{LedgersGrow, PiecesGrow, hash_after}
-use Rattle.ledger_laws.specs.Keeping.{IsKept, KeepsOn}
+use Rattle.ledger_records.specs.Growing.{LedgersGrow, PiecesGrow, hash_after}
+use Rattle.ledger_records.specs.Keeping.{IsKept, KeepsOn}
 use Rattle.ledger_records.specs.Pieces.{piece_behind}
 use Rattle.share_ledger.specs.Recovery.{CanRecover, FindsHistory, FindsNext, IsRecoverable, LeavesFront, Recovers, RecoversNext, count_begun, first_count, pieces_of}
 use Rattle.share_ledger.specs.Tables.{LedgerTables}

@@ -15,7 +15,7 @@ use Rattle.pool_history.specs.Legal.{allowed_flags}
 use Rattle.pool_history.specs.News.{news}
 use Rattle.pool_history.specs.Refusing.{most_enters}
 use Rattle.pool_history.specs.Sessions.{Entrance, enters, entrance, present, rules_of}
-use Rattle.session_table.specs.Tables.{SessionTable, entered_count, entrance_in, present_in}
+use Rattle.pool_tables.specs.Tables.{SessionTable, entered_count, entrance_in, present_in}
 use Rattle.share_ledger.specs.declared.planning.Change.TheVariants as change
 use Rattle.share_ledger.specs.declared.planning.Step.{Step}
 use Rattle.share_ledger.specs.declared.planning.Step.TheVariants as step

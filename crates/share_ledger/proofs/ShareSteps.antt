@@ -29,15 +29,15 @@ use Rattle.channels.proofs.Cuts.{in-answers, some-back}
 use Rattle.channels.specs.Histories.{TablesShowHistories}
 use Rattle.channels.specs.Tables.{AnswersFor, KeptChannel}
 use Rattle.pool_history.specs.Channels.{OpenChannel, channel_in, channels_of}
-use Rattle.share_judging.proofs.Ranges.{window_and_limit}
+use Rattle.pool_tables.proofs.Ranges.{window_and_limit}
 use Rattle.event_store.specs.Blocks.{is_block_event}
 use Rattle.payouts.specs.Plans.{BlockPlan, IsPlanOf, Planning}
 use Rattle.payouts.specs.Plans as tallies
 use Rattle.payouts.specs.Tallies.{Weighing}
-use Rattle.share_check.specs.Submitted.{SubmittedIsRebuilt, submitted_header}
-use Rattle.share_judging.specs.Headers.{HeaderSet}
-use Rattle.share_judging.specs.Passing as passing
-use Rattle.share_judging.specs.declared.passing.Passed.{Passed}
+use Rattle.share_headers.specs.Submitted.{SubmittedIsRebuilt, submitted_header}
+use Rattle.pool_tables.specs.Headers.{HeaderSet}
+use Rattle.pool_tables.specs.Passing as passing
+use Rattle.pool_tables.specs.declared.passing.Passed.{Passed}
 use Rattle.share_ledger.specs.declared.planning.Change.TheVariants as change
 use Rattle.share_ledger.specs.declared.planning.Crediting.{Crediting}
 use Rattle.share_ledger.specs.declared.planning.Step.TheVariants as step

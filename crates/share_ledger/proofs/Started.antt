@@ -11,14 +11,14 @@ use Rattle.pool_history.specs.Accounts.{are_in_range}
 use Rattle.pool_history.specs.Jobs.{jobs_told}
 use Rattle.history_laws.specs.KeptJobs.{kept_jobs_of}
 use Rattle.history_laws.specs.AskedPlaces.{is_asked_after}
-use Rattle.ledger_laws.specs.Keeping.{IsKept, StartsAreKept}
-use Rattle.ledger_laws.specs.WellFormed.{AreRules, IsWellFormed}
+use Rattle.ledger_records.specs.Keeping.{IsKept, StartsAreKept}
+use Rattle.ledger_records.specs.WellFormed.{AreRules, IsWellFormed}
 use Rattle.channels.specs.Tables.{IsTold}
-use Rattle.grant_table.specs.Tables.{OtherEventsLeaveGrants, ShowsGrants}
+use Rattle.pool_tables.specs.GrantTables.{OtherEventsLeaveGrants, ShowsGrants}
 use Rattle.payouts.specs.Tallies.{Remembers}
 use Rattle.payouts.specs.Totals.{HasSums}
-use Rattle.session_table.specs.Tables.{OtherEventsLeaveSessions, ShowsSessions}
-use Rattle.share_judging.specs.Headers.{ShowsHeaders}
+use Rattle.pool_tables.specs.Tables.{OtherEventsLeaveSessions, ShowsSessions}
+use Rattle.pool_tables.specs.Headers.{ShowsHeaders}
 use Rattle.template_jobs.specs.Tables.{HasCoinbases, kept_jobs}
 use Rattle.share_ledger.specs.Tables.{AreTables, LedgerTables, WereTold}
 

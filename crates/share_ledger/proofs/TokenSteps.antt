@@ -35,9 +35,9 @@ use Rattle.history_laws.specs.AskedPlaces.{is_asked_after}
 use Rattle.channels.proofs.Cuts.{kept-same, own-answers}
 use Rattle.channels.specs.declared.channel.Channel.{Channel}
 use Rattle.channels.specs.Tables.{kept_channel, kept_of}
-use Rattle.grant_table.specs.OwnJobs.{refusal_before_coinbase}
-use Rattle.grant_table.proofs.RefusedJobs.{channel-none, channel-some, coinbase_made, coinbase_refused}
-use Rattle.grant_table.specs.Tables.{GrantTable, HasOneToSpend, MaySpend, grant_refusal_after, granted_count, unspent_in}
+use Rattle.pool_tables.specs.OwnJobs.{refusal_before_coinbase}
+use Rattle.pool_tables.proofs.RefusedJobs.{channel-none, channel-some, coinbase_made, coinbase_refused}
+use Rattle.pool_tables.specs.GrantTables.{GrantTable, HasOneToSpend, MaySpend, grant_refusal_after, granted_count, unspent_in}
 use Rattle.template_jobs.specs.Plans.{IsPlannedAs, PlannedJob}
 use Rattle.template_jobs.specs.Tables.{Fits, JobTable}
 use Rattle.template_jobs.proofs.OwnCounted.{own-counted}

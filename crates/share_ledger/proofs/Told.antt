@@ -14,15 +14,15 @@ use Rattle.pool_history.specs.Sessions.{past_of, rules_of, script_in, script_of}
 use Rattle.history_laws.proofs.AskedPlaces.{asked-before}
 use Rattle.history_laws.proofs.Legalities.{past-one}
 use Rattle.history_laws.specs.AskedPlaces.{is_asked_after}
-use Rattle.ledger_laws.specs.Keeping.{KeepsOn}
+use Rattle.ledger_records.specs.Keeping.{KeepsOn}
 use Rattle.channels.proofs.Cuts.{told-weaker}
 use Rattle.channels.specs.Tables.{ChannelTable, IsTold}
 use Rattle.event_store.specs.Kept.{KeptHistory}
-use Rattle.grant_table.specs.Tables.{GrantTable, OtherEventsLeaveGrants, ShowsGrants}
+use Rattle.pool_tables.specs.GrantTables.{GrantTable, OtherEventsLeaveGrants, ShowsGrants}
 use Rattle.payouts.specs.Tallies.{Remembers, Weighing}
 use Rattle.payouts.specs.Totals.{HasSums}
-use Rattle.session_table.specs.Tables.{OtherEventsLeaveSessions, SessionTable, ShowsSessions}
-use Rattle.share_judging.specs.Headers.{HeaderSet, ShowsHeaders}
+use Rattle.pool_tables.specs.Tables.{OtherEventsLeaveSessions, SessionTable, ShowsSessions}
+use Rattle.pool_tables.specs.Headers.{HeaderSet, ShowsHeaders}
 use Rattle.template_jobs.specs.Tables.{HasCoinbases, JobTable, TakesMove}
 use Rattle.template_jobs.specs.Told.{MovesAreTold, WasTold}
 use Rattle.share_ledger.specs.Tables.{AreTables, LedgerTables, WereTold}
@@ -32,7 +32,7 @@ use Rattle.share_ledger.specs.Planning.{IsOfChannels}
 pub grown : (old new : LedgerTables) (next : Event) → (is : AreTables old) → new.history.events ≡ old.history.events ++ next ∷ []
     → KeepsOn old.history.events (next ∷ []) → WereTold is.rules new (next ∷ past_of old.history.events) → AreTables new
 grown old new next is events keeps told = record {
-  kept = subst (λ (h : List Event). Rattle.ledger_laws.specs.Keeping.IsKept h) (sym events) keeps.kept;
+  kept = subst (λ (h : List Event). Rattle.ledger_records.specs.Keeping.IsKept h) (sym events) keeps.kept;
   rules = is.rules;
   told = subst (λ (p : List Event). WereTold is.rules new p) (sym (ap past_of events ∙ past-one old.history.events next)) told;
 }

@@ -7,7 +7,7 @@ use Rattle.std.specs.Str.{bytes_eq}
 use Rattle.pool_history.specs.Crediting.{Booked}
 use Rattle.payouts.specs.Tallies.{DiffersInRoom, Remembers, Weighing}
 use Rattle.payouts.specs.Totals.{HasSums}
-use Rattle.share_judging.specs.Headers.{HeaderSet}
+use Rattle.pool_tables.specs.Headers.{HeaderSet}
 use Rattle.pool_history.specs.declared.asking.Request.{Request}
 use Rattle.pool_history.specs.declared.events.Event.{Event}
 use Rattle.pool_history.specs.declared.settings.Rules.{Rules}
@@ -24,7 +24,7 @@ use Rattle.history_laws.proofs.Legalities.{some-same}
 use Rattle.history_laws.proofs.Ranges.{least-range, legal-rules, script-range}
 use Rattle.channels.specs.Histories.{TablesShowHistories}
 use Rattle.template_jobs.specs.Tables.{kept_jobs}
-use Rattle.share_judging.specs.Admission.{ShowsShares}
+use Rattle.pool_tables.specs.Admission.{ShowsShares}
 use Rattle.share_ledger.specs.Planning.{Changes, IsStep, IsStepWithin, past_in, step_within}
 use Rattle.share_ledger.specs.declared.planning.Change.{Change}
 use Rattle.share_ledger.specs.Tables.{AreTables, LedgerTables, WereTold}

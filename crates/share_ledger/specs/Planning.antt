@@ -19,15 +19,15 @@ use Rattle.pool_history.specs.Jobs.{FromMiner, FromTemplate, future_in}
 use Rattle.pool_history.specs.Refusing.{most_enters, most_grants}
 use Rattle.pool_history.specs.Sessions.{past_of, rules_of, script_of}
 use Rattle.history_laws.specs.AskedPlaces.{is_asked_after}
-use Rattle.ledger_laws.specs.Keeping.{KeepsOn}
+use Rattle.ledger_records.specs.Keeping.{KeepsOn}
 use Rattle.channels.specs.Plans.{CanApply, IsAskedAsPlanned, planned_move}
 use Rattle.channels.specs.declared.plan.ChannelPlan.{ChannelPlan}
 use Rattle.channels.specs.declared.plan.ChannelPlan.TheVariants as channel_plan
 use Rattle.event_store.specs.Blocks.{is_block_event}
-use Rattle.grant_table.specs.Tables.{MaySpend, granted_count}
+use Rattle.pool_tables.specs.GrantTables.{MaySpend, granted_count}
 use Rattle.payouts.specs.Plans.{BlockPlan, Planning}
 use Rattle.payouts.specs.Plans as tallies
-use Rattle.session_table.specs.Tables.{entered_count}
+use Rattle.pool_tables.specs.Tables.{entered_count}
 use Rattle.template_jobs.specs.Plans.{IsPlannedAs, PlannedJob}
 use Rattle.template_jobs.specs.Tables.{kept_jobs}
 use Rattle.template_jobs.specs.Tables as job_tables

@@ -4,7 +4,7 @@ use Rattle.pool_io.specs.Crashes.{RoseTo}
 use Rattle.pool_io.specs.Seen.{KeeperSeen}
 use Rattle.pool_history.specs.declared.events.Event.{Event}
 use Rattle.pool_history.specs.Ledger.{kept_records}
-use Rattle.ledger_laws.specs.Keeping.{KeepsOn}
+use Rattle.ledger_records.specs.Keeping.{KeepsOn}
 
 -- the records that a history has at a keeper: its pieces, and none where it has no event
 abbrev pub pieces_of : List Event → List (List ℕ)

@@ -8,14 +8,14 @@ use Rattle.pool_history.specs.Crediting as crediting
 use Rattle.pool_history.specs.Jobs.{job_moves}
 use Rattle.pool_history.specs.Sessions.{past_of, rules_of}
 use Rattle.history_laws.specs.AskedPlaces.{is_asked_after}
-use Rattle.ledger_laws.specs.Keeping.{IsKept}
+use Rattle.ledger_records.specs.Keeping.{IsKept}
 use Rattle.channels.specs.Tables.{ChannelTable, IsTold}
 use Rattle.event_store.specs.Kept.{KeptHistory}
-use Rattle.grant_table.specs.Tables.{GrantTable, ShowsGrants}
+use Rattle.pool_tables.specs.GrantTables.{GrantTable, ShowsGrants}
 use Rattle.payouts.specs.Tallies.{Remembers, Weighing}
 use Rattle.payouts.specs.Totals.{HasSums}
-use Rattle.session_table.specs.Tables.{SessionTable, ShowsSessions}
-use Rattle.share_judging.specs.Headers.{HeaderSet, ShowsHeaders}
+use Rattle.pool_tables.specs.Tables.{SessionTable, ShowsSessions}
+use Rattle.pool_tables.specs.Headers.{HeaderSet, ShowsHeaders}
 use Rattle.template_jobs.specs.Tables.{HasCoinbases, JobTable}
 use Rattle.template_jobs.specs.Told.{WasTold}
 

@@ -3,9 +3,9 @@
 use crate::keeping::{carry_out, keep_start};
 use crate::tables::Tables;
 use event_store::History;
+use payouts::write_summary;
 use pool_history::{BookError, Reply, Request, Rules};
 use pool_io::Keeper;
-use pool_summary::write_summary;
 use std::alloc::{AllocError, Global};
 use std::marker::Model;
 
@@ -24,7 +24,7 @@ pub struct Book<K: Keeper> {
 
 impl<K: Keeper> Model for Book<K> {
     ghost use Rattle.std.specs.Prelude.{◌≡◌};
-    ghost use Rattle.ledger_laws.specs.Growing.{hash_after};
+    ghost use Rattle.ledger_records.specs.Growing.{hash_after};
     ghost use Rattle.share_ledger.specs.Books.{BookSeen, KeepsLedger};
     ghost use Rattle.share_ledger.specs.Recovery.{IsRecoverable};
 
@@ -49,8 +49,8 @@ impl<K: Keeper> Book<K> {
     ghost use Rattle.pool_history.specs.Sessions.{past_of};
     ghost use Rattle.pool_history.specs.Summary.{summary_of, summary_text};
     ghost use Rattle.pool_history.specs.Calls.{blames_keeper};
-    ghost use Rattle.ledger_laws.specs.Growing.{hash_after};
-    ghost use Rattle.ledger_laws.specs.Keeping.{IsKept};
+    ghost use Rattle.ledger_records.specs.Growing.{hash_after};
+    ghost use Rattle.ledger_records.specs.Keeping.{IsKept};
     ghost use Rattle.pool_io.specs.Outside.{CountsFailure};
     ghost use Rattle.share_ledger.specs.Books.{IsReplied, IsUnused, KeepsInstead, KeepsLedger, is_keeper_fault};
     ghost use Rattle.share_ledger.specs.Recovery.{IsRecoverable, IsStored, KeepsBeginning};

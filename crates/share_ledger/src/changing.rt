@@ -3,9 +3,8 @@
 use crate::planning::{Change, Crediting};
 use crate::tables::Tables;
 use channels::ChannelPlan;
-use grant_table::other_events_leave_grants;
 use pool_history::{Event, Role, TipData};
-use session_table::other_events_leave_sessions;
+use pool_tables::{other_events_leave_grants, other_events_leave_sessions};
 use sv2_types::{Blob, Hashes, Str255};
 use template_jobs::{JobPlan, moves_are_told};
 

@@ -2,7 +2,7 @@
 
 use crate::planning::Step;
 use crate::tables::Tables;
-use ledger_laws::{answers_can_be_kept, request_fits};
+use ledger_records::{answers_can_be_kept, request_fits};
 use pool_history::{Reply, Request};
 use std::alloc::{AllocError, Global};
 

@@ -3,18 +3,17 @@
 ghost use Rattle.std.specs.Prelude.{◌≡◌, ◌∷◌, [], ◌++◌, ◌≤◌, List, length, IfOk, IfErr, OnErr, OnOk};
 ghost use Rattle.pool_history.specs.declared.events.Event.{Event};
 ghost use Rattle.pool_history.specs.Ledger.{HasRecord, kept_records, ledger_text};
-ghost use Rattle.ledger_laws.specs.Growing.{hash_after};
+ghost use Rattle.ledger_records.specs.Growing.{hash_after};
 ghost use Rattle.ledger_records.specs.Pieces.{piece_behind};
 ghost use Rattle.pool_io.specs.Outside.{AddsRecord, CountsFailure};
-ghost use Rattle.ledger_laws.specs.Keeping.{KeepsOn};
+ghost use Rattle.ledger_records.specs.Keeping.{KeepsOn};
 ghost use Rattle.share_ledger.specs.Books.{KeepsInstead, KeepsLedger, is_keeper_fault};
 ghost use Rattle.share_ledger.specs.Recovery.{IsRecoverable, KeepsBeginning, RecoversNext, pieces_of};
 ghost use Rattle.share_ledger.specs.Planning.{Changes, IsNext, IsReady, MakesStep};
 
 use crate::planning::{Planned, Step};
 use crate::tables::Tables;
-use ledger_laws::{ledgers_grow, pieces_grow};
-use ledger_records::{write_first_piece, write_piece};
+use ledger_records::{ledgers_grow, pieces_grow, write_first_piece, write_piece};
 use pool_history::{BookError, Event, Reply};
 use pool_io::{Keeper, KeeperFailed};
 use std::alloc::{AllocError, Global};

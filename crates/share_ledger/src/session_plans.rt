@@ -3,7 +3,7 @@
 use crate::planning::{Change, Planned, Step};
 use crate::tables::Tables;
 use pool_history::{Event, Reply, Request, Role, SessionNumber};
-use session_table::Entered;
+use pool_tables::Entered;
 use std::alloc::AllocError;
 
 /// The most Enter events of a history.

@@ -5,8 +5,8 @@ use crate::tables::Tables;
 use channels::{Channels, tables_show_histories};
 use payouts::{Tally, TallyPlan};
 use pool_history::{Checked, Event, Failed, Reply, Submission};
-use share_check::{brief_of, checked_headers_are_rebuilt, header_by_parts};
-use share_judging::{Passed, admit};
+use pool_tables::{Passed, admit};
+use share_headers::{brief_of, checked_headers_are_rebuilt, header_by_parts};
 use std::alloc::{AllocError, Global};
 use sv2_types::Blob;
 
@@ -16,7 +16,7 @@ impl Tables {
     ghost use Rattle.pool_history.specs.Judging.{share_of};
     ghost use Rattle.pool_history.specs.Sessions.{rules_of};
     ghost use Rattle.share_ledger.specs.Planning.{IsStepWithin, past_in};
-    ghost use Rattle.share_judging.specs.Passing.{IsPayable};
+    ghost use Rattle.pool_tables.specs.Passing.{IsPayable};
     ghost use Rattle.share_ledger.specs.Shares.{IsPassed, failed_within};
     ghost use Rattle.share_ledger.specs.Booking.{BooksPassed};
 
@@ -124,7 +124,7 @@ fn credit_event(alloc: Global, session: u32, sub: &Submission) -> Result<Event, 
 }
 
 ghost use Rattle.std.specs.Prelude.{ℕ, ◌+◌, ◌<◌, ◌≤◌, ◌^◌, if◌then◌else◌, List, None, Some};
-ghost use Rattle.share_judging.specs.Passing.{IsPayable};
+ghost use Rattle.pool_tables.specs.Passing.{IsPayable};
 ghost use Rattle.std.specs.Option.{option_map};
 ghost use Rattle.pool_history.specs.Channels.{channel_in};
 ghost use Rattle.payouts.specs.Plans.{Fits, IsPlanOf};

@@ -2,12 +2,12 @@
 
 use channels::Channels;
 use event_store::History;
-use grant_table::{Grants, other_events_leave_grants};
-use ledger_laws::{fields_fit, starts_are_kept};
+use ledger_records::{fields_fit, starts_are_kept};
 use payouts::{Rule, Tally};
 use pool_history::{Event, Rules};
-use session_table::{Sessions, other_events_leave_sessions};
-use share_judging::Headers;
+use pool_tables::{
+    Grants, Headers, Sessions, other_events_leave_grants, other_events_leave_sessions,
+};
 use std::alloc::{AllocError, Global};
 use std::marker::Model;
 use template_jobs::Jobs;
@@ -57,7 +57,7 @@ impl Tables {
     ghost use Rattle.pool_history.specs.declared.events.Event.TheVariants as event;
     ghost use Rattle.pool_history.specs.Accounts.{are_in_range};
     ghost use Rattle.history_laws.specs.Legality.{Starts};
-    ghost use Rattle.ledger_laws.specs.Keeping.{IsKept};
+    ghost use Rattle.ledger_records.specs.Keeping.{IsKept};
 
     /// The tables of a pool that starts.
     pub(crate) fn start(alloc: Global, rules: Rules) -> Result<Tables, AllocError>
@@ -123,7 +123,7 @@ impl Tables {
 }
 
 ghost use Rattle.std.specs.Prelude.{◌≡◌, Some, slice_get};
-ghost use Rattle.ledger_laws.specs.WellFormed.{IsWellFormed};
+ghost use Rattle.ledger_records.specs.WellFormed.{IsWellFormed};
 ghost use Rattle.pool_history.specs.declared.events.Event.{Event};
 ghost use Rattle.payouts.specs.Tallies.{window_of};
 

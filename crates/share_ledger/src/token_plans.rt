@@ -2,10 +2,10 @@
 
 use crate::planning::{Change, Planned, Step};
 use crate::tables::Tables;
-use channels::{account_in, tables_show_histories};
+use channels::tables_show_histories;
 use coinbase::OutputsError;
-use grant_table::{grant_refusal_of, own_job_refusal};
-use pool_history::{Boxed, CustomData, CustomError, Event, Reply, Script};
+use pool_history::{Boxed, CustomData, CustomError, Event, Reply, Script, account_in};
+use pool_tables::{grant_refusal_of, own_job_refusal};
 use std::alloc::{AllocError, Global};
 use sv2_types::{Blob, Hashes, Str255};
 use template_jobs::histories_are_read;

@@ -16,7 +16,7 @@ use Rattle.stream_commands.specs.Owing.{OwesRefusal, OwesSome, OwesFront, StopsA
 use Rattle.stream_commands.specs.Ending.{EndsCommand}
 use Rattle.stream_commands.specs.Between.{HasAnswered, EndsAfter, EndsAt, GoesOnOrEnds, TurnsOnOrEnds}
 use Rattle.stream_commands.proofs.Fronts.{free_none}
-use Rattle.stream_commands.proofs.Puts.{Adds-none, Adds-more}
+use Rattle.pool_io.proofs.Puts.{Adds-none, Adds-more}
 use Rattle.stream_commands.proofs.Staying.{brought_at_end, brought_at_failure}
 
 -- before the first turn

@@ -3,5 +3,4 @@ pub mod Driving
 pub mod Fronts
 pub mod OneEnd
 pub mod Pieces
-pub mod Puts
 pub mod Staying

@@ -9,8 +9,8 @@ ghost use Rattle.stream_commands.specs.Between.{IsBelowLimits, HasAnswered, Ends
 ghost use Rattle.stream_commands.specs.Ending.{EndsCommand, DecideEnd, is_read_fault, is_write_fault};
 
 use crate::tally::Tally;
-use crate::{End, IDLE_TURNS, MOST_BYTES, PIECE_LEN, Stop, StreamCommand, put_all};
-use pool_io::{Sink, SinkFailed, Source, Took};
+use crate::{End, IDLE_TURNS, Stop, StreamCommand, put_all};
+use pool_io::{MOST_BYTES, PIECE_LEN, Sink, SinkFailed, Source, Took};
 use std::alloc::{AllocError, Global};
 
 /// A command between two turns of its source.

@@ -31,9 +31,3 @@ pub use text::put_text;
 
 /// The most Idle answers in a row: an hour of a source that waits a tenth of a second.
 pub const IDLE_TURNS: u64 = 36_000;
-
-/// The most bytes that are taken.
-pub const MOST_BYTES: u64 = 1 << 40;
-
-/// The most bytes that are taken at once.
-pub const PIECE_LEN: usize = 4096;

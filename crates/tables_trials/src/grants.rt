@@ -1,6 +1,6 @@
 //! The tokens that were granted, and those that are spent.
 
-use grant_table::Grants;
+use pool_tables::Grants;
 use std::alloc::Global;
 use sv2_types::{Hashes, Str255};
 use trial_support::{Subject, bytes, told, word};

@@ -3,9 +3,9 @@
 ghost use Rattle.std.specs.Prelude.{IfSome};
 ghost use Rattle.pool_history.specs.Ledger.{HasRecord};
 
-use ledger_laws::record_kind;
 use ledger_records::{
-    RecordError, chain, magic_hash, read_record, write_first_piece, write_piece, write_record,
+    RecordError, chain, magic_hash, read_record, record_kind, write_first_piece, write_piece,
+    write_record,
 };
 use pool_history::Event;
 use std::alloc::Global;

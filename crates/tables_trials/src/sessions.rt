@@ -1,7 +1,7 @@
 //! The sessions that were entered, and those that are present.
 
 use pool_history::Role;
-use session_table::Sessions;
+use pool_tables::Sessions;
 use std::alloc::Global;
 use trial_support::{Subject, number, role, told, word};
 

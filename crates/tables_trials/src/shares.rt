@@ -5,10 +5,10 @@ ghost use Rattle.std.specs.Prelude.{◌≡◌, ◌+◌, ◌≤◌, length};
 use coinbase::Assembly;
 use hex::FromHex;
 use pool_history::{Kind, Lead, RootSource, Submission};
-use share_check::{
+use pool_tables::Headers;
+use share_headers::{
     Parts, brief_of, check, header_by_parts, header_of, is_brief_of, parts_of, rolled_length,
 };
-use share_judging::Headers;
 use std::alloc::Global;
 use std::sync::Arc;
 use sv2_types::Hashes;

@@ -5,8 +5,7 @@ ghost use Rattle.std.specs.Prelude.{◌+◌, ◌<◌, ◌≤◌, ◌^◌, IsTrue
 
 use crate::plain::PlainTally;
 use crate::random::random_after;
-use payouts::{Rule, Settlement, Tally, quotient};
-use pool_summary::write_summary;
+use payouts::{Rule, Settlement, Tally, quotient, write_summary};
 use std::alloc::Global;
 use std::str;
 use trial_support::{Subject, number, text, told, word};

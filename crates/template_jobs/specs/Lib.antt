@@ -1,6 +1,5 @@
 pub mod HeldJobs
 pub mod Lists
-pub mod Messages
 pub mod Owners
 pub mod Plans
 pub mod Refusals

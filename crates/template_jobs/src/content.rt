@@ -1,9 +1,9 @@
 //! What a job is made from, with its coinbase.
 
-use crate::making::{copy_custom, copy_template, custom_coinbase, shared_root, template_coinbase};
+use crate::making::{copy_custom, copy_template, custom_coinbase, shared_root};
 use crate::origin::{Origin, Shelf};
 use coinbase::OutputsError;
-use pool_history::{CustomData, JobError, RootSource, TemplateData};
+use pool_history::{CustomData, JobError, RootSource, TemplateData, template_coinbase};
 use std::alloc::Global;
 use std::marker::Model;
 use std::sync::Arc;
@@ -44,7 +44,8 @@ impl JobContent {
     ghost use Rattle.pool_history.specs.Judging.{custom_terms, path_of, template_terms, version_of};
     ghost use Rattle.pool_history.specs.Refusing.{coinbase_refusal};
     ghost use Rattle.template_jobs.specs.HeldJobs.{IsContentOf, channel_of, own_min_ntime, shelf_of, template_id_of};
-    ghost use Rattle.template_jobs.specs.Refusals.{RefusesAsMade, RefusesAsTold};
+    ghost use Rattle.pool_history.specs.JobRefusals.{RefusesAsTold};
+    ghost use Rattle.template_jobs.specs.Refusals.{RefusesAsMade};
 
     /// Of a template, with the pool's script.
     pub(crate) fn of_template(

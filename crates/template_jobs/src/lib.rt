@@ -14,6 +14,5 @@ mod table;
 
 pub use job::Job;
 pub use laws::{histories_are_read, moves_are_told};
-pub use making::template_coinbase;
 pub use messages::{custom_of, template_of, tip_of};
 pub use table::{JobPlan, Jobs};

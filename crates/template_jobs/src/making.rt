@@ -1,50 +1,17 @@
-//! Coinbases of templates and of miners' own jobs, and copies of what they are made from.
+//! Coinbases of miners' own jobs, and copies of what they are made from.
 
 ghost use Rattle.std.specs.Prelude.{◌≡◌, ◌^◌, ◌<◌, ◌≤◌, length, IfOk};
-ghost use Rattle.coinbase.specs.Coin.{template_assembly, template_parts};
 ghost use Rattle.coinbase.specs.Custom.{custom_assembly};
 ghost use Rattle.pool_history.specs.Crediting.{reward_of};
 ghost use Rattle.pool_history.specs.Jobs.{FromMiner, FromTemplate};
-ghost use Rattle.pool_history.specs.Judging.{custom_terms, job_parts, template_terms};
-ghost use Rattle.pool_history.specs.Refusing.{coinbase_refusal};
-ghost use Rattle.template_jobs.specs.Refusals.{RefusesAsMade, RefusesAsTold};
+ghost use Rattle.pool_history.specs.Judging.{custom_terms, job_parts};
+ghost use Rattle.template_jobs.specs.Refusals.{RefusesAsMade};
 
-use coinbase::{Assembly, AssemblyError, CustomRecipe, OutputsError, Recipe};
-use pool_history::{CustomData, JobError, RootSource, TemplateData};
+use coinbase::{Assembly, CustomRecipe, OutputsError};
+use pool_history::{CustomData, RootSource, TemplateData};
 use std::alloc::{AllocError, Global};
 use std::sync::Arc;
 use sv2_types::{Blob, Hashes};
-
-/// The coinbase of a template's job, with the pool's script. The job of a table has its own; this
-/// puts it together again from the template alone.
-pub fn template_coinbase(
-    alloc: Global,
-    template: &TemplateData,
-    script: &[u8],
-) -> Result<Assembly, JobError>
-    requires some { 1 ≤ length script.now }
-    requires short { length script.now ≤ 100 }
-    ensures made { IfOk result (λ parts. parts
-        ≡ template_parts (template_terms template.now) script.now) }
-    ensures small { IfOk result (λ parts. template.now.coinbase_tx_value_remaining < 2 ^ 40) }
-    ensures refusal { RefusesAsTold result
-        (coinbase_refusal (template_assembly (template_terms template.now) script.now)) }
-{
-    let recipe = Recipe {
-        tx_version: template.coinbase_tx_version,
-        prefix: template.coinbase_prefix.bytes(),
-        sequence: template.coinbase_tx_input_sequence,
-        reward: template.coinbase_tx_value_remaining,
-        outputs_count: template.coinbase_tx_outputs_count,
-        outputs: template.coinbase_tx_outputs.bytes(),
-        lock_time: template.coinbase_tx_locktime,
-    };
-    match Assembly::of(alloc, &recipe, script) {
-        Ok(coinbase) => Ok(coinbase),
-        Err(AssemblyError::Memory) => Err(JobError::Memory),
-        Err(error) => Err(JobError::Coinbase(error)),
-    }
-}
 
 /// The coinbase of a miner's own job, with the pool's script, and its reward in satoshis.
 pub(crate) fn custom_coinbase(

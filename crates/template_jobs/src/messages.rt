@@ -2,7 +2,7 @@
 
 ghost use Rattle.std.specs.Prelude.{◌≡◌, ◌≤◌, length, IfOk};
 ghost use Rattle.mining_msgs.specs.Seen.{set_custom_mining_job};
-ghost use Rattle.template_jobs.specs.Messages.{custom_fields, template_fields, tip_fields};
+ghost use Rattle.pool_history.specs.OwnedFields.{custom_fields, template_fields, tip_fields};
 ghost use Rattle.template_msgs.specs.Seen.{new_template, template_set_new_prev_hash};
 
 use mining_msgs::SetCustomMiningJob;

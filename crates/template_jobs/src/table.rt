@@ -88,7 +88,8 @@ impl Jobs {
     ghost use Rattle.pool_history.specs.Judging.{custom_terms};
     ghost use Rattle.template_jobs.specs.HeldJobs.{HasCoinbase, as_job, shelf_of};
     ghost use Rattle.template_jobs.specs.Plans.{IsPlannedAs};
-    ghost use Rattle.template_jobs.specs.Refusals.{RefusesAsMade, RefusesAsTold};
+    ghost use Rattle.pool_history.specs.JobRefusals.{RefusesAsTold};
+    ghost use Rattle.template_jobs.specs.Refusals.{RefusesAsMade};
     ghost use Rattle.template_jobs.specs.Tables.{AppliesPlan, Fits, HasCoinbases, IsSameButRoom, TakesMove, Admits, held_jobs, kept_jobs, refusal_of};
 
     /// No job was told, and no tip.

@@ -1,3 +1,6 @@
+pub mod Holding
+pub mod Lines
+pub mod Reading
 pub mod Errors
 pub mod HexNumbers
 pub mod Jobs

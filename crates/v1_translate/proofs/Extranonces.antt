@@ -4,7 +4,7 @@ use Rattle.std.proofs.lemmas.Bool.{cases_Bool, leb-true}
 use Rattle.std.specs.Result.{result_ok}
 use Rattle.hex.specs.Hex.{decode_of, decode_pairs}
 use Rattle.hex.proofs.HexLemmas.{decode_pairs-ok}
-use Rattle.v1_rules.specs.Submitting.{extranonce_in}
+use Rattle.v1_translate.specs.Submitting.{extranonce_in}
 
 is_ok_by : {E : Type 0} (r : Result (List ℕ) E) (bytes : List ℕ) → Some bytes ≡ result_ok r → r ≡ Ok bytes
 is_ok_by (Ok found) bytes same = cc

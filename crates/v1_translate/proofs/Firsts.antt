@@ -3,10 +3,10 @@ use Rattle.std.proofs.Common.{◌≡◌, ℕ, zero, suc, ◌+◌, ◌<◌, ◌�
 use Rattle.std.specs.List.{position_or_len, remove}
 use Rattle.std.proofs.lemmas.Bool.{cases_Bool, cases_lt, lt-ltb}
 use Rattle.std.proofs.lemmas.List.Quantifiers.{position-Some}
-use Rattle.v1_rules.specs.Heard.{ToldJob}
-use Rattle.v1_rules.specs.Messages.{answered, still_waiting}
-use Rattle.v1_rules.specs.State.{Waiting}
-use Rattle.v1_rules.specs.Submitting.{job_among}
+use Rattle.v1_translate.specs.Heard.{ToldJob}
+use Rattle.v1_translate.specs.Messages.{answered, still_waiting}
+use Rattle.v1_translate.specs.State.{Waiting}
+use Rattle.v1_translate.specs.Submitting.{job_among}
 
 abbrev pub has_number : ℕ → ToldJob → Bool
 has_number number job = job.number == number

@@ -6,8 +6,8 @@ use Rattle.block_header.specs.Target.{number_bytes, target, target_number}
 use Rattle.sv2_types.specs.Fields.{U16, U32, UINT256, F32, STR0_255, B0_32}
 use Rattle.sv2_messages.specs.Messages.{FitsFrame}
 use Rattle.sv2_messages.specs.Tables.{mining_table}
-use Rattle.v1_rules.specs.Asked.{open_message, share_message, update_message}
-use Rattle.v1_rules.specs.State.{SentShare}
+use Rattle.v1_translate.specs.Asked.{open_message, share_message, update_message}
+use Rattle.v1_translate.specs.State.{SentShare}
 use Rattle.v1_translate.specs.Small.{IsSmall}
 
 number_bytes_length : (n number : ℕ) → length (number_bytes n number) ≡ n

@@ -1,3 +1,9 @@
+pub mod Balance
+pub mod Asks
+pub mod Bits
+pub mod Exponents
+pub mod Held
+pub mod States
 pub mod Extranonces
 pub mod Firsts
 pub mod Fitting

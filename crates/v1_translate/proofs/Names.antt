@@ -14,7 +14,7 @@ use Rattle.serde_json.specs.View.{items_view, view}
 use Rattle.serde_json.specs.Written.{has_float, members_have_float}
 use Rattle.serde_json.specs.declared.value.Value.{Value}
 use Rattle.v1_lines.specs.HexNumbers.{word_text}
-use Rattle.v1_rules.specs.Configuring.{configured_value, refused_names, texts_in}
+use Rattle.v1_translate.specs.Configuring.{configured_value, refused_names, texts_in}
 
 -- ---- texts
 

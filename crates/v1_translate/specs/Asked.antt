@@ -1,43 +1,43 @@
--- What a request asks for, without where its texts lie in memory.
-use Rattle.std.specs.Prelude.{ℕ, Bool, true, false, if◌then◌else◌, None, Some, List, [], map}
-use Rattle.serde_json.specs.Data.{Data}
-use Rattle.pool_history.specs.Accounts.{is_known}
-use Rattle.v1_lines.specs.declared.errors.V1Error.TheVariants.{UnauthorizedWorker}
-use Rattle.v1_rules.specs.Configuring as configuring
-use Rattle.v1_rules.specs.Lines.{yes}
-use Rattle.v1_rules.specs.Messages.{to_subscriber}
-use Rattle.v1_rules.specs.State.{Terms, V1State, Naming, Answer, Refusal, CodeRefusal, Name, Silence, Reaction, saying}
-use Rattle.v1_translate.specs.declared.configuring.Configuration.{Configuration}
+-- What is asked of the pool, as messages of Stratum V2.
+use Rattle.std.specs.Prelude.{ℕ, Option, None, Some, [], ◌∷◌}
+use Rattle.block_header.specs.Target.{target}
+use Rattle.sv2_messages.specs.Messages.{Message}
+use Rattle.sv2_messages.specs.declared.kinds.TheConstants as kinds
+use Rattle.sv2_types.specs.Fields.{FieldValue, Number, Bytes}
+use Rattle.v1_translate.specs.State.{Asking, Silence, Open, Update, Share, Name, SentShare}
 
-abbrev pub configuration_by : Configuration → configuring.Configuration
-configuration_by configuration =
+-- no hash rate is said
+abbrev pub no_rate : FieldValue
+no_rate = Bytes (0 ∷ 0 ∷ 0 ∷ 0 ∷ [])
+
+-- a channel without a user, on which 8 bytes are rolled
+abbrev pub open_message : ℕ → Message
+open_message class =
     record {
-      names = map (λ name. name.now) configuration.names.items;
-      asked = configuration.asked;
+      kind = kinds.OPEN_EXTENDED_MINING_CHANNEL;
+      fields = Number 0 ∷ Bytes [] ∷ no_rate ∷ Bytes (target class) ∷ Number 8 ∷ [];
     }
 
--- an account is asked for where it is known
-abbrev pub name_asked : Terms → V1State → Data → List ℕ → Reaction
-name_asked terms state id account =
-    if is_known terms.rules account
-    then record {
-      after = record state { naming = Some (record { id = id; account = account }) };
-      says = [];
-      asks = Name account;
-    }
-    else saying state (Refusal id UnauthorizedWorker)
-
--- an opening is refused to who waits for it
-abbrev pub not_opened : V1State → List ℕ → Reaction
-not_opened state code =
+abbrev pub update_message : ℕ → ℕ → Message
+update_message channel class =
     record {
-      after = record state { subscriber = None };
-      says = to_subscriber state.subscriber (λ id. CodeRefusal id code);
-      asks = Silence;
+      kind = kinds.UPDATE_CHANNEL;
+      fields = Number channel ∷ no_rate ∷ Bytes (target class) ∷ [];
     }
 
--- an account that was asked for is taken or refused
-abbrev pub named : V1State → Naming → Bool → Reaction
-named state naming true =
-    saying (record state { account = Some naming.account }) (Answer naming.id yes)
-named state naming false = saying state (Refusal naming.id UnauthorizedWorker)
+abbrev pub share_message : SentShare → Message
+share_message share =
+    record {
+      kind = kinds.SUBMIT_SHARES_EXTENDED;
+      fields =
+          Number share.channel ∷ Number share.sequence ∷ Number share.job ∷ Number share.nonce ∷
+          Number share.ntime ∷ Number share.version ∷ Bytes share.extranonce ∷ [];
+    }
+
+-- a name is no message
+abbrev pub message_asked : Asking → Option Message
+message_asked Silence = None
+message_asked (Open class) = Some (open_message class)
+message_asked (Update channel class) = Some (update_message channel class)
+message_asked (Share share) = Some (share_message share)
+message_asked (Name account) = None

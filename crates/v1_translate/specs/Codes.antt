@@ -6,8 +6,8 @@ use Rattle.std.specs.Coded.{Coded, code_by, coded×, coded_list, coded_option, c
 use base.Stored.{Gv, gnil, gnum, gcons, coded_float}
 use mathlib.Core.Path.{ap, sym, subst}
 use Rattle.serde_json.specs.Data.{Num, unsigned, negative, float, Data, null, boolean, number, string, array, object, Items, no_items, item, Members, no_members, member}
-use Rattle.v1_rules.specs.Heard.{ToldJob}
-use Rattle.v1_rules.specs.State.{HeldJobs, Naming, Tip, V1State, Waiting}
+use Rattle.v1_translate.specs.Heard.{ToldJob}
+use Rattle.v1_translate.specs.State.{HeldJobs, Naming, Tip, V1State, Waiting}
 
 -- ---- values of JSON, as trees
 

@@ -1,6 +1,16 @@
 pub mod Asked
-pub mod Codes
+pub mod Configuring
+pub mod Difficulty
+pub mod Heard
+pub mod Laws
+pub mod Lines
 pub mod Messages
+pub mod Sessions
+pub mod State
+pub mod Submitting
+pub mod AskedUpstream
+pub mod Codes
+pub mod SentMessages
 pub mod Saying
 pub mod Shares
 pub mod Small

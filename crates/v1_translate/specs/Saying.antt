@@ -3,8 +3,8 @@ use Rattle.std.specs.Prelude.{◌≡◌, ℕ, List, [], ◌∷◌, ◌++◌}
 use Rattle.sv2_messages.specs.Messages.{Message, message_frame}
 use Rattle.sv2_messages.specs.Tables.{mining_table}
 use Rattle.v1_lines.specs.Replies.{written_line}
-use Rattle.v1_rules.specs.Asked.{open_message, share_message, update_message}
-use Rattle.v1_rules.specs.State.{V1State, Saying, saying_value, Asking, Silence, Open, Update, Share, Name, Reaction}
+use Rattle.v1_translate.specs.Asked.{open_message, share_message, update_message}
+use Rattle.v1_translate.specs.State.{V1State, Saying, saying_value, Asking, Silence, Open, Update, Share, Name, Reaction}
 use Rattle.v1_translate.specs.declared.asking.V1Ask.{V1Ask}
 use Rattle.v1_translate.specs.declared.asking.V1Ask.TheVariants as asks
 use Rattle.v1_translate.specs.declared.step.V1Step.{V1Step}

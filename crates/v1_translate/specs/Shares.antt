@@ -1,9 +1,9 @@
 -- Submissions that are sent on, and why others aren't.
 use Rattle.std.specs.Prelude.{Result, Ok, Err}
-use Rattle.v1_rules.specs.State.{SentShare}
-use Rattle.v1_rules.specs.Submitting as submitting
-use Rattle.v1_translate.specs.declared.shares.NotSent.{NotSent}
-use Rattle.v1_translate.specs.declared.shares.NotSent.TheVariants.{ByError, ByCode}
+use Rattle.v1_translate.specs.State.{SentShare}
+use Rattle.v1_translate.specs.Submitting as submitting
+use Rattle.v1_translate.specs.declared.submissions.NotSent.{NotSent}
+use Rattle.v1_translate.specs.declared.submissions.NotSent.TheVariants.{ByError, ByCode}
 
 -- a reason, without where its text lies in memory
 abbrev pub why_by : NotSent → submitting.NotSent

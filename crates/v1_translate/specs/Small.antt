@@ -1,6 +1,6 @@
 -- Shares that can be written.
 use Rattle.std.specs.Prelude.{◌<◌, ◌≤◌, ◌^◌, length}
-use Rattle.v1_rules.specs.State.{SentShare}
+use Rattle.v1_translate.specs.State.{SentShare}
 
 -- the numbers of a share are those of 32 bits
 pub record IsSmall (share : SentShare) : Type 0 where

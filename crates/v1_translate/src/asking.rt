@@ -1,15 +1,15 @@
 //! What is asked of the pool, and its frames.
 
 ghost use Rattle.std.specs.Prelude.{◌≡◌, ◌≤◌, IfOk};
-ghost use Rattle.v1_rules.specs.State as state;
+ghost use Rattle.v1_translate.specs.State as state;
 ghost use Rattle.v1_translate.specs.Saying.{Asks, asking_of};
 
-use crate::shares::CheckedShare;
 use crate::step::V1Step;
+use crate::submissions::CheckedShare;
+use crate::{open_message, update_message};
 use pool_history::Class;
 use std::alloc::AllocError;
 use sv2_types::Str255;
-use v1_rules::{open_message, update_message};
 
 /// What a session asks of the pool.
 #[derive(Drop)]

@@ -5,14 +5,14 @@ ghost use Rattle.std.specs.List.{list_any};
 ghost use Rattle.std.specs.Str.{bytes_eq};
 ghost use Rattle.serde_json.specs.View.{items_view, members_view, view};
 ghost use Rattle.serde_json.specs.Written.{has_float};
-ghost use Rattle.v1_rules.specs.Configuring as configuring;
-ghost use Rattle.v1_translate.specs.Asked.{configuration_by};
+ghost use Rattle.v1_translate.specs.Configuring as configuring;
+ghost use Rattle.v1_translate.specs.AskedUpstream.{configuration_by};
 
+use crate::{asked_mask, granted_mask};
 use pool_history::Rules;
 use serde_json::{Map, Value, put};
 use std::alloc::{AllocError, Global};
 use v1_lines::{MethodCall, word_text};
-use v1_rules::{asked_mask, granted_mask};
 
 /// What a request asks for: names, and a mask.
 #[derive(Drop)]

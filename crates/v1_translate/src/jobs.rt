@@ -1,15 +1,15 @@
 //! The jobs that a session holds.
 
 ghost use Rattle.std.specs.Prelude.{◌≡◌, ◌==◌, ◌∷◌, IfOk, option_map, position, take};
-ghost use Rattle.v1_rules.specs.Messages as messages;
-ghost use Rattle.v1_rules.specs.Submitting as submitting;
+ghost use Rattle.v1_translate.specs.Messages as messages;
+ghost use Rattle.v1_translate.specs.Submitting as submitting;
 
+use crate::rolled_version;
 use mining_msgs::NewExtendedMiningJob;
 use std::alloc::{AllocError, Global};
 use std::marker::Model;
 use sv2_types::U256;
 use v1_lines::NotifiedJob;
-use v1_rules::rolled_version;
 
 /// How many future jobs are held at most.
 const MOST_FUTURE: usize = 16;
@@ -28,7 +28,7 @@ pub(crate) struct HeldJob {
 }
 
 impl Model for HeldJob {
-    ghost use Rattle.v1_rules.specs.Heard.{ToldJob};
+    ghost use Rattle.v1_translate.specs.Heard.{ToldJob};
 
     ghost Value = { ToldJob };
 
@@ -44,9 +44,9 @@ impl Model for HeldJob {
 impl HeldJob {
     ghost use Rattle.std.specs.Prelude.{◌≡◌, IfOk};
     ghost use Rattle.v1_lines.specs.Jobs.{job_of};
-    ghost use Rattle.v1_rules.specs.Messages as messages;
-    ghost use Rattle.v1_rules.specs.State as state;
-    ghost use Rattle.v1_translate.specs.Messages.{job_in};
+    ghost use Rattle.v1_translate.specs.Messages as messages;
+    ghost use Rattle.v1_translate.specs.State as state;
+    ghost use Rattle.v1_translate.specs.SentMessages.{job_in};
 
     /// A copy of a message's own part.
     pub(crate) fn of(
@@ -111,7 +111,7 @@ pub(crate) struct HeldTip {
 }
 
 impl Model for HeldTip {
-    ghost use Rattle.v1_rules.specs.State.{Tip};
+    ghost use Rattle.v1_translate.specs.State.{Tip};
 
     ghost Value = { Tip };
 
@@ -137,7 +137,7 @@ pub(crate) struct Jobs {
 }
 
 impl Model for Jobs {
-    ghost use Rattle.v1_rules.specs.State.{HeldJobs};
+    ghost use Rattle.v1_translate.specs.State.{HeldJobs};
 
     ghost Value = { HeldJobs };
 
@@ -150,9 +150,9 @@ impl Model for Jobs {
 
 impl Jobs {
     ghost use Rattle.std.specs.Prelude.{◌≡◌, IfOk, Some, [], option_map};
-    ghost use Rattle.v1_rules.specs.Messages as messages;
-    ghost use Rattle.v1_rules.specs.State.{no_jobs};
-    ghost use Rattle.v1_rules.specs.Submitting as submitting;
+    ghost use Rattle.v1_translate.specs.Messages as messages;
+    ghost use Rattle.v1_translate.specs.State.{no_jobs};
+    ghost use Rattle.v1_translate.specs.Submitting as submitting;
 
     /// No job.
     pub(crate) fn new(alloc: Global) -> Jobs

@@ -4,7 +4,7 @@ ghost use Rattle.std.specs.Prelude.{◌≡◌, ◌++◌, false, IfOk};
 ghost use Rattle.serde_json.specs.View.{view};
 ghost use Rattle.serde_json.specs.Written.{has_float};
 ghost use Rattle.v1_lines.specs.Jobs.{job_of};
-ghost use Rattle.v1_rules.specs.State as state;
+ghost use Rattle.v1_translate.specs.State as state;
 ghost use Rattle.v1_translate.specs.declared.asking.V1Ask.TheVariants as asks;
 ghost use Rattle.v1_translate.specs.Saying.{line_of};
 

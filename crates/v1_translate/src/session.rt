@@ -5,22 +5,21 @@ use crate::configuring::{configuration_in, configured_value, granted};
 use crate::ids::LineId;
 use crate::jobs::{HeldJob, HeldTip, Jobs};
 use crate::sayings::{refuse, say_answer, say_code, say_difficulty, say_job, say_refusal};
-use crate::shares::{CheckedShare, NotSent, say_not_sent, works_for};
 use crate::step::V1Step;
+use crate::submissions::{CheckedShare, NotSent, say_not_sent, works_for};
 use crate::terms::V1Terms;
 use crate::waiting::{WaitingName, WaitingShare, put_waiting, take_waiting};
-use channels::{account_in, is_known_account};
+use crate::{
+    AskedShare, Method, are_within, asked_difficulty, asked_share, class_of_difficulty,
+    difficulty_of, extranonce_in, subscription_value,
+};
 use mining_msgs::{Mining, NewExtendedMiningJob, OpenExtendedMiningChannelSuccess, SetNewPrevHash};
-use pool_history::Class;
+use pool_history::{Class, account_in, is_known_account};
 use serde_json::Value;
 use std::alloc::{AllocError, Global};
 use std::marker::Model;
 use sv2_types::Str255;
 use v1_lines::{MethodCall, V1Error, call_in, hex_number, is_blank_line, line_value};
-use v1_rules::{
-    AskedShare, Method, are_within, asked_difficulty, asked_share, class_of_difficulty,
-    difficulty_of, extranonce_in, subscription_value,
-};
 
 /// A session of Stratum V1. Contracts see what `v1_rules` says that it knows.
 #[derive(Drop)]
@@ -37,7 +36,7 @@ pub struct V1Session {
 }
 
 impl Model for V1Session {
-    ghost use Rattle.v1_rules.specs.State.{V1State};
+    ghost use Rattle.v1_translate.specs.State.{V1State};
     ghost use Rattle.v1_translate.specs.Codes.{state_code};
 
     ghost Value = { V1State };
@@ -61,16 +60,16 @@ impl V1Session {
     ghost use Rattle.serde_json.specs.Find.{get_item};
     ghost use Rattle.serde_json.specs.View.{items_view, view};
     ghost use Rattle.v1_lines.specs.Requests as requests;
-    ghost use Rattle.v1_rules.specs.Configuring as configuring;
-    ghost use Rattle.v1_rules.specs.Difficulty.{asked_difficulty};
-    ghost use Rattle.v1_rules.specs.Heard as told;
-    ghost use Rattle.v1_rules.specs.Heard.{told_by, told_job};
-    ghost use Rattle.v1_rules.specs.Lines as lines;
-    ghost use Rattle.v1_rules.specs.Messages as messages;
-    ghost use Rattle.v1_rules.specs.State as state;
-    ghost use Rattle.v1_rules.specs.Submitting as submitting;
-    ghost use Rattle.v1_translate.specs.Asked as asked;
-    ghost use Rattle.v1_translate.specs.Messages.{job_in, tip_in};
+    ghost use Rattle.v1_translate.specs.Configuring as configuring;
+    ghost use Rattle.v1_translate.specs.Difficulty.{asked_difficulty};
+    ghost use Rattle.v1_translate.specs.Heard as told;
+    ghost use Rattle.v1_translate.specs.Heard.{told_by, told_job};
+    ghost use Rattle.v1_translate.specs.Lines as lines;
+    ghost use Rattle.v1_translate.specs.Messages as messages;
+    ghost use Rattle.v1_translate.specs.State as state;
+    ghost use Rattle.v1_translate.specs.Submitting as submitting;
+    ghost use Rattle.v1_translate.specs.AskedUpstream as asked;
+    ghost use Rattle.v1_translate.specs.SentMessages.{job_in, tip_in};
     ghost use Rattle.v1_translate.specs.Shares.{checked_by};
     ghost use Rattle.v1_translate.specs.Saying.{Asks, Says, asking_of, line_of};
 
@@ -139,7 +138,7 @@ impl V1Session {
     /// Hears a line of the miner, without its end. Appends what is said to `out`, and answers what
     /// is asked of the pool. Where memory runs out, nothing is told of what was appended or of the
     /// state.
-    #[tactic(auto, unfolding(v1_rules::specs::Lines::line_reaction))]
+    #[tactic(auto, unfolding(crate::specs::Lines::line_reaction))]
     pub fn hear_line(
         &mut self,
         alloc: Global,
@@ -345,7 +344,7 @@ impl V1Session {
 
     /// Hears a message of the pool, and appends what is said. Where memory runs out, nothing is told
     /// of what was appended or of the state.
-    #[tactic(auto, unfolding(v1_rules::specs::Messages::message_reaction))]
+    #[tactic(auto, unfolding(crate::specs::Messages::message_reaction))]
     pub fn on_message(
         &mut self,
         alloc: Global,
@@ -380,7 +379,7 @@ impl V1Session {
     }
 
     /// A channel is open: its lead and its difficulty are said.
-    #[tactic(auto, unfolding(v1_rules::specs::Messages::message_reaction))]
+    #[tactic(auto, unfolding(crate::specs::Messages::message_reaction))]
     fn on_opened(
         &mut self,
         alloc: Global,
@@ -511,7 +510,7 @@ impl V1Session {
 
     /// Hears whether the account that was asked for was taken, and appends what is said. Where memory
     /// runs out, nothing is told of what was appended or of the state.
-    #[tactic(auto, unfolding(v1_rules::specs::Messages::name_reaction))]
+    #[tactic(auto, unfolding(crate::specs::Messages::name_reaction))]
     pub fn on_named(
         &mut self,
         alloc: Global,

@@ -16,7 +16,7 @@ pub struct V1Terms {
 
 impl Model for V1Terms {
     ghost use Rattle.std.specs.Prelude.{◌≤◌};
-    ghost use Rattle.v1_rules.specs.State.{Terms};
+    ghost use Rattle.v1_translate.specs.State.{Terms};
 
     ghost Value = { Terms };
 

@@ -1,7 +1,7 @@
 //! Requests that wait for the pool's answer.
 
 ghost use Rattle.std.specs.Prelude.{◌≡◌, ◌==◌, ◌∷◌, IfOk, position};
-ghost use Rattle.v1_rules.specs.Messages as messages;
+ghost use Rattle.v1_translate.specs.Messages as messages;
 
 use crate::ids::LineId;
 use std::alloc::AllocError;
@@ -16,7 +16,7 @@ pub(crate) struct WaitingShare {
 }
 
 impl Model for WaitingShare {
-    ghost use Rattle.v1_rules.specs.State.{Waiting};
+    ghost use Rattle.v1_translate.specs.State.{Waiting};
     ghost use Rattle.v1_translate.specs.Codes.{waiting_code};
 
     ghost Value = { Waiting };
@@ -57,7 +57,7 @@ pub(crate) struct WaitingName {
 }
 
 impl Model for WaitingName {
-    ghost use Rattle.v1_rules.specs.State.{Naming};
+    ghost use Rattle.v1_translate.specs.State.{Naming};
     ghost use Rattle.v1_translate.specs.Codes.{naming_code};
 
     ghost Value = { Naming };

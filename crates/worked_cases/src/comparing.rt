@@ -6,7 +6,7 @@ use crate::expressions::{Names, number};
 use crate::links::GatedLink;
 use crate::outside::CaseNetwork;
 use anyhow::Result;
-use disk_io::MemDisks;
+use ledger_disk::MemDisks;
 use pool_io::{MemHost, MemKeeper, Opening};
 use pool_network::Reaching;
 use std::alloc::Global;

@@ -3,7 +3,7 @@
 use crate::case::Case;
 use crate::expressions::{Names, number};
 use anyhow::Result;
-use disk_io::{Failures, MemDisks, NamedDisk};
+use ledger_disk::{Failures, MemDisks, NamedDisk};
 use ledger_records::{MAGIC, chain, magic_hash};
 use pool_io::Name;
 use std::alloc::Global;

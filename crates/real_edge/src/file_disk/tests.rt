@@ -6,7 +6,7 @@ ghost use Rattle.pool_io.specs.Lending.{lent_one};
 
 use super::{FileDisk, FileDisks};
 use crate::edge_tests::{pattern, remove_folder, stand_in_new_folder};
-use disk_io::{Disk, DiskFailed, Disks};
+use ledger_disk::{Disk, DiskFailed, Disks};
 use pool_io::HostError;
 use std::alloc::{AllocGlobal, Allocator};
 use std::cell::Cell;

@@ -1,5 +1,5 @@
 use Rattle.std.proofs.Common.{◌≡◌, ◌-◌, ap, ◌∙◌, arith}
-use Rattle.merkle_trees.specs.Tree.{path}
+use Rattle.job_declaration.specs.Tree.{path}
 use Rattle.bench.specs.Numbered.{ending_in}
 use Rattle.bench.proofs.Numbering.{one_more}
 use Rattle.bench.proofs.paths.last_path.Goals as goal

@@ -7,5 +7,5 @@ returns-clause-row g c = (
     ledger = c.text-ledger_name.result.now;
     spelled = rw (c.text-settings_name.ensures, c.text-ledger_name.ensures) c.in-Some.ensures.found;
   },
-  c.serve_by_settings.ensures.row,
+  c.solo_by_settings.ensures.row,
 )

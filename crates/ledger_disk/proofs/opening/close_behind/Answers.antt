@@ -1,4 +1,4 @@
-use Rattle.disk_io.specs.Moments.{last_content}
+use Rattle.ledger_disk.specs.Moments.{last_content}
 use Rattle.ledger_disk.specs.Entries.{entries_on}
 use Rattle.ledger_disk.proofs.Closing.{closed_put, closed_uncut, closed_unsynced, closing_needs, short_log, short_synced}
 use Rattle.ledger_disk.proofs.opening.close_behind.Goals as goal

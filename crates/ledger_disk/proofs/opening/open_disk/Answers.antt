@@ -1,5 +1,5 @@
 use Rattle.std.proofs.Common.{◌≤◌, ◌∙◌, ℕ, subst, sym}
-use Rattle.disk_io.specs.Moments.{last_content}
+use Rattle.ledger_disk.specs.Moments.{last_content}
 use Rattle.ledger_disk.proofs.Becoming.{blank_becomes, blank_crash, blank_through, closed_becomes, holds_those}
 use Rattle.ledger_disk.proofs.opening.open_disk.Goals as goal
 

@@ -1,5 +1,5 @@
 use Rattle.std.proofs.Common.{rules, Ok, Option, List, ℕ, ◌+◌, ◌∙◌, ◌++◌, ◌∷◌, [], drop, length, subst, sym}
-use Rattle.disk_io.specs.Moments.{last_content}
+use Rattle.ledger_disk.specs.Moments.{last_content}
 use Rattle.ledger_disk.specs.Steps.{HoldsFront, ReadsEntry}
 use Rattle.ledger_disk.proofs.EntriesRead.{front_read}
 use Rattle.ledger_disk.proofs.reading.read_entries.Goals as goal

@@ -1,6 +1,6 @@
 use Rattle.std.proofs.Common.{◌≡◌, ◌<◌, ◌-◌}
-use Rattle.disk_io.specs.Calls.{WhereTold}
-use Rattle.disk_io.specs.Moments.{last_content}
+use Rattle.ledger_disk.specs.Calls.{WhereTold}
+use Rattle.ledger_disk.specs.Moments.{last_content}
 use Rattle.ledger_disk.specs.Steps.{HoldsFront}
 use Rattle.ledger_disk.proofs.reading.read_entries.Given as goal
 

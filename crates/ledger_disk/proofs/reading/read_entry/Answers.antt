@@ -1,5 +1,5 @@
 use Rattle.std.proofs.Common.{Ok, List, Option, ap, ℕ, ◌∙◌, drop, length, subst}
-use Rattle.disk_io.specs.Moments.{last_content}
+use Rattle.ledger_disk.specs.Moments.{last_content}
 use Rattle.ledger_disk.specs.Steps.{ReadsLength}
 use Rattle.ledger_disk.proofs.EntriesRead.{read_whole}
 use Rattle.ledger_disk.proofs.reading.read_entry.Goals as goal

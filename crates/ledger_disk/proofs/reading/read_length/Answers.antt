@@ -1,5 +1,5 @@
 use Rattle.std.proofs.Common.{arith, drop, length-drop}
-use Rattle.disk_io.specs.Moments.{last_content}
+use Rattle.ledger_disk.specs.Moments.{last_content}
 use Rattle.ledger_disk.proofs.EntriesRead.{few_none}
 use Rattle.ledger_disk.proofs.reading.read_length.Goals as goal
 

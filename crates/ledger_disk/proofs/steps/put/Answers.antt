@@ -1,6 +1,6 @@
 use Rattle.std.proofs.Common.{Err, subst, sym}
-use Rattle.disk_io.specs.Moments.{last_content}
-use Rattle.disk_io.proofs.Crashes.{write_done}
+use Rattle.ledger_disk.specs.Moments.{last_content}
+use Rattle.ledger_disk.proofs.Crashes.{write_done}
 use Rattle.ledger_disk.specs.declared.steps.PutFailed.{PutFailed}
 use Rattle.ledger_disk.specs.Steps.{LogsPut}
 use Rattle.ledger_disk.proofs.Putting.{put_failed}

@@ -1,6 +1,6 @@
 use Rattle.std.proofs.Common.{ℕ, List, sym, ap, ◌∙◌}
 use Rattle.pool_history.specs.Ledger.{chain, record_of}
-use Rattle.ledger_laws.proofs.Growth.{hash-end}
+use Rattle.ledger_records.proofs.Growth.{hash-end}
 use Rattle.ledger_records.proofs.chaining.write_piece.Goals as goal
 
 pub returns-in-Ok-clause-over : goal.returns-in-Ok-clause-over

@@ -2,7 +2,7 @@
 use Rattle.std.proofs.Common.{◌≡◌, ◌++◌, length, drop}
 use Rattle.std.specs.List.{flat_map, AllByRecursion}
 use Rattle.sv2_types.specs.Spelling.{spelled_str255}
-use Rattle.ledger_laws.specs.WellFormed.{IsText}
+use Rattle.ledger_records.specs.WellFormed.{IsText}
 use Rattle.ledger_records.proofs.users.read_users.Given as goal
 
 abbrev pub invariant-loop-place : goal.invariant-loop-place

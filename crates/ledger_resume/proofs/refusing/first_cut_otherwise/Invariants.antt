@@ -1,7 +1,7 @@
 use Rattle.std.proofs.Common.{◌≡◌, List, length, take}
 use Rattle.pool_history.specs.declared.events.Event.{Event}
 use Rattle.ledger_audit.specs.Judging.{in_a_row}
-use Rattle.ledger_laws.specs.Keeping.{IsLedgerOf}
+use Rattle.ledger_records.specs.Keeping.{IsLedgerOf}
 use Rattle.ledger_resume.proofs.Cut.{CutSoFar}
 use Rattle.ledger_resume.proofs.refusing.first_cut_otherwise.Given as goal
 

@@ -1,5 +1,5 @@
 use Rattle.std.proofs.Common.{ap, refl, subst, sym, ◌∙◌}
-use Rattle.ledger_laws.specs.Growing.{hash_after}
+use Rattle.ledger_records.specs.Growing.{hash_after}
 use Rattle.share_ledger.specs.Books.{KeepsLedger}
 use Rattle.share_ledger.specs.Recovery.{IsRecoverable}
 use Rattle.ledger_resume.specs.Histories.{IsHistoryOf}

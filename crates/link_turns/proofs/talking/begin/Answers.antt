@@ -1,5 +1,5 @@
 use Rattle.std.proofs.Common.{[], refl, inl, inr, None, arith}
-use Rattle.stream_commands.proofs.Puts.{Adds-none}
+use Rattle.pool_io.proofs.Puts.{Adds-none}
 use Rattle.link_turns.specs.Talks.{EndedFor, TakenFor, bounds_of}
 use Rattle.link_turns.proofs.Turning.{begins, ends_first}
 use Rattle.link_turns.specs.declared.talking.TalkEnd.TheVariants as end

@@ -1,5 +1,5 @@
 use Rattle.std.proofs.Common.{map}
-use Rattle.network_places.proofs.Given.{gives_both}
+use Rattle.door_threads.proofs.Given.{gives_both}
 use Rattle.proxy_command.proofs.serving.proxy_on_network.Goals as goal
 
 pub returns-in-Ran-clause-proxies : goal.returns-in-Ran-clause-proxies

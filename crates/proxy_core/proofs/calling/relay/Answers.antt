@@ -1,5 +1,5 @@
 use Rattle.std.proofs.Common.{arith}
-use Rattle.v1_rules.specs.Heard.{told_by}
+use Rattle.v1_translate.specs.Heard.{told_by}
 use Rattle.proxy_rules.specs.Miners.{relayed_to}
 use Rattle.proxy_core.proofs.Callers.{one_more}
 use Rattle.proxy_core.proofs.calling.relay.Goals as goal

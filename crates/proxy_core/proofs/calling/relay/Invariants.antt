@@ -1,5 +1,5 @@
 use Rattle.std.proofs.Common.{◌≡◌, ◌++◌, map, take, drop}
-use Rattle.v1_rules.specs.Heard.{told_by}
+use Rattle.v1_translate.specs.Heard.{told_by}
 use Rattle.proxy_rules.specs.Miners.{relayed_to}
 use Rattle.proxy_core.proofs.calling.relay.Given as goal
 

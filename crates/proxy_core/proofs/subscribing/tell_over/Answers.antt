@@ -1,5 +1,5 @@
 use Rattle.std.proofs.Common.{◌≡◌, ℕ, IfOk, ap, map, subst, ◌∙◌}
-use Rattle.v1_rules.specs.Heard.{Tipped}
+use Rattle.v1_translate.specs.Heard.{Tipped}
 use Rattle.proxy_rules.specs.Jobs.{future_told, job_told, only, without}
 use Rattle.proxy_rules.specs.Miners.{told_all}
 use Rattle.proxy_core.proofs.Held.{over_told}

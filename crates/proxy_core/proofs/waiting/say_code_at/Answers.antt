@@ -1,4 +1,4 @@
-use Rattle.v1_rules.specs.State.{CodeRefusal}
+use Rattle.v1_translate.specs.State.{CodeRefusal}
 use Rattle.proxy_rules.specs.Miners.{with_line}
 use Rattle.proxy_core.proofs.Callers.{none_at, ok_at}
 use Rattle.proxy_core.proofs.waiting.say_code_at.Goals as goal

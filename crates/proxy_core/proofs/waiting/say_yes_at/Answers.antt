@@ -1,5 +1,5 @@
-use Rattle.v1_rules.specs.Lines.{yes}
-use Rattle.v1_rules.specs.State.{Answer}
+use Rattle.v1_translate.specs.Lines.{yes}
+use Rattle.v1_translate.specs.State.{Answer}
 use Rattle.proxy_rules.specs.Miners.{with_line}
 use Rattle.proxy_core.proofs.Callers.{none_at, ok_at}
 use Rattle.proxy_core.proofs.waiting.say_yes_at.Goals as goal

@@ -1,6 +1,6 @@
 use Rattle.std.proofs.Common.{◌∙◌}
 use Rattle.std.proofs.lemmas.Result.{err_from_is_err_and}
-use Rattle.stream_commands.proofs.Puts.{put_more}
+use Rattle.pool_io.proofs.Puts.{put_more}
 use Rattle.stream_commands.proofs.putting.put_all.Goals as goal
 
 pub loop-rest-preserved : goal.loop-rest-preserved

@@ -1,6 +1,6 @@
 use Rattle.std.proofs.Common.{◌≡◌, ◌≤◌, drop, length, map}
 use Rattle.serde_json.specs.View.{members_view}
-use Rattle.v1_rules.specs.Configuring as configuring
+use Rattle.v1_translate.specs.Configuring as configuring
 use Rattle.v1_translate.proofs.configuring.refused_names.Given as goal
 
 abbrev pub invariant-loop-left : goal.invariant-loop-left

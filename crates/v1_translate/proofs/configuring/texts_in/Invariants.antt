@@ -1,6 +1,6 @@
 use Rattle.std.proofs.Common.{◌≡◌, Some, map, take}
 use Rattle.serde_json.specs.View.{items_view}
-use Rattle.v1_rules.specs.Configuring as configuring
+use Rattle.v1_translate.specs.Configuring as configuring
 use Rattle.v1_translate.proofs.configuring.texts_in.Given as goal
 
 abbrev pub invariant-loop-item : goal.invariant-loop-item

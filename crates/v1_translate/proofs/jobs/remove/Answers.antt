@@ -1,6 +1,6 @@
 use Rattle.std.proofs.Common.{◌==◌, not, rules}
 use Rattle.std.proofs.lemmas.Fn.{filter_same}
-use Rattle.v1_rules.specs.Heard.{ToldJob}
+use Rattle.v1_translate.specs.Heard.{ToldJob}
 use Rattle.v1_translate.proofs.jobs.remove.Goals as goal
 
 pub returns : goal.returns

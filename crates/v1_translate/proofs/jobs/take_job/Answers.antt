@@ -1,5 +1,5 @@
 use Rattle.std.proofs.Common.{◌==◌, position, sym, ap, Some, ◌∙◌}
-use Rattle.v1_rules.specs.Heard.{ToldJob}
+use Rattle.v1_translate.specs.Heard.{ToldJob}
 use Rattle.v1_translate.proofs.Firsts.{job_found, no_job}
 use Rattle.v1_translate.proofs.jobs.take_job.Goals as goal
 

@@ -1,5 +1,5 @@
 use Rattle.std.proofs.Common.{◌==◌, ap, position, Some, sym, ◌∙◌}
-use Rattle.v1_rules.specs.State.{Waiting}
+use Rattle.v1_translate.specs.State.{Waiting}
 use Rattle.v1_translate.proofs.Firsts.{no_share, share_found}
 use Rattle.v1_translate.proofs.waiting.take_waiting.Goals as goal
 

@@ -1,6 +1,6 @@
 use Rattle.std.proofs.Common.{OnErr, OnOk, ◌≡◌, ◌∙◌, ap, length, subst}
 use Rattle.pool_io.specs.Outside.{AddsRecord}
-use Rattle.disk_io.specs.Calls.{DiskSeen, WhereTold}
+use Rattle.ledger_disk.specs.Calls.{DiskSeen, WhereTold}
 use Rattle.pool_io.specs.Crashes.{FindsMore, StoresNext}
 use Rattle.ledger_disk.specs.Crashes.{MayBeFound, StoresMore, Throughout, counts_told, entries_told, stored_entries}
 use Rattle.ledger_disk.proofs.Telling.{added_counts, added_finds, added_more, added_none, added_on_disk, added_only}

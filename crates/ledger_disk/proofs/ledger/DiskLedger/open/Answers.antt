@@ -1,6 +1,6 @@
 use Rattle.std.proofs.Common.{subst}
 use Rattle.std.specs.Option.{IfSome}
-use Rattle.disk_io.specs.Calls.{WhereTold}
+use Rattle.ledger_disk.specs.Calls.{WhereTold}
 use Rattle.ledger_disk.specs.Steps.{BecomesLedger}
 use Rattle.ledger_disk.proofs.Becoming.{became_on_disk, became_only, became_stored}
 use Rattle.ledger_disk.proofs.Fresh.{fresh_leaves, fresh_log, fresh_settled}

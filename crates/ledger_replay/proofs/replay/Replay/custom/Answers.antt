@@ -1,6 +1,6 @@
 use Rattle.std.proofs.Common.{◌<◌, ◌^◌, length, refl, ap, sym, ◌∙◌, arith}
 use Rattle.std.specs.Option.{option_copied}
-use Rattle.grant_table.specs.OwnJobs.{refusal_before_coinbase}
+use Rattle.pool_tables.specs.OwnJobs.{refusal_before_coinbase}
 use Rattle.pool_history.specs.declared.events.Event.TheVariants as event
 use Rattle.pool_history.specs.Legal.{may_select_work}
 use Rattle.ledger_replay.specs.Replays.{tables_of}

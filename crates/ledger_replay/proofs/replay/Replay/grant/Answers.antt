@@ -1,5 +1,5 @@
 use Rattle.std.proofs.Common.{length, refl, ap, ◌∙◌}
-use Rattle.grant_table.specs.Tables.{grant_refusal_after}
+use Rattle.pool_tables.specs.GrantTables.{grant_refusal_after}
 use Rattle.pool_history.specs.declared.events.Event.TheVariants as event
 use Rattle.pool_history.specs.Legal.{may_select_work}
 use Rattle.ledger_replay.specs.Replays.{tables_of}

@@ -3,7 +3,7 @@ use Rattle.std.specs.Prelude.{IsTrue}
 use Rattle.pool_history.specs.declared.causes.Cause.TheVariants as cause
 use Rattle.pool_history.specs.declared.events.Event.TheVariants as event
 use Rattle.pool_history.specs.Accounts.{is_window}
-use Rattle.share_judging.proofs.Ranges.{window_and_limit}
+use Rattle.pool_tables.proofs.Ranges.{window_and_limit}
 use Rattle.history_laws.specs.AskedPlaces.{is_asked_after}
 use Rattle.ledger_replay.proofs.replay.Replay.with_rules.Goals as goal
 

@@ -1,7 +1,7 @@
 use Rattle.std.proofs.Common.{List, Ok, Err, ◌∙◌, subst, sym}
 use Rattle.std.specs.Prelude.{OnOk, Result}
 use Rattle.pool_history.specs.Crediting.{bookings_of}
-use Rattle.pool_summary.specs.Totals.{HasSumsBy, IsToldHistory}
+use Rattle.payouts.specs.SummaryTotals.{HasSumsBy, IsToldHistory}
 use Rattle.pool_history.specs.declared.events.Event.{Event}
 use Rattle.ledger_replay.specs.Replays.{ReplayTables, WereReplayed, tables_of}
 use Rattle.ledger_replay.proofs.replay.Replay.write_summary.Goals as goal

@@ -2,7 +2,7 @@ use Rattle.std.proofs.Common.{◌≡◌, [], ◌-◌, ◌<◌, ◌++◌, length,
 use Rattle.std.proofs.lemmas.Bool.{eqb-true}
 use Rattle.std.proofs.lemmas.List.{nil_from_length}
 use Rattle.std.proofs.lemmas.Result.{err_from_is_err_and}
-use Rattle.session_loop.proofs.Turns.{fed_whole}
+use Rattle.v2_sessions.proofs.Turns.{fed_whole}
 use Rattle.line_turns.specs.Hearing.{intake_at}
 use Rattle.line_turns.specs.Listening.{intake_of}
 use Rattle.line_turns.proofs.Heard.{bytes_heard, ends_here, goes_further}

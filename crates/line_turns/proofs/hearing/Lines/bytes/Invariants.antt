@@ -1,5 +1,5 @@
 use Rattle.std.proofs.Common.{◌≡◌, ◌++◌, length}
-use Rattle.line_reader.specs.Lines.{IsLineText}
+use Rattle.v1_lines.specs.Lines.{IsLineText}
 use Rattle.line_turns.specs.Hearing.{intake_at}
 use Rattle.line_turns.proofs.hearing.Lines.bytes.Given as goal
 

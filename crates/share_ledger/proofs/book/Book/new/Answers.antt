@@ -2,8 +2,8 @@ use Rattle.std.proofs.Common.{sym, ◌∙◌, ◌≡◌, ◌∷◌, [], List, ap
 use Rattle.std.specs.Prelude.{slice_get}
 use Rattle.pool_history.specs.declared.events.Event.{Event}
 use Rattle.pool_history.specs.declared.events.Event.TheVariants as event
-use Rattle.ledger_laws.specs.Growing.{hash_after}
-use Rattle.ledger_laws.specs.Keeping.{IsKept}
+use Rattle.ledger_records.specs.Growing.{hash_after}
+use Rattle.ledger_records.specs.Keeping.{IsKept}
 use Rattle.share_ledger.specs.Tables.{LedgerTables}
 use Rattle.share_ledger.specs.Recovery.{IsRecoverable}
 use Rattle.share_ledger.proofs.Answering.{first-record, keeps-first, keeps-instead}

@@ -2,7 +2,7 @@ use Rattle.std.proofs.Common.{sym, ◌∙◌, ◌≡◌, subst, Some}
 use Rattle.std.specs.Prelude.{IfErr, IfOk, Ok}
 use Rattle.pool_history.specs.Judging.{share_of}
 use Rattle.pool_history.specs.Sessions.{rules_of, script_of}
-use Rattle.share_judging.specs.Passing as passing
+use Rattle.pool_tables.specs.Passing as passing
 use Rattle.share_ledger.specs.contracts.tables.Tables.{the_view}
 use Rattle.share_ledger.specs.Planning.{past_in}
 use Rattle.share_ledger.specs.Shares.{IsPassed, Passes, failed_within}

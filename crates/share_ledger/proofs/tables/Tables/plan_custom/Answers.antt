@@ -8,7 +8,7 @@ use Rattle.share_ledger.specs.Tables.{LedgerTables}
 use Rattle.std.specs.Option.{option_copied}
 use Rattle.coinbase.specs.declared.error.OutputsError.TheVariants as outputs_error
 use Rattle.pool_history.specs.declared.refusals.CustomError.TheVariants as custom_error
-use Rattle.grant_table.specs.OwnJobs.{refusal_before_coinbase}
+use Rattle.pool_tables.specs.OwnJobs.{refusal_before_coinbase}
 use Rattle.share_ledger.proofs.TokenSteps.{custom-made, custom-refused, custom-unmade, own_few}
 use Rattle.share_ledger.proofs.Within.{moved, not_some, script_short, script_some, still}
 use Rattle.share_ledger.proofs.tables.Tables.plan_custom.Goals as goal

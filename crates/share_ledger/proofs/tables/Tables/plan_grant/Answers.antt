@@ -6,7 +6,7 @@ use Rattle.share_ledger.specs.declared.planning.Change.TheVariants as change
 use Rattle.share_ledger.specs.contracts.tables.Tables.{the_view}
 use Rattle.share_ledger.specs.Tables.{LedgerTables}
 use Rattle.pool_history.specs.Accounts.{account_of}
-use Rattle.grant_table.specs.Tables.{grant_refusal_after, granted_count}
+use Rattle.pool_tables.specs.GrantTables.{grant_refusal_after, granted_count}
 use Rattle.share_ledger.proofs.TokenSteps.{grant-made-as, grant-refused}
 use Rattle.share_ledger.proofs.Within.{moved, not_some, script_short, script_some, still}
 use Rattle.share_ledger.proofs.tables.Tables.plan_grant.Goals as goal

@@ -2,7 +2,7 @@ use Rattle.std.proofs.Common.{sym, ◌≡◌, ◌∙◌, subst}
 use Rattle.std.specs.Prelude.{IsTrue}
 use Rattle.pool_history.specs.Accounts.{is_window}
 use Rattle.share_ledger.specs.contracts.tables.Tables.{the_view}
-use Rattle.share_judging.proofs.Ranges.{window_and_limit}
+use Rattle.pool_tables.proofs.Ranges.{window_and_limit}
 use Rattle.share_ledger.proofs.Started.{started}
 use Rattle.share_ledger.proofs.tables.Tables.start.Goals as goal
 

@@ -1,6 +1,0 @@
-use Rattle.std.proofs.Common.{arith}
-use Rattle.declare_core.proofs.Fitting.{error_fits}
-use Rattle.declare_core.proofs.frames.put_error.Goals as goal
-
-pub frame-requires : goal.frame-requires
-frame-requires c = error_fits _ _ (omega arith) c.code.ensures.short c.code.utf8

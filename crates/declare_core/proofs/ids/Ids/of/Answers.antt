@@ -1,7 +1,0 @@
-use Rattle.declare_core.proofs.Knowing.{few_of_front}
-use Rattle.declare_core.proofs.ids.Ids.of.Goals as goal
-
-pub invariant_of-result : goal.invariant_of-result
-invariant_of-result c =
-    few_of_front 65536 c.loop-ids.ids-index c.args.transactions.now c.loop-ids.map.entries
-    c.requires c.loop-ids.invariant

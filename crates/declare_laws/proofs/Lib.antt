@@ -1,8 +1,0 @@
-pub mod Undeclared
-pub mod Stages
-pub mod Accepting
-pub mod Telling
-pub mod Standing
-pub mod Answering
-pub mod Listing
-pub mod Fixing

@@ -1,5 +1,0 @@
-use Rattle.declare_laws.proofs.Listing.{paths_are_of_listed}
-use Rattle.declare_laws.proofs.laws.fixed_paths_are_of_listed_transactions.Goals as goal
-
-pub returns : goal.returns
-returns c = paths_are_of_listed c.asked_paths_are_of_transactions.ensures

@@ -1,4 +1,0 @@
-pub mod Moves
-pub mod Answers
-pub mod Paths
-pub mod Laws

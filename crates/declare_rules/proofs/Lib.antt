@@ -1,3 +1,0 @@
-pub mod Granted
-pub mod Missing
-pub mod Transactions

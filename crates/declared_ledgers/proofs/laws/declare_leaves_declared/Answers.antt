@@ -1,6 +1,0 @@
-use Rattle.declared_ledgers.proofs.Leaving.{by_row}
-use Rattle.declared_ledgers.proofs.laws.declare_leaves_declared.Goals as goal
-
-pub returns : goal.returns
-returns c =
-    by_row c.declarations_are_by_the_rules.ensures c.histories_fix_listed_paths.ensures c.declarations_are_answered.ensures

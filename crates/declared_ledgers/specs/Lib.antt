@@ -1,3 +1,0 @@
-pub mod Declared
-pub mod Rows
-pub mod Laws

@@ -1,4 +1,0 @@
-pub mod Crossing
-pub mod Done
-pub mod Pairs
-pub mod Workers

@@ -1,5 +1,0 @@
-pub mod GoneOn
-pub mod Lasting
-pub mod Leaves
-pub mod Opened
-pub mod StartOf

@@ -1,5 +1,0 @@
-pub mod Books
-pub mod Causes
-pub mod Leaving
-pub mod Laws
-pub mod Runs

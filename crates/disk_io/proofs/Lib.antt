@@ -1,3 +1,0 @@
-pub mod Crashes
-mod Rooms
-mod LeftBehind

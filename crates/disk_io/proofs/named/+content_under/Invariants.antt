@@ -1,5 +1,0 @@
-use Rattle.std.proofs.Common.{length}
-use Rattle.disk_io.proofs.named.+content_under.Given as goal
-
-abbrev pub decreases-content_under : goal.decreases-content_under
-decreases-content_under l = length l.named.now

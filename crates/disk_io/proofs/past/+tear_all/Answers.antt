@@ -1,7 +1,0 @@
-use Rattle.std.proofs.Common.{arith, length-append, length-drop, rules}
-use Rattle.std.proofs.lemmas.List.{length-take}
-use Rattle.disk_io.proofs.Rooms.{room_rest}
-use Rattle.disk_io.proofs.past.+tear_all.Goals as goal
-
-pub tear_all-requires : goal.tear_all-requires
-tear_all-requires t c = (search rules, room_rest _ _ c.tear.ensures.room _ c.requires)

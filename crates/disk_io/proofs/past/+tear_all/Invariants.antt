@@ -1,5 +1,0 @@
-use Rattle.std.proofs.Common.{length}
-use Rattle.disk_io.proofs.past.+tear_all.Given as goal
-
-abbrev pub decreases-tear_all : goal.decreases-tear_all
-decreases-tear_all l = length l.moments.now

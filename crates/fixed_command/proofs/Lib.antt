@@ -1,4 +1,0 @@
-pub mod Answering
-pub mod Keeping
-pub mod Sharing
-pub mod Streaming

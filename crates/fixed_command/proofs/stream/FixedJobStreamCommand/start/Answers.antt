@@ -1,5 +1,0 @@
-use Rattle.fixed_command.proofs.Streaming.{answers_none}
-use Rattle.fixed_command.proofs.stream.FixedJobStreamCommand.start.Goals as goal
-
-pub returns-clause-none : goal.returns-clause-none
-returns-clause-none c = answers_none _ c.in_ok-splitter.ensures.empty c.new-2.ensures.remembers

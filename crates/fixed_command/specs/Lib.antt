@@ -1,9 +1,0 @@
-pub mod Answers
-pub mod Duty
-pub mod Fronts
-pub mod Judging
-pub mod Laws
-pub mod OneReading
-pub mod Rolling
-pub mod Sound
-pub mod Submitting

@@ -1,9 +1,0 @@
-use Rattle.std.proofs.Common.{◌∙◌, ◌++◌, map, ap}
-use Rattle.block_header.specs.Hash.{dsha}
-use Rattle.foreseen_shares.proofs.Rows.{map_twice}
-use Rattle.foreseen_shares.proofs.roots.parents_of.Goals as goal
-
-pub returns : goal.returns
-returns c =
-    c.double_64.ensures ∙ ap (map dsha) c.pairs_of.ensures
-    ∙ map_twice dsha (λ hash. hash ++ c.args.sibling.now) c.args.hashes.now

@@ -1,6 +1,0 @@
-use Rattle.std.proofs.Common.{◌≡◌, map, take}
-use Rattle.block_header.specs.Root.{root}
-use Rattle.foreseen_shares.proofs.roots.roots_of.Given as goal
-
-abbrev pub invariant-up : goal.invariant-up
-invariant-up l = l.hashes ≡ map (λ id. root id (take l.sibling-index l.fn.path)) l.fn.ids

@@ -1,3 +1,0 @@
-mod Holding
-mod Showing
-pub mod RefusedJobs

@@ -1,0 +1,10 @@
+pub mod Trees
+pub mod Granted
+pub mod Missing
+pub mod Transactions
+pub mod Fitting
+pub mod Lists
+pub mod Entries
+pub mod Parts
+pub mod Reading
+pub mod Knowing

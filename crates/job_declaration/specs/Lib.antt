@@ -1,0 +1,11 @@
+pub mod Tree
+pub mod Laws
+pub mod Codes
+pub mod Filling
+pub mod State
+pub mod Declaring
+pub mod Moves
+pub mod RuleLaws
+pub mod Filled
+pub mod Room
+pub mod Meeting

@@ -1,5 +1,0 @@
-pub mod Auditing
-pub mod Copying
-pub mod Cutting
-pub mod Migrating
-pub mod Sound

@@ -1,5 +1,0 @@
-use Rattle.ledger_laws.proofs.Answered.{answers-kept}
-use Rattle.ledger_laws.proofs.laws.answers_can_be_kept.Goals as goal
-
-pub returns : goal.returns
-returns c = answers-kept

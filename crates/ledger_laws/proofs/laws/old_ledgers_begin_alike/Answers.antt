@@ -1,5 +1,0 @@
-use Rattle.ledger_laws.proofs.Records.{old_ledgers_begin}
-use Rattle.ledger_laws.proofs.laws.old_ledgers_begin_alike.Goals as goal
-
-pub returns : goal.returns
-returns c = old_ledgers_begin

@@ -1,5 +1,0 @@
-use Rattle.ledger_laws.proofs.Records.{one_event}
-use Rattle.ledger_laws.proofs.laws.records_are_of_one_event.Goals as goal
-
-pub returns : goal.returns
-returns c = one_event

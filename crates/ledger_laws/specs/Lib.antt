@@ -1,5 +1,0 @@
-pub mod Growing
-pub mod Keeping
-pub mod OneLedger
-pub mod Requests
-pub mod WellFormed

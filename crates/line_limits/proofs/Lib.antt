@@ -1,4 +1,0 @@
-pub mod Entering
-pub mod Standing
-pub mod Unheard
-pub mod Whole

@@ -1,6 +1,0 @@
-use Rattle.std.proofs.Common.{length, arith}
-use Rattle.line_reader.proofs.Streams.{lines_found}
-use Rattle.line_reader.proofs.laws.lines_are_found.Goals as goal
-
-pub returns : goal.returns
-returns c = λ stream. lines_found (length stream) stream (omega arith)

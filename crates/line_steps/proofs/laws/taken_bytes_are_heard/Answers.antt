@@ -1,5 +1,0 @@
-use Rattle.line_steps.proofs.Whole.{taken_is_heard}
-use Rattle.line_steps.proofs.laws.taken_bytes_are_heard.Goals as goal
-
-pub returns : goal.returns
-returns c = taken_is_heard

@@ -1,4 +1,0 @@
-pub mod Lines
-pub mod Speaking
-pub mod Whole
-pub mod Framing

@@ -1,7 +1,0 @@
-use Rattle.std.proofs.Common.{◌≡◌, ◌++◌}
-use Rattle.load_frames.specs.Frames.{generator_after, steps_frames}
-use Rattle.load_frames.proofs.load.put_steps.Given as goal
-
-abbrev pub invariant-loop-step : goal.invariant-loop-step
-invariant-loop-step l =
-    (l.out.items ≡ l.fn.out.items ++ steps_frames l.number l.step) × (l.generator ≡ generator_after l.number l.step)

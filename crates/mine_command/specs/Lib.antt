@@ -1,2 +1,0 @@
-pub mod Mining
-pub mod Row

@@ -1,0 +1,5 @@
+pub mod Failing
+pub mod Reasons
+pub mod Kept
+pub mod DurableReasons
+pub mod Running

@@ -1,0 +1,14 @@
+pub mod SoloRow
+pub mod SoloStatuses
+pub mod ServeWords
+pub mod ServeStatuses
+pub mod Serving
+pub mod ServeRow
+pub mod Given
+pub mod Surroundings
+pub mod DurableSessions
+pub mod DurableStatuses
+pub mod DurableSoloing
+pub mod DurableServing
+pub mod DurableAuditing
+pub mod DurableRuns

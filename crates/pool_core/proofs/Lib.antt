@@ -1,3 +1,0 @@
-pub mod Fitting
-mod Reading
-pub mod Declaring

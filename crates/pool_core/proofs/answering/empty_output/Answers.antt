@@ -1,7 +1,0 @@
-use Rattle.std.proofs.Common.{◌∙◌}
-use Rattle.pool_core.proofs.Fitting.{empty_output_bytes}
-use Rattle.pool_core.proofs.answering.empty_output.Goals as goal
-
-pub returns-clause-bytes : goal.returns-clause-bytes
-returns-clause-bytes c =
-    c.place.ensures ∙ rw c.bytes-bytes.ensures.value (empty_output_bytes c.args.script.now c.bytes-bytes.ensures.short)

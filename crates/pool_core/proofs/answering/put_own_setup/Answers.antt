@@ -1,5 +1,0 @@
-use Rattle.pool_core.proofs.Fitting.{own_setup_fits}
-use Rattle.pool_core.proofs.answering.put_own_setup.Goals as goal
-
-pub frame-requires : goal.frame-requires
-frame-requires c = own_setup_fits

@@ -1,7 +1,0 @@
-use Rattle.std.proofs.Common.{◌∙◌, ap, length, arith}
-use Rattle.block_header.proofs.Targets.{length-number_bytes}
-use Rattle.pool_core.proofs.Fitting.{target_fits}
-use Rattle.pool_core.proofs.answering.put_target.Goals as goal
-
-pub frame-requires : goal.frame-requires
-frame-requires c = target_fits _ _ (omega arith) (ap length c.target_of.ensures ∙ length-number_bytes 32 _)

@@ -1,6 +1,0 @@
-use Rattle.std.proofs.Common.{arith}
-use Rattle.pool_core.proofs.Fitting.{tip_fits}
-use Rattle.pool_core.proofs.news.put_tip.Goals as goal
-
-pub frame-requires : goal.frame-requires
-frame-requires c = tip_fits _ _ _ _ _ (omega arith) (omega arith) c.bytes.ensures.length (omega arith) (omega arith)

@@ -1,4 +1,0 @@
-pub mod Frames
-pub mod Following
-pub mod Meanings
-pub mod Parts

@@ -1,0 +1,14 @@
+pub mod Presence
+pub mod Laws
+pub mod Moves
+pub mod Answers
+pub mod Paths
+pub mod Declaring
+pub mod Answered
+pub mod Serving
+pub mod Declared
+pub mod Rows
+pub mod DeclaredLedgers
+pub mod Proxying
+pub mod Puts
+pub mod Setups

@@ -1,3 +1,0 @@
-mod Crossing
-pub mod Rows
-pub mod Whole

@@ -1,2 +1,0 @@
-pub mod Presence
-pub mod Laws

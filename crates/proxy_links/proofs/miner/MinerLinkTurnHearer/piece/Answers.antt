@@ -1,6 +1,0 @@
-use Rattle.proxy_links.proofs.Uplinks.{where_on}
-use Rattle.proxy_links.proofs.miner.MinerLinkTurnHearer.piece.Goals as goal
-
-pub returns-clause-heard : goal.returns-clause-heard
-returns-clause-heard g c =
-    (c.lines.ensures.same, (c.lines.ensures.leads, where_on c.lines.result _ c.lines.ensures.text))

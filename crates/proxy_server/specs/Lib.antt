@@ -1,0 +1,11 @@
+pub mod Calls
+pub mod Frames
+pub mod Links
+pub mod Serving
+pub mod Upstreams
+pub mod Calling
+pub mod Visits
+pub mod Shifts
+pub mod Parts
+pub mod ServingDoors
+pub mod Ending

@@ -1,4 +1,0 @@
-pub mod Attended
-pub mod Calls
-pub mod Noted
-pub mod Reached

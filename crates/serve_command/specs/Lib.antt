@@ -1,4 +1,0 @@
-pub mod Words
-pub mod Statuses
-pub mod Serving
-pub mod Row

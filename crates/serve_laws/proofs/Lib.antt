@@ -1,4 +1,0 @@
-pub mod Replying
-pub mod Calling
-pub mod Answering
-pub mod Serving

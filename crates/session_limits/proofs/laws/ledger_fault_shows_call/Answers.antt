@@ -1,6 +1,0 @@
-use Rattle.session_steps.specs.declared.ends.SessionEnd.TheVariants as end
-use Rattle.session_limits.proofs.Standing.{ends_show}
-use Rattle.session_limits.proofs.laws.ledger_fault_shows_call.Goals as goal
-
-pub returns : goal.returns
-returns c = λ worker manner steps waits comes. ends_show worker manner steps comes.last end.LedgerFault waits comes.follows comes.over

@@ -1,5 +1,0 @@
-use Rattle.session_loop.proofs.Chains.{runs_on}
-use Rattle.session_loop.proofs.conversation.Conversation.book_first.Goals as goal
-
-pub returns-clause-runs : goal.returns-clause-runs
-returns-clause-runs g c = λ intake brief books. runs_on (c.in_ok-book.ensures.runs intake brief books) (c.news.ensures.runs intake)

@@ -1,9 +1,0 @@
-pub mod Answerers
-pub mod Links
-pub mod Running
-pub mod Standing
-pub mod Meeting
-pub mod Sessions
-pub mod Good
-pub mod Causes
-pub mod Beginning

@@ -1,8 +1,0 @@
-//! What is said of tables and of what other events do.
-
-ghost use Rattle.session_table.specs.Tables.{OtherEventsLeaveSessions};
-
-/// An event that is no Enter and no Leave leaves the sessions that a table shows.
-pub fn other_events_leave_sessions()
-    ensures { OtherEventsLeaveSessions }
-{}

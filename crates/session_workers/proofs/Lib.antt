@@ -1,4 +1,0 @@
-pub mod Asked
-pub mod Attending
-pub mod Calls
-pub mod Completing

@@ -1,9 +1,0 @@
-//! What the headers of submissions are to a history.
-
-ghost use Rattle.share_check.specs.Submitted.{SubmittedIsRebuilt};
-
-/// The header of a submission by what a channel, a live job and the last tip give is the one that
-/// the history rebuilds for the share.
-pub fn checked_headers_are_rebuilt()
-    ensures { SubmittedIsRebuilt }
-{}

@@ -1,0 +1,4 @@
+pub mod Roots
+pub mod Submitted
+pub mod Ahead
+pub mod Foreseeing

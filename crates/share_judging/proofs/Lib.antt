@@ -1,5 +1,0 @@
-mod Admitting
-mod Found
-mod Kept
-pub mod Ranges
-mod Shown

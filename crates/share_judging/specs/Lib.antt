@@ -1,4 +1,0 @@
-pub mod Admission
-pub mod Headers
-pub mod Conditions
-pub mod Passing

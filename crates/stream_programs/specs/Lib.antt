@@ -1,0 +1,16 @@
+pub mod Duty
+pub mod Lines
+pub mod Listing
+pub mod OneListing
+pub mod Sound
+pub mod Tracking
+pub mod Fronts
+pub mod Answers
+pub mod FixedDuty
+pub mod FixedFronts
+pub mod Judging
+pub mod Laws
+pub mod OneReading
+pub mod Rolling
+pub mod FixedSound
+pub mod Submitting

@@ -1,6 +1,0 @@
-pub mod Balance
-pub mod Asks
-pub mod Bits
-pub mod Exponents
-pub mod Held
-pub mod States

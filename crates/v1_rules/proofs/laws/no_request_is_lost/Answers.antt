@@ -1,5 +1,0 @@
-use Rattle.v1_rules.proofs.Balance.{none_lost}
-use Rattle.v1_rules.proofs.laws.no_request_is_lost.Goals as goal
-
-pub returns : goal.returns
-returns c = none_lost

@@ -1,5 +1,0 @@
-use Rattle.v1_rules.proofs.Balance.{answered_once}
-use Rattle.v1_rules.proofs.laws.requests_are_answered_once.Goals as goal
-
-pub returns : goal.returns
-returns c = answered_once

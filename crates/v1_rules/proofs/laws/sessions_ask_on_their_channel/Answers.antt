@@ -1,5 +1,0 @@
-use Rattle.v1_rules.proofs.Asks.{asked_on}
-use Rattle.v1_rules.proofs.laws.sessions_ask_on_their_channel.Goals as goal
-
-pub returns : goal.returns
-returns c = asked_on

@@ -1,5 +1,0 @@
-use Rattle.v1_rules.proofs.Bits.{versions_kept}
-use Rattle.v1_rules.proofs.laws.versions_are_the_jobs.Goals as goal
-
-pub returns : goal.returns
-returns c = versions_kept

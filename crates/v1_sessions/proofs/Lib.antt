@@ -1,0 +1,11 @@
+pub mod Chains
+pub mod Lines
+pub mod Counted
+pub mod Whole
+pub mod Answered
+pub mod Entering
+pub mod Standing
+pub mod Unheard
+pub mod WholeSessions
+pub mod Parted
+pub mod Moves

@@ -1,0 +1,14 @@
+pub mod Told
+pub mod Requests
+pub mod States
+pub mod Steps
+pub mod Running
+pub mod Laws
+pub mod Ends
+pub mod LimitLaws
+pub mod Parts
+pub mod Asking
+pub mod Standing
+pub mod Hearing
+pub mod Moments
+pub mod SessionLaws

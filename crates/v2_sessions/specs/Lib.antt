@@ -1,0 +1,15 @@
+pub mod Frames
+pub mod Following
+pub mod Meanings
+pub mod Parts
+pub mod Answerers
+pub mod Links
+pub mod Running
+pub mod Standing
+pub mod Meeting
+pub mod Sessions
+pub mod Good
+pub mod Causes
+pub mod Beginning
+pub mod Ends
+pub mod Laws
