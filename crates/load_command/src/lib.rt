@@ -9,8 +9,8 @@
 mod command;
 mod counting;
 mod frames;
-mod load;
+mod generated;
 mod session;
 
 pub use command::load;
-pub use load::{STEPS, put_load};
+pub use generated::{STEPS, put_load};

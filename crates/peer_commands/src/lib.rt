@@ -8,13 +8,13 @@
 
 mod caller;
 mod command;
-mod feed;
+mod feeding;
 mod lines;
 mod script;
 mod serving;
 
 pub use caller::NoCaller;
 pub use command::mine;
-pub use feed::feed;
+pub use feeding::feed;
 pub use script::NoScript;
 pub use serving::Fed;

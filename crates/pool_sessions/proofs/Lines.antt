@@ -20,7 +20,7 @@ use Rattle.v1_translate.specs.State.{Terms}
 use Rattle.v1_sessions.specs.Running.{RunsLines}
 use Rattle.v1_sessions.specs.States.{LineState, begun_lines, new_line_state}
 use Rattle.v1_sessions.specs.Steps.{CanTake, Follows, Idled, LineStep, Took, bytes_of, calls_of, has_ended, reads_after, turns_of, writes_after}
-use Rattle.v1_sessions.proofs.Chains.{Follows-append}
+use Rattle.v1_sessions.specs.Chains.{Follows-append}
 
 -- a session that took no bytes yet, with so many Idle turns still waited for
 abbrev idle_state : Manner → ℕ → LineState

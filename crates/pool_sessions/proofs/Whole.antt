@@ -21,7 +21,7 @@ use Rattle.v1_translate.specs.State.{Terms}
 use Rattle.v1_sessions.specs.Running.{IsRestOfLines}
 use Rattle.v1_sessions.specs.States.{begun_lines}
 use Rattle.v1_sessions.specs.Steps as lines
-use Rattle.v1_sessions.proofs.Chains.{runs_on, steps_on}
+use Rattle.v1_sessions.specs.Chains.{runs_on, steps_on}
 use Rattle.v1_sessions.proofs.WholeSessions.{lines_blame_none}
 use Rattle.pool_sessions.specs.Courses.{Course, Framed, IsCourse, IsGoodIn, IsGoodSpeech, IsServed, Lined, has_ended_on, speaks_lines, turns_on}
 use Rattle.pool_sessions.proofs.Lines.{lines_begun}

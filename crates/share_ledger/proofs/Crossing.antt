@@ -7,7 +7,7 @@ use Rattle.pool_history.specs.contracts.events.Event as Event
 use Rattle.event_store.specs.contracts.index.Index as Index
 use Rattle.event_store.specs.contracts.history.History as History
 use Rattle.pool_tables.specs.contracts.table.Sessions as Sessions
-use Rattle.pool_tables.specs.contracts.table.Grants as Grants
+use Rattle.pool_tables.specs.contracts.grants.Grants as Grants
 use Rattle.pool_tables.specs.contracts.headers.Headers as Headers
 use Rattle.template_jobs.specs.contracts.table.Jobs as Jobs
 use Rattle.channels.specs.contracts.table.Channels as Channels

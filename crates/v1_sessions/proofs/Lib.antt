@@ -1,4 +1,3 @@
-pub mod Chains
 pub mod Lines
 pub mod Counted
 pub mod Whole

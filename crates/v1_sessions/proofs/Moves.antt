@@ -48,7 +48,7 @@ use Rattle.v1_sessions.specs.States.{LineState, after_entering, asks_now, begun_
 use Rattle.v1_sessions.specs.Steps as steps
 use Rattle.v1_sessions.specs.Steps.{CanCall, CanHear, Heard, PutsTold, Starved, after_step}
 use Rattle.v1_sessions.specs.Told.{heard_of, told_in}
-use Rattle.v1_sessions.proofs.Chains.{runs_ask, runs_call, runs_none, runs_on, runs_put, runs_quiet, runs_step}
+use Rattle.v1_sessions.specs.Chains.{runs_ask, runs_call, runs_none, runs_on, runs_put, runs_quiet, runs_step}
 use Rattle.v1_sessions.proofs.Lines.{with_lines_is}
 use Rattle.v1_sessions.specs.declared.asking.Wish.{Wish}
 use Rattle.v1_sessions.specs.declared.conversation.LineConversation.{LineConversation}

@@ -12,3 +12,4 @@ pub mod Standing
 pub mod Hearing
 pub mod Moments
 pub mod SessionLaws
+pub mod Chains

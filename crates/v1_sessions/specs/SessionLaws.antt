@@ -14,7 +14,7 @@ use Rattle.v1_sessions.specs.Standing.{line_state}
 use Rattle.v1_sessions.specs.Running.{RunsLines}
 use Rattle.v1_sessions.specs.States.{LineState}
 use Rattle.v1_sessions.specs.Steps as steps
-use Rattle.v1_sessions.proofs.Chains.{runs_none, runs_on, runs_quiet, runs_turn}
+use Rattle.v1_sessions.specs.Chains.{runs_none, runs_on, runs_quiet, runs_turn}
 
 module _ {A T N : Type 0} (worker : A → ℕ) (does : A → PoolCall → A → Type 0)
     (terms_of : T → Terms) (conversation_of : T → LineConversation) (acting_of : T → A)

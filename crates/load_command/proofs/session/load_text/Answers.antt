@@ -1,5 +1,5 @@
 use Rattle.std.proofs.Common.{◌≡◌, ◌∙◌, ◌++◌, ap, arith, refl}
-use Rattle.load_command.specs.declared.load.TheConstants.{STEPS}
+use Rattle.load_command.specs.declared.generated.TheConstants.{STEPS}
 use Rattle.load_command.specs.Loads.{IsLoadText, counts_text, load_rules}
 use Rattle.pool_sessions.proofs.Completing.{on_fresh}
 use Rattle.load_command.proofs.Loaded.{loaded, says_of, well_ended, where_told}

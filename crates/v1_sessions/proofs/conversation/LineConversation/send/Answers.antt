@@ -1,6 +1,6 @@
 use Rattle.std.proofs.Common.{sym, ◌∙◌}
 use Rattle.v1_sessions.specs.Asking.{wish_request}
-use Rattle.v1_sessions.proofs.Chains.{runs_on}
+use Rattle.v1_sessions.specs.Chains.{runs_on}
 use Rattle.v1_sessions.proofs.Moves.{asks_at_once, entering_ends, entering_leads, enters_first}
 use Rattle.v1_sessions.proofs.conversation.LineConversation.send.Goals as goal
 

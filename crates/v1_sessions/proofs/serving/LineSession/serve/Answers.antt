@@ -1,6 +1,6 @@
 use Rattle.std.proofs.Common.{refl}
 use Rattle.session_steps.specs.States.{Over}
-use Rattle.v1_sessions.proofs.Chains.{runs_on}
+use Rattle.v1_sessions.specs.Chains.{runs_on}
 use Rattle.v1_sessions.proofs.Moves.{left_runs, with_v1}
 use Rattle.v1_sessions.proofs.serving.LineSession.serve.Goals as goal
 

@@ -1,6 +1,6 @@
 use Rattle.std.proofs.Common.{◌≡◌, ◌++◌}
 use Rattle.load_command.specs.Frames.{generator_after, steps_frames}
-use Rattle.load_command.proofs.load.put_steps.Given as goal
+use Rattle.load_command.proofs.generated.put_steps.Given as goal
 
 abbrev pub invariant-loop-step : goal.invariant-loop-step
 invariant-loop-step l =

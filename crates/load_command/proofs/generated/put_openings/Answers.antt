@@ -1,7 +1,7 @@
 use Rattle.std.proofs.Common.{sym, append-nil}
 use Rattle.load_command.specs.Frames.{openings_frames}
 use Rattle.load_command.proofs.Steps.{opened-more}
-use Rattle.load_command.proofs.load.put_openings.Goals as goal
+use Rattle.load_command.proofs.generated.put_openings.Goals as goal
 
 pub loop-number-init : goal.loop-number-init
 unfolding openings_frames

@@ -2,7 +2,7 @@ use Rattle.std.proofs.Common.{◌∙◌, ap, sym, append-nil}
 use Rattle.rand_pcg.specs.Pcg.{pcg32}
 use Rattle.load_command.specs.Frames.{generator_after, steps_frames}
 use Rattle.load_command.proofs.Steps.{drawn-more, stepped-more}
-use Rattle.load_command.proofs.load.put_steps.Goals as goal
+use Rattle.load_command.proofs.generated.put_steps.Goals as goal
 
 pub loop-step-init : goal.loop-step-init
 unfolding steps_frames generator_after
