@@ -1,7 +1,7 @@
 """The repository's wrong bodies: edits of a crate's code that its contract, or a test, refuses.
 
-Those under crates/CRATE/must-fail are tried by the gate, at each run; those under wrong-bodies/CRATE by
-hand, with docs/try-edits. What was tried, and against which contract, stands in docs/tried-edits.
+They stand in the crate that they change: those under crates/CRATE/must-fail are tried by the gate, at each
+run; those under crates/CRATE/wrong-bodies by hand, with tools/try-edits. What was tried, and against which contract, stands in tools/tried-edits.
 """
 import hashlib
 import pathlib
@@ -9,11 +9,11 @@ import re
 from dataclasses import dataclass
 
 TOP = pathlib.Path(__file__).resolve().parent.parent
-RECORD = TOP / "docs" / "tried-edits"
+RECORD = TOP / "tools" / "tried-edits"
 RECORD_HEAD = """\
 # Which wrong bodies were tried, a crate a line: its name, the sum of its contract and of its wrong bodies
-# when they were tried, how many were tried, how many were refused, and the day. docs/try-edits writes it;
-# docs/edits --stale prints the crates whose sums have changed since.
+# when they were tried, how many were tried, how many were refused, and the day. tools/try-edits writes it;
+# tools/edits --stale prints the crates whose sums have changed since.
 """
 
 
@@ -71,14 +71,16 @@ def read_body(path, is_by_gate):
             old = line[len("old: "):]
         elif line.startswith("new:"):
             changes.append((file, old, line[len("new:"):].removeprefix(" ")))
-    crate = path.parts[-3] if is_by_gate else path.parts[-2]
+    crate = path.parts[-3]
+    if refused_by.startswith("crate::"):
+        refused_by = refused_by.replace("crate", crate, 1)
     return WrongBody(path, crate, is_by_gate, promise, refused_by, tuple(changes))
 
 
 def all_bodies(crates=()):
     """The wrong bodies of these crates, or of all, by crate; those that the gate tries come first."""
     found = [read_body(path, True) for path in TOP.glob("crates/*/must-fail/*.edit")]
-    found += [read_body(path, False) for path in TOP.glob("wrong-bodies/*/*.edit")]
+    found += [read_body(path, False) for path in TOP.glob("crates/*/wrong-bodies/*.edit")]
     chosen = [body for body in found if not crates or body.crate in crates]
     return sorted(chosen, key=lambda body: (body.crate, not body.is_by_gate, body.name))
 
