@@ -10,8 +10,8 @@ trap 'rm -rf "$work"' EXIT
 echo "proving and building the benchmarks of hashes and frames"
 (cd crates/bench && rt run -- frames < /dev/null > "$work/build" 2>&1) || { cat "$work/build"; exit 1; }
 
-python3 examples/stream-of-frames.py 00801a "" 24 8000000 "$work/24"
-python3 examples/stream-of-frames.py 00801a "" 200000 1200 "$work/200000"
+python3 bench/stream-of-frames.py 00801a "" 24 8000000 "$work/24"
+python3 bench/stream-of-frames.py 00801a "" 200000 1200 "$work/200000"
 
 python3 - "$work" <<'PY'
 import os, resource, subprocess, sys, time

@@ -12,8 +12,8 @@ echo "proving and building the benchmarks of hashes and frames"
 
 share=0100000009000000010000000000000040420f0000000020
 template=0500000000000000010000002002000000025151ffffffffe803000000000000000000000000000000000c
-python3 examples/stream-of-frames.py 00801a "$share" 0 6000000 "$work/1a"
-python3 examples/stream-of-frames.py 000071 "$template" 384 600000 "$work/71"
+python3 bench/stream-of-frames.py 00801a "$share" 0 6000000 "$work/1a"
+python3 bench/stream-of-frames.py 000071 "$template" 384 600000 "$work/71"
 
 python3 - "$work" <<'PY'
 import subprocess, sys, time
