@@ -35,3 +35,4 @@ pub mod Owed
 pub mod Upstreams
 pub mod Visits
 pub mod Miners
+pub mod KeptPromises

@@ -217,7 +217,7 @@ stay-present start history least most earlier inside later others enter role fla
 -- ---- the rules
 
 -- what follows stands under the rules of the start
-rules_further : (start more : List Event) (rules : Rules) → rules_of (past_of start) ≡ Some rules → rules_of (past_of (start ++ more)) ≡ Some rules
+pub rules_further : (start more : List Event) (rules : Rules) → rules_of (past_of start) ≡ Some rules → rules_of (past_of (start ++ more)) ≡ Some rules
 rules_further start [] rules are = rw (append-nil start) are
 rules_further start (e ∷ more) rules are =
     subst (λ l. rules_of (past_of l) ≡ Some rules) (append_assoc start (e ∷ []) more)

@@ -12,3 +12,5 @@ pub mod DeclaredLedgers
 pub mod Proxying
 pub mod Puts
 pub mod Setups
+pub mod Promise
+pub mod Headline

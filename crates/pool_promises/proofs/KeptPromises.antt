@@ -1,0 +1,112 @@
+-- What serving leaves keeps the pool's promise.
+use Rattle.std.proofs.Common.{◌≡◌, ℕ, None, Some, Result, Ok, Err, List, ◌∷◌, ◌++◌, take, inl, inr, refl, sym, subst, ap, ◌∙◌}
+use Rattle.pool_base.specs.Calls.{Parted}
+use Rattle.pool_base.specs.Lists.{Begins}
+use Rattle.pool_base.proofs.Behind.{all-map}
+use Rattle.pool_io.specs.Seen.{KeeperSeen}
+use Rattle.pool_history.specs.declared.events.Event.{Event}
+use Rattle.pool_history.specs.declared.settings.Rules.{Rules}
+use Rattle.pool_history.specs.Calls.{GoodPoolCalls, IsGoodPoolCall, PoolCall}
+use Rattle.pool_history.specs.Judging.{share_of}
+use Rattle.pool_history.specs.Legal.{Legal}
+use Rattle.pool_history.specs.Sessions.{past_of, rules_of}
+use Rattle.history_laws.specs.Apart.{SpacesAreDisjoint}
+use Rattle.history_laws.specs.Credited.{NoShareTwice}
+use Rattle.history_laws.specs.NineConditions.{ConditionsStandByThemselves}
+use Rattle.history_laws.specs.Serving.{CallsAreJudged, CreditsAreCalled}
+use Rattle.payout_laws.specs.Conservation.{RewardsAreConserved}
+use Rattle.payout_laws.specs.Summaries.{SummariesAreOfBlocks}
+use Rattle.pool_network.specs.Networks.{NetworkSeen}
+use Rattle.pool_network.specs.Worlds.{WorldSeen}
+use Rattle.pool_settings.specs.declared.opening.NoSettings.{NoSettings}
+use Rattle.pool_settings.specs.declared.settings.Settings.{Settings}
+use Rattle.session_steps.specs.declared.ends.SessionEnd.{SessionEnd}
+use Rattle.share_ledger.specs.Books.{BookSeen}
+use Rattle.stream_commands.specs.declared.status.Status.{Status}
+use Rattle.pool_server.specs.Parts.{Service}
+use Rattle.pool_server.specs.Serving.{Hall, HasRun}
+use Rattle.pool_server.specs.Tending.{all_calls}
+use Rattle.pool_commands.specs.ServeRow.{ServesAfterSettings, ServesOnBook, ServesWithKeeper, places_by, service_by}
+use Rattle.pool_commands.specs.Serving.{ReachedSeen, Served, ServesOnNetwork, Unserved}
+use Rattle.pool_promises.specs.Serving.{ServedLinesAreAnswered}
+use Rattle.pool_promises.specs.Promise.{JudgesByConditions, KeepsHistory, KeepsItsPromise}
+use Rattle.pool_promises.specs.Headline.{KeepsByBook, KeepsByKeeper, KeepsByReached, KeepsBySettings, ServeKeepsItsPromise}
+use Rattle.pool_promises.proofs.Present.{rules_further}
+
+module _ (judge : CallsAreJudged) (stand : ConditionsStandByThemselves) (credit : CreditsAreCalled) (disjoint : SpacesAreDisjoint)
+    (conserve : RewardsAreConserved) (count : NoShareTwice) where
+  judged : (history : List Event) (call : PoolCall) → IsGoodPoolCall history call → JudgesByConditions history call
+  judged history call good checked answer may asked outcome =
+      let before = take call.front history in
+      let by = stand may.rules before may.session (share_of checked.sub) in
+      let is = judge history call checked answer may good asked outcome in
+      record {
+        credited = (λ added. (by None).0 (is.credited.0 added), λ none. is.credited.1 ((by None).1 none));
+        work = λ none. is.work ((by None).1 none);
+        refused = λ code fails. is.refused code ((by (Some code)).1 fails);
+      }
+
+  pub keeps_history : (start history : List Event) (least most : ℕ) (calls : List PoolCall) → Begins start history → Legal history
+      → Parted start history least most calls → GoodPoolCalls history calls → KeepsHistory start history least most calls
+  keeps_history start history least most calls begins legal parted good = record {
+    begins = begins;
+    legal = legal;
+    parted = parted;
+    answered = good;
+    judged = all-map (IsGoodPoolCall history) (JudgesByConditions history) (judged history) calls good;
+    called = credit start history least most calls parted good;
+    once = count history legal;
+    apart = λ before after parts. disjoint before after (subst Legal parts legal);
+    rewards = λ rules block older reward. conserve history rules block older reward legal;
+  }
+
+  module _ (line : ServedLinesAreAnswered) (sum : SummariesAreOfBlocks) where
+    pub keeps_promise : (service : Service) (rules : Rules) (old new : Hall) (reason : SessionEnd) (ledger_faults door_faults door_memory : ℕ)
+        → rules_of (past_of old.book.events) ≡ Some rules → (run : HasRun service old new reason ledger_faults door_faults door_memory)
+        → KeepsItsPromise service rules old new reason ledger_faults door_faults door_memory run
+    keeps_promise service rules old new reason ledger_faults door_faults door_memory are run = record {
+      keeps =
+          keeps_history old.book.events new.book.events old.book.keeper.faults new.book.keeper.faults (all_calls run.course run.shifts)
+          run.begins run.kept.legal run.parted run.good;
+      ledger = run.ledger;
+      fed = run.fed;
+      worked = run.worked;
+      lines = line service old new reason ledger_faults door_faults door_memory rules are run;
+      summed =
+          sum new.book.events rules
+          (subst (λ events. rules_of (past_of events) ≡ Some rules) run.begins.1 (rules_further old.book.events run.begins.0 rules are));
+    }
+
+    pub by_reached : (settings : Settings) (begun : BookSeen) (old new : NetworkSeen) (reached : ReachedSeen)
+        → rules_of (past_of begun.events) ≡ Some settings.rules
+        → (serves : ServesOnNetwork (service_by settings) (places_by settings) old new begun reached) → KeepsByReached settings begun old new reached serves
+    by_reached settings begun old new (Served ended reason ledger_faults door_faults door_memory) are serves =
+        keeps_promise (service_by settings) settings.rules
+        (record { book = begun; doors = serves.doors; feed = serves.link })
+        (record { book = ended; doors = serves.doors_back; feed = serves.link_back })
+        reason ledger_faults door_faults door_memory are serves.ran
+    by_reached settings begun old new (Unserved ended error) are serves = tt
+
+    by_book : (settings : Settings) (keeper : KeeperSeen) (old new : WorldSeen) (status : Status) (row : ServesOnBook settings keeper old new status)
+        → KeepsByBook settings keeper old new status row
+    by_book settings keeper old new status (inl served) = (
+      served.begins,
+      by_reached settings served.begun old.network new.network served.reached
+          (ap (λ events. rules_of (past_of events)) served.begins) served.serves,
+    )
+    by_book settings keeper old new status (inr no_start) = tt
+
+    by_keeper : (settings : Settings) (ledger : List ℕ) (old new : WorldSeen) (status : Status) (row : ServesWithKeeper settings ledger old new status)
+        → KeepsByKeeper settings ledger old new status row
+    by_keeper settings ledger old new status (inl kept) =
+        by_book settings kept.0 (record { host = kept.1; network = old.network }) new status kept.3
+    by_keeper settings ledger old new status (inr refused) = tt
+
+    by_settings : (ledger : List ℕ) (answer : Result Settings NoSettings) (old new : WorldSeen) (status : Status)
+        (row : ServesAfterSettings ledger answer old new status) → KeepsBySettings ledger answer old new status row
+    by_settings ledger (Ok settings) old new status row = by_keeper settings ledger old new status row
+    by_settings ledger (Err no_settings) old new status row = tt
+
+    pub serve_keeps : ServeKeepsItsPromise
+    serve_keeps settings_name ledger_name old new status row =
+        by_settings ledger_name row.serves.0 (record { host = row.serves.1; network = old.network }) new status row.serves.3
