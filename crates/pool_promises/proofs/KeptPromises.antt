@@ -1,10 +1,16 @@
 -- What serving leaves keeps the pool's promise.
-use Rattle.std.proofs.Common.{◌≡◌, ℕ, None, Some, Result, Ok, Err, List, ◌∷◌, ◌++◌, take, inl, inr, refl, sym, subst, ap, ◌∙◌}
+use Rattle.std.proofs.Common.{◌≡◌, ℕ, None, Some, Result, Ok, Err, List, [], ◌∷◌, take, inl, inr, refl, sym, subst, ap}
 use Rattle.pool_base.specs.Calls.{Parted}
 use Rattle.pool_base.specs.Lists.{Begins}
 use Rattle.pool_base.proofs.Behind.{all-map}
+use Rattle.ledger_disk.specs.Calls.{DiskSeen}
+use Rattle.ledger_resume.specs.Books.{IsReadyBook}
+use Rattle.ledger_resume.specs.declared.leaving.TheConstants.{WORKERS}
+use Rattle.ledger_resume.proofs.GoneOn.{begins_on}
+use Rattle.ledger_resume.proofs.Leaves.{leave_begins}
 use Rattle.pool_io.specs.Seen.{KeeperSeen}
 use Rattle.pool_history.specs.declared.events.Event.{Event}
+use Rattle.pool_history.specs.declared.events.Event.TheVariants as event
 use Rattle.pool_history.specs.declared.settings.Rules.{Rules}
 use Rattle.pool_history.specs.Calls.{GoodPoolCalls, IsGoodPoolCall, PoolCall}
 use Rattle.pool_history.specs.Judging.{share_of}
@@ -26,12 +32,26 @@ use Rattle.stream_commands.specs.declared.status.Status.{Status}
 use Rattle.pool_server.specs.Parts.{Service}
 use Rattle.pool_server.specs.Serving.{Hall, HasRun}
 use Rattle.pool_server.specs.Tending.{all_calls}
+use Rattle.pool_commands.specs.DurableServing.{ServesDiskAfterSettings, ServesNetworkOnDisk, ServesWithDisk}
 use Rattle.pool_commands.specs.ServeRow.{ServesAfterSettings, ServesOnBook, ServesWithKeeper, places_by, service_by}
 use Rattle.pool_commands.specs.Serving.{ReachedSeen, Served, ServesOnNetwork, Unserved}
+use Rattle.pool_commands.specs.Surroundings.{Surroundings, around}
 use Rattle.pool_promises.specs.Serving.{ServedLinesAreAnswered}
 use Rattle.pool_promises.specs.Promise.{JudgesByConditions, KeepsHistory, KeepsItsPromise}
-use Rattle.pool_promises.specs.Headline.{KeepsByBook, KeepsByKeeper, KeepsByReached, KeepsBySettings, ServeKeepsItsPromise}
+use Rattle.pool_promises.specs.Headline.{DurableServeKeepsItsPromise, KeepsByBook, KeepsByDisk, KeepsByDiskSettings, KeepsByKeeper, KeepsByReached, KeepsByReady, KeepsBySettings, ServeKeepsItsPromise}
 use Rattle.pool_promises.proofs.Present.{rules_further}
+
+-- a book that is ready on a disk begins with the Start of its rules
+ready_begins : (rules : Rules) (disk : DiskSeen) (book : BookSeen) → IsReadyBook rules disk book → Begins (event.Start rules ∷ []) book.events
+ready_begins rules disk book ready =
+    elim ready.3.made [
+      | inl begun ↦ ([], sym begun.begins)
+      | inr on ↦ begins_on (event.Start rules ∷ []) on.past book.events on.of_pool.starts (leave_begins WORKERS on.past book.events on.left)
+    ]
+
+begun_under : (rules : Rules) (events : List Event) → Begins (event.Start rules ∷ []) events → rules_of (past_of events) ≡ Some rules
+begun_under rules events begins =
+    subst (λ l. rules_of (past_of l) ≡ Some rules) begins.1 (rules_further (event.Start rules ∷ []) begins.0 rules refl)
 
 module _ (judge : CallsAreJudged) (stand : ConditionsStandByThemselves) (credit : CreditsAreCalled) (disjoint : SpacesAreDisjoint)
     (conserve : RewardsAreConserved) (count : NoShareTwice) where
@@ -110,3 +130,26 @@ module _ (judge : CallsAreJudged) (stand : ConditionsStandByThemselves) (credit 
     pub serve_keeps : ServeKeepsItsPromise
     serve_keeps settings_name ledger_name old new status row =
         by_settings ledger_name row.serves.0 (record { host = row.serves.1; network = old.network }) new status row.serves.3
+
+    by_ready : (settings : Settings) (disk : DiskSeen) (old new : Surroundings) (status : Status) (row : ServesNetworkOnDisk settings disk old new status)
+        → KeepsByReady settings disk old new status row
+    by_ready settings disk old new status (inl served) =
+        let begins = ready_begins settings.rules disk served.ready served.is_ready in (
+          begins,
+          by_reached settings served.ready old.network new.network served.reached (begun_under settings.rules served.ready.events begins) served.serves,
+        )
+    by_ready settings disk old new status (inr unservable) = tt
+
+    by_disk : (settings : Settings) (ledger : List ℕ) (old new : Surroundings) (status : Status) (row : ServesWithDisk settings ledger old new status)
+        → KeepsByDisk settings ledger old new status row
+    by_disk settings ledger old new status (inl kept) = by_ready settings kept.0 (around old.host old.network kept.1) new status kept.3
+    by_disk settings ledger old new status (inr refused) = tt
+
+    by_disk_settings : (ledger : List ℕ) (answer : Result Settings NoSettings) (old new : Surroundings) (status : Status)
+        (row : ServesDiskAfterSettings ledger answer old new status) → KeepsByDiskSettings ledger answer old new status row
+    by_disk_settings ledger (Ok settings) old new status row = by_disk settings ledger old new status row
+    by_disk_settings ledger (Err no_settings) old new status row = tt
+
+    pub durable_serve_keeps : DurableServeKeepsItsPromise
+    durable_serve_keeps settings_name ledger_name old new status row =
+        by_disk_settings ledger_name row.serves.0 (around row.serves.1 old.network old.disks) new status row.serves.3

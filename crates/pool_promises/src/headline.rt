@@ -1,6 +1,6 @@
 //! The promise of the pool, of what the commands that serve leave.
 
-ghost use Rattle.pool_promises.specs.Headline.{ServeKeepsItsPromise};
+ghost use Rattle.pool_promises.specs.Headline.{DurableServeKeepsItsPromise, ServeKeepsItsPromise};
 
 use crate::served_lines_are_answered;
 use history_laws::{
@@ -15,6 +15,21 @@ use payout_laws::{rewards_are_conserved, summaries_are_of_blocks};
 /// failed; open extranonce spaces are disjoint; each reward is its payouts plus the pool's part.
 pub fn serve_keeps_its_promise()
     ensures { ServeKeepsItsPromise }
+{
+    calls_are_judged();
+    conditions_stand_by_themselves();
+    credits_are_called();
+    spaces_are_disjoint();
+    rewards_are_conserved();
+    no_share_twice();
+    served_lines_are_answered();
+    summaries_are_of_blocks();
+}
+
+/// So does `durable serve`, on the history that it found on its disk: that begins with the settings' Start
+/// too, and what it leaves begins with what it found.
+pub fn durable_serve_keeps_its_promise()
+    ensures { DurableServeKeepsItsPromise }
 {
     calls_are_judged();
     conditions_stand_by_themselves();
