@@ -156,3 +156,8 @@ AskAtAddress words =
 -- the words ask for a disk
 abbrev pub AskForDisk : List (List ℕ) → Type 0
 AskForDisk words = (command : OnDisk) × IsDurable words command
+
+-- the words ask to serve whoever calls, so what they ask for may wait
+abbrev pub AskToServe : List (List ℕ) → Type 0
+AskToServe words =
+    IsServe words ⊎ ((count : ℕ) × IsProxy words count) ⊎ IsDurableServe words

@@ -114,6 +114,13 @@ IsAlone (Proxy count) = ⊥
 IsAlone (Durable command) = StaysOffNetwork command
 IsAlone _ = Unit {0}
 
+-- the form doesn't ask to serve whoever calls
+abbrev pub WaitsForNobody : Form → Type 0
+WaitsForNobody Serve = ⊥
+WaitsForNobody (Proxy count) = ⊥
+WaitsForNobody (Durable disk.Serve) = ⊥
+WaitsForNobody _ = Unit {0}
+
 -- the form asks for no disk
 abbrev pub IsOffDisk : Form → Type 0
 IsOffDisk (Durable command) = ⊥

@@ -6,5 +6,5 @@ mod on_disk;
 mod top_call;
 mod words;
 
-pub use top_call::run;
+pub use top_call::{run, run_alone};
 pub use words::{Form, OnDisk, Word};

@@ -6,11 +6,9 @@ ghost use Rattle.pool_commands.specs.DurableAuditing.{DurableAuditRow};
 ghost use Rattle.pool_commands.specs.DurableServing.{DurableServeRow};
 ghost use Rattle.pool_commands.specs.DurableSoloing.{DurableSoloRow};
 ghost use Rattle.pool_commands.specs.Surroundings.{IsAllBack, around};
-ghost use Rattle.command_line.specs.declared.words.OnDisk.TheVariants as command;
-ghost use Rattle.command_line.specs.Forms.{IsDurable, IsDurableAudit, IsDurableServe, IsDurableSolo};
-ghost use Rattle.command_line.specs.Running.{OwesDurableRow, StaysOffNetwork};
+ghost use Rattle.command_line.specs.Forms.{IsDurableAudit, IsDurableServe, IsDurableSolo};
 
-use crate::words::{OnDisk, Word, durable_audit_name, durable_serve_names, durable_solo_names};
+use crate::words::{Word, durable_audit_name, durable_serve_names, durable_solo_names};
 use ledger_disk::Disks;
 use pool_commands::{audit_on_disk, serve_on_disk, solo_on_disk};
 use pool_io::Host;
@@ -20,37 +18,8 @@ use std::sync::Wait;
 use std::thread::Threads;
 use stream_commands::Status;
 
-/// Does what the words ask for over a disk.
-pub(crate) fn durable_named<R: Threads + Wait + Sync, H: Host, N: Network, V: Disks>(
-    rt: &R,
-    alloc: Global,
-    host: &mut H,
-    network: &mut N,
-    disks: &mut V,
-    words: &[Word],
-    command: OnDisk,
-) -> Status
-where
-    N::D: Send,
-    <N::D as Door>::L: Send,
-    V::Z: Send,
-    requires names { IsDurable words.now command }
-    ensures row { OwesDurableRow words.now command
-        (around (H.seen host.old) (N.seen network.old) (V.seen disks.old))
-        (around (H.seen host.new) (N.seen network.new) (V.seen disks.new)) result }
-    ensures back { IsAllBack (around (H.seen host.old) (N.seen network.old) (V.seen disks.old))
-        (around (H.seen host.new) (N.seen network.new) (V.seen disks.new)) }
-    ensures alone { StaysOffNetwork command → N.seen network.new ≡ N.seen network.old }
-{
-    match command {
-        OnDisk::Solo => solo_named(alloc, host, disks, words),
-        OnDisk::Serve => serve_named(rt, alloc, host, network, disks, words),
-        OnDisk::Audit => audit_named(alloc, host, disks, words),
-    }
-}
-
 /// Serves a session by the file and over the disk that the words name.
-fn solo_named<H: Host, V: Disks>(
+pub(crate) fn durable_solo_named<H: Host, V: Disks>(
     alloc: Global,
     host: &mut H,
     disks: &mut V,
@@ -74,7 +43,7 @@ fn solo_named<H: Host, V: Disks>(
 }
 
 /// Serves a feed and miners by the file and over the disk that the words name.
-fn serve_named<R: Threads + Wait + Sync, H: Host, N: Network, V: Disks>(
+pub(crate) fn durable_serve_named<R: Threads + Wait + Sync, H: Host, N: Network, V: Disks>(
     rt: &R,
     alloc: Global,
     host: &mut H,
@@ -104,7 +73,7 @@ where
 }
 
 /// Audits the ledger on the disk that the words name.
-fn audit_named<H: Host, V: Disks>(
+pub(crate) fn durable_audit_named<H: Host, V: Disks>(
     alloc: Global,
     host: &mut H,
     disks: &mut V,

@@ -14,12 +14,12 @@ ghost use Rattle.pool_io.specs.Hosts.{IsHandedBack};
 ghost use Rattle.pool_commands.specs.Surroundings.{IsAllBack, IsWorldBack, around};
 ghost use Rattle.pool_commands.specs.SoloRow.{DeclareRow, SoloRow};
 ghost use Rattle.command_line.specs.declared.words.Form.{Form as Asked};
-ghost use Rattle.command_line.specs.Forms.{AskAtAddress, AskForDisk, HasNoForm, IsAudit, IsDeclare, IsDurable, IsDurableAudit, IsDurableServe, IsDurableSolo, IsFeed, IsForm, IsMigrate, IsMine, IsProxy, IsServe, IsSolo};
-ghost use Rattle.command_line.specs.Running.{DoesForm, IsAlone, IsOffDisk, IsWithinLimits, OwesDurableRow, OwesRow};
+ghost use Rattle.command_line.specs.Forms.{AskAtAddress, AskForDisk, AskToServe, HasNoForm, IsAudit, IsDeclare, IsDurable, IsDurableAudit, IsDurableServe, IsDurableSolo, IsFeed, IsForm, IsMigrate, IsMine, IsProxy, IsServe, IsSolo};
+ghost use Rattle.command_line.specs.Running.{DoesForm, IsAlone, IsOffDisk, IsWithinLimits, OwesDurableRow, OwesRow, WaitsForNobody};
 
-use crate::on_disk::durable_named;
+use crate::on_disk::{durable_audit_named, durable_serve_named, durable_solo_named};
 use crate::words::{
-    Form, Word, audit_name, declare_names, feed_names, form_of, migrate_names, serve_names,
+    Form, OnDisk, Word, audit_name, declare_names, feed_names, form_of, migrate_names, serve_names,
     solo_names,
 };
 use ledger_audit::{audit_ledger, migrate_ledger};
@@ -87,6 +87,41 @@ where
     }
 }
 
+/// The same for words that ask for none of `serve`, `durable serve` and `proxy`: it waits for nobody, so it comes
+/// back whatever the input is.
+pub fn run_alone<H: Host, N: Network, V: Disks>(
+    alloc: Global,
+    host: &mut H,
+    network: &mut N,
+    disks: &mut V,
+    words: &[Word],
+) -> u8
+    requires unserved { AskToServe words.now → ⊥ }
+    ensures usage { result ≡ 2 ↔ HasNoForm words.now }
+    ensures unopened { result ≡ 2 → H.seen host.new ≡ H.seen host.old }
+    ensures does { (form : Asked) → IsForm words.now form → DoesForm
+        words.now form
+        (around (H.seen host.old) (N.seen network.old) (V.seen disks.old))
+        (around (H.seen host.new) (N.seen network.new) (V.seen disks.new)) result }
+    ensures formed { (result ≡ 2) ⊎ ((form : Asked) × IsForm words.now form × DoesForm
+        words.now form
+        (around (H.seen host.old) (N.seen network.old) (V.seen disks.old))
+        (around (H.seen host.new) (N.seen network.new) (V.seen disks.new)) result) }
+    ensures statuses { (status : Answer) × (result ≡ status_code status) }
+    ensures back { IsAllBack (around (H.seen host.old) (N.seen network.old) (V.seen disks.old))
+        (around (H.seen host.new) (N.seen network.new) (V.seen disks.new)) }
+    ensures alone { (AskAtAddress words.now → ⊥) → N.seen network.new ≡ N.seen network.old }
+    ensures undisked { (AskForDisk words.now → ⊥) → V.seen disks.new ≡ V.seen disks.old }
+    ensures counts { (AskAtAddress words.now → ⊥) → (AskForDisk words.now → ⊥)
+        → CountsFailure (result == 7) (H.seen host.old).streams.faults
+        (H.seen host.new).streams.faults }
+{
+    match form_of(words) {
+        None => Status::Usage.code(),
+        Some(form) => perform_alone(alloc, host, network, disks, words, form).code(),
+    }
+}
+
 /// Does what a form asks for.
 fn perform<R: Threads + Wait + Sync, H: Host, N: Network, V: Disks>(
     rt: &R,
@@ -115,20 +150,58 @@ where
         (H.seen host.old).streams.faults (H.seen host.new).streams.faults }
 {
     match form {
+        Form::Serve => serve_named(rt, alloc, host, network, words),
+        Form::Proxy { count } => proxy_named(rt, alloc, host, network, words, count),
+        Form::Durable {
+            command: OnDisk::Serve,
+        } => durable_serve_named(rt, alloc, host, network, disks, words),
+        form => perform_alone(alloc, host, network, disks, words, form),
+    }
+}
+
+/// Does what a form asks for that waits for nobody.
+fn perform_alone<H: Host, N: Network, V: Disks>(
+    alloc: Global,
+    host: &mut H,
+    network: &mut N,
+    disks: &mut V,
+    words: &[Word],
+    form: Form,
+) -> Status
+    requires limits { IsWithinLimits form }
+    requires names { IsForm words.now form }
+    requires waits { WaitsForNobody form }
+    ensures row { OwesRow words.now form
+        (around (H.seen host.old) (N.seen network.old) (V.seen disks.old))
+        (around (H.seen host.new) (N.seen network.new) (V.seen disks.new)) result }
+    ensures back { IsAllBack (around (H.seen host.old) (N.seen network.old) (V.seen disks.old))
+        (around (H.seen host.new) (N.seen network.new) (V.seen disks.new)) }
+    ensures alone { IsAlone form → N.seen network.new ≡ N.seen network.old }
+    ensures undisked { IsOffDisk form → V.seen disks.new ≡ V.seen disks.old }
+    ensures counts { IsAlone form → IsOffDisk form → CountsFailure (status_code result == 7)
+        (H.seen host.old).streams.faults (H.seen host.new).streams.faults }
+{
+    match form {
         Form::SoloFixed { class, job } => judge_shares(alloc, host, class, &job),
         Form::Frames => list_frames(alloc, host),
         Form::Solo => solo_named(alloc, host, words),
         Form::Declare => declare_named(alloc, host, words),
-        Form::Serve => serve_named(rt, alloc, host, network, words),
         Form::Audit => audit_named(alloc, host, words),
         Form::Migrate => migrate_named(alloc, host, words),
         Form::Load { number } => load(alloc, host, number),
         Form::Mine { class, count } => mine_named(alloc, host, network, words, class, count),
         Form::Feed => feed_named(alloc, host, network, words),
-        Form::Proxy { count } => proxy_named(rt, alloc, host, network, words, count),
-        Form::Durable { command } => {
-            durable_named(rt, alloc, host, network, disks, words, command)
-        }
+        Form::Durable {
+            command: OnDisk::Solo,
+        } => durable_solo_named(alloc, host, disks, words),
+        Form::Durable {
+            command: OnDisk::Audit,
+        } => durable_audit_named(alloc, host, disks, words),
+        Form::Serve
+        | Form::Proxy { .. }
+        | Form::Durable {
+            command: OnDisk::Serve,
+        } => unreachable!(),
     }
 }
 
