@@ -1,13 +1,15 @@
 -- What serving leaves keeps the pool's promise.
-use Rattle.std.proofs.Common.{◌≡◌, ℕ, None, Some, Result, Ok, Err, List, [], ◌∷◌, take, inl, inr, refl, sym, subst, ap}
+use Rattle.std.proofs.Common.{◌≡◌, ℕ, Bool, false, append_assoc, None, Some, Result, Ok, Err, List, [], ◌∷◌, ◌++◌, take, inl, inr, refl, sym, subst, ap}
+use Rattle.std.specs.List.{AllByRecursion}
 use Rattle.pool_base.specs.Calls.{Parted}
 use Rattle.pool_base.specs.Lists.{Begins}
 use Rattle.pool_base.proofs.Behind.{all-map}
 use Rattle.ledger_disk.specs.Calls.{DiskSeen}
-use Rattle.ledger_resume.specs.Books.{IsReadyBook}
+use Rattle.ledger_resume.specs.Books.{IsReadyBook, keeper_on}
 use Rattle.ledger_resume.specs.declared.leaving.TheConstants.{WORKERS}
 use Rattle.ledger_resume.proofs.GoneOn.{begins_on}
 use Rattle.ledger_resume.proofs.Leaves.{leave_begins}
+use Rattle.pool_io.specs.Hosts.{HostSeen}
 use Rattle.pool_io.specs.Seen.{KeeperSeen}
 use Rattle.pool_history.specs.declared.events.Event.{Event}
 use Rattle.pool_history.specs.declared.events.Event.TheVariants as event
@@ -27,18 +29,29 @@ use Rattle.pool_network.specs.Worlds.{WorldSeen}
 use Rattle.pool_settings.specs.declared.opening.NoSettings.{NoSettings}
 use Rattle.pool_settings.specs.declared.settings.Settings.{Settings}
 use Rattle.session_steps.specs.declared.ends.SessionEnd.{SessionEnd}
+use Rattle.session_steps.specs.declared.manner.Manner.{Manner}
+use Rattle.session_steps.specs.Steps.{calls_in}
 use Rattle.share_ledger.specs.Books.{BookSeen}
 use Rattle.stream_commands.specs.declared.status.Status.{Status}
+use Rattle.pool_sessions.specs.declared.alone.SoloEnd.{SoloEnd}
+use Rattle.pool_sessions.specs.declared.alone.SoloEnd.TheVariants as solo
+use Rattle.pool_sessions.specs.Calling.{StandInTurn, added_in}
+use Rattle.pool_sessions.specs.Solo.{IsServed, IsSessionOn, Outsides, solo_manner}
 use Rattle.pool_server.specs.Parts.{Service}
 use Rattle.pool_server.specs.Serving.{Hall, HasRun}
 use Rattle.pool_server.specs.Tending.{all_calls}
+use Rattle.pool_commands.specs.declared.durable_session.DiskEnd.{DiskEnd}
+use Rattle.pool_commands.specs.declared.durable_session.DiskEnd.TheVariants as ends
+use Rattle.pool_commands.specs.DurableSessions.{DiskOutsides, ServesOnDisk}
+use Rattle.pool_commands.specs.DurableSoloing.{DiskRow, DiskSessionRow, GoesOnWithDisk, HostAndDisks}
+use Rattle.pool_commands.specs.SoloRow.{GoesOnFrom, KeeperRow, SessionRow}
 use Rattle.pool_commands.specs.DurableServing.{ServesDiskAfterSettings, ServesNetworkOnDisk, ServesWithDisk}
 use Rattle.pool_commands.specs.ServeRow.{ServesAfterSettings, ServesOnBook, ServesWithKeeper, places_by, service_by}
 use Rattle.pool_commands.specs.Serving.{ReachedSeen, Served, ServesOnNetwork, Unserved}
 use Rattle.pool_commands.specs.Surroundings.{Surroundings, around}
 use Rattle.pool_promises.specs.Serving.{ServedLinesAreAnswered}
-use Rattle.pool_promises.specs.Promise.{JudgesByConditions, KeepsHistory, KeepsItsPromise}
-use Rattle.pool_promises.specs.Headline.{DurableServeKeepsItsPromise, KeepsByBook, KeepsByDisk, KeepsByDiskSettings, KeepsByKeeper, KeepsByReached, KeepsByReady, KeepsBySettings, ServeKeepsItsPromise}
+use Rattle.pool_promises.specs.Promise.{IsSound, JudgesByConditions, KeepsHistory, KeepsInTurn, KeepsItsPromise, KeepsSession}
+use Rattle.pool_promises.specs.Headline.{DurableServeKeepsItsPromise, DurableSoloKeepsItsPromise, KeepsByBook, KeepsByDisk, KeepsByDiskEnd, KeepsByDiskSettings, KeepsByDiskStreams, KeepsByEnd, KeepsByFile, KeepsByFileSettings, KeepsByKeeper, KeepsByReached, KeepsByReady, KeepsBySettings, KeepsBySoloDisk, KeepsBySoloDiskSettings, KeepsByStreams, ServeKeepsItsPromise, SoloKeepsItsPromise}
 use Rattle.pool_promises.proofs.Present.{rules_further}
 
 -- a book that is ready on a disk begins with the Start of its rules
@@ -53,6 +66,20 @@ begun_under : (rules : Rules) (events : List Event) → Begins (event.Start rule
 begun_under rules events begins =
     subst (λ l. rules_of (past_of l) ≡ Some rules) begins.1 (rules_further (event.Start rules ∷ []) begins.0 rules refl)
 
+-- calls of which each stands at all that those before it left are good calls of what they leave
+good_in_turn : (start : List Event) (calls : List PoolCall) → StandInTurn start calls → GoodPoolCalls (start ++ added_in calls) calls
+good_in_turn start [] turns = tt
+good_in_turn start (call ∷ calls) turns = (
+  record {
+    before = start;
+    after = added_in calls;
+    stands = sym (append_assoc start call.added (added_in calls));
+    at_front = sym turns.0;
+    outcome = turns.1;
+  },
+  subst (λ l. GoodPoolCalls l calls) (append_assoc start call.added (added_in calls)) (good_in_turn (start ++ call.added) calls turns.2),
+)
+
 module _ (judge : CallsAreJudged) (stand : ConditionsStandByThemselves) (credit : CreditsAreCalled) (disjoint : SpacesAreDisjoint)
     (conserve : RewardsAreConserved) (count : NoShareTwice) where
   judged : (history : List Event) (call : PoolCall) → IsGoodPoolCall history call → JudgesByConditions history call
@@ -66,18 +93,35 @@ module _ (judge : CallsAreJudged) (stand : ConditionsStandByThemselves) (credit 
         refused = λ code fails. is.refused code ((by (Some code)).1 fails);
       }
 
+  sound : (history : List Event) → Legal history → IsSound history
+  sound history legal = record {
+    legal = legal;
+    once = count history legal;
+    apart = λ before after parts. disjoint before after (subst Legal parts legal);
+    rewards = λ rules block older reward. conserve history rules block older reward legal;
+  }
+
+  all_judged : (history : List Event) (calls : List PoolCall) → GoodPoolCalls history calls → AllByRecursion (JudgesByConditions history) calls
+  all_judged history calls good = all-map (IsGoodPoolCall history) (JudgesByConditions history) (judged history) calls good
+
   pub keeps_history : (start history : List Event) (least most : ℕ) (calls : List PoolCall) → Begins start history → Legal history
       → Parted start history least most calls → GoodPoolCalls history calls → KeepsHistory start history least most calls
   keeps_history start history least most calls begins legal parted good = record {
     begins = begins;
-    legal = legal;
+    sound = sound history legal;
     parted = parted;
     answered = good;
-    judged = all-map (IsGoodPoolCall history) (JudgesByConditions history) (judged history) calls good;
+    judged = all_judged history calls good;
     called = credit start history least most calls parted good;
-    once = count history legal;
-    apart = λ before after parts. disjoint before after (subst Legal parts legal);
-    rewards = λ rules block older reward. conserve history rules block older reward legal;
+  }
+
+  keeps_in_turn : (start history : List Event) (calls : List PoolCall) → history ≡ start ++ added_in calls → Legal history → StandInTurn start calls
+      → KeepsInTurn start history calls
+  keeps_in_turn start history calls grows legal turns = record {
+    grows = grows;
+    turns = turns;
+    sound = sound history legal;
+    judged = all_judged history calls (subst (λ l. GoodPoolCalls l calls) (sym grows) (good_in_turn start calls turns));
   }
 
   module _ (line : ServedLinesAreAnswered) (sum : SummariesAreOfBlocks) where
@@ -153,3 +197,70 @@ module _ (judge : CallsAreJudged) (stand : ConditionsStandByThemselves) (credit 
     pub durable_serve_keeps : DurableServeKeepsItsPromise
     durable_serve_keeps settings_name ledger_name old new status row =
         by_disk_settings ledger_name row.serves.0 (around row.serves.1 old.network old.disks) new status row.serves.3
+
+    keeps_session : (rules : Rules) (manner : Manner) (from : List Event) (old new : Outsides) (reason : SessionEnd) (history : List Event)
+        → rules_of (past_of from) ≡ Some rules → (session : IsSessionOn manner from old new reason history) → KeepsSession rules from history session.steps
+    keeps_session rules manner from old new reason history are session = record {
+      keeps = keeps_in_turn from history (calls_in session.steps) session.begins session.kept.legal session.turns;
+      summed =
+          sum history rules
+          (subst (λ l. rules_of (past_of l) ≡ Some rules) (sym session.begins) (rules_further from (added_in (calls_in session.steps)) rules are));
+    }
+
+    by_end : (declares : Bool) (rules : Rules) (idle_turns : ℕ) (old new : Outsides) (end : SoloEnd) (did : IsServed rules declares idle_turns old new end)
+        → KeepsByEnd declares rules idle_turns old new end did
+    by_end declares rules idle_turns old new (solo.Unbegun cause) did = tt
+    by_end declares rules idle_turns old new (solo.Over reason) did =
+        keeps_session rules (solo_manner rules declares idle_turns) (event.Start rules ∷ []) old new reason did.0 refl did.1
+
+    by_streams : (declares : Bool) (settings : Settings) (keeper : KeeperSeen) (old new : HostSeen) (status : Status)
+        (row : SessionRow declares settings keeper old new status) → KeepsByStreams declares settings keeper old new status row
+    by_streams declares settings keeper old new status (inl ran) =
+        by_end declares settings.rules settings.limits.idle_turns ran.2.given ran.2.back ran.0 ran.2.served.did
+    by_streams declares settings keeper old new status (inr refused) = tt
+
+    by_file : (declares : Bool) (settings : Settings) (ledger : List ℕ) (old new : HostSeen) (status : Status)
+        (row : KeeperRow declares settings ledger old new status) → KeepsByFile declares settings ledger old new status row
+    by_file declares settings ledger old new status (inl kept) = by_streams declares settings kept.0 kept.1 new status kept.3
+    by_file declares settings ledger old new status (inr refused) = tt
+
+    by_file_settings : (declares : Bool) (ledger : List ℕ) (answer : Result Settings NoSettings) (old new : HostSeen) (status : Status)
+        (row : GoesOnFrom declares ledger answer old new status) → KeepsByFileSettings declares ledger answer old new status row
+    by_file_settings declares ledger (Ok settings) old new status row = by_file declares settings ledger old new status row
+    by_file_settings declares ledger (Err no_settings) old new status row = tt
+
+    pub solo_keeps : SoloKeepsItsPromise
+    solo_keeps declares settings_name ledger_name old new status row = by_file_settings declares ledger_name row.0 row.1 new status row.3
+
+    by_disk_end : (rules : Rules) (idle_turns : ℕ) (old new : DiskOutsides) (end : DiskEnd) (served : ServesOnDisk rules idle_turns old new end)
+        → KeepsByDiskEnd rules idle_turns old new end served
+    by_disk_end rules idle_turns old new (ends.NoBook cause) served = tt
+    by_disk_end rules idle_turns old new (ends.Over reason) served =
+        let begins = ready_begins rules old.disk served.ready served.is_ready in (
+          begins,
+          keeps_session rules (solo_manner rules false idle_turns) served.ready.events
+              (record { source = old.source; sink = old.sink; keeper = served.ready.keeper })
+              (record { source = new.source; sink = new.sink; keeper = keeper_on new.disk })
+              reason served.history (begun_under rules served.ready.events begins) served.serves.did,
+        )
+
+    by_disk_streams : (settings : Settings) (disk : DiskSeen) (old new : HostAndDisks) (status : Status)
+        (row : DiskSessionRow settings disk old new status) → KeepsByDiskStreams settings disk old new status row
+    by_disk_streams settings disk old new status (inl ran) =
+        by_disk_end settings.rules settings.limits.idle_turns ran.2.given ran.2.back ran.0 ran.2.served
+    by_disk_streams settings disk old new status (inr refused) = tt
+
+    by_solo_disk : (settings : Settings) (ledger : List ℕ) (old new : HostAndDisks) (status : Status)
+        (row : DiskRow settings ledger old new status) → KeepsBySoloDisk settings ledger old new status row
+    by_solo_disk settings ledger old new status (inl kept) =
+        by_disk_streams settings kept.0 (record { host = old.host; disks = kept.1 }) new status kept.3
+    by_solo_disk settings ledger old new status (inr refused) = tt
+
+    by_solo_disk_settings : (ledger : List ℕ) (answer : Result Settings NoSettings) (old new : HostAndDisks) (status : Status)
+        (row : GoesOnWithDisk ledger answer old new status) → KeepsBySoloDiskSettings ledger answer old new status row
+    by_solo_disk_settings ledger (Ok settings) old new status row = by_solo_disk settings ledger old new status row
+    by_solo_disk_settings ledger (Err no_settings) old new status row = tt
+
+    pub durable_solo_keeps : DurableSoloKeepsItsPromise
+    durable_solo_keeps settings_name ledger_name old new status row =
+        by_solo_disk_settings ledger_name row.0 (record { host = row.1; disks = old.disks }) new status row.3

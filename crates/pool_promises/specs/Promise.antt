@@ -28,7 +28,9 @@ use Rattle.history_laws.specs.Serving.{IsCalled}
 use Rattle.payout_laws.specs.Conservation.{IsBlockOf, IsConserved}
 use Rattle.payout_laws.specs.Summaries.{IsSummedUp}
 use Rattle.session_steps.specs.declared.ends.SessionEnd.{SessionEnd}
+use Rattle.session_steps.specs.Steps.{SessionStep, calls_in}
 use Rattle.share_ledger.specs.Books.{KeepsInstead}
+use Rattle.pool_sessions.specs.Calling.{StandInTurn, added_in}
 use Rattle.pool_server.specs.Parts.{Service, manner_of}
 use Rattle.pool_server.specs.Serving.{AreShifts, Hall, HasRun}
 use Rattle.pool_server.specs.Tending.{all_calls}
@@ -57,12 +59,27 @@ JudgesByConditions history call =
     → call.asked ≡ request.Commit checked → call.outcome ≡ Replied answer
     → IsJudgedByConditions (take call.front history) call checked may answer
 
+-- A history of which nobody has to take credit or payouts on trust.
+pub record IsSound (history : List Event) : Type 0 where
+  -- each of its events is legal after those before it
+  pub legal : Legal history
+  -- no share is credited twice
+  pub once : AreCounted history
+  -- the spaces of extranonces of different open channels are disjoint, at each event
+  pub apart : (before after : List Event) → history ≡ before ++ after
+      → SpacesAreApart (channels_of (past_of before))
+  -- each block's reward is its payouts plus the pool's part
+  pub rewards : (rules : Rules) (credit : Booked) (older : List Booked) (reward : ℕ)
+      → IsBlockOf history rules credit older reward
+      → IsConserved rules.fee reward (parts_in_block rules.window (credit ∷ older))
+      (settlement rules.window rules.fee reward (credit ∷ older))
+
 -- What calls leave of a history from its first events on, with the counts of faults round them.
 pub record KeepsHistory (start history : List Event) (least most : ℕ) (calls : List PoolCall) : Type 0
   where
-    -- it begins as it began, and each of its events is legal after those before it
+    -- it begins as it began, and is sound
     pub begins : Begins start history
-    pub legal : Legal history
+    pub sound : IsSound history
     -- the calls, in the order of their numbers, are all that became of it; each was answered by the
     -- history before it, or by a fault that its count shows, or memory ran out
     pub parted : Parted start history least most calls
@@ -73,16 +90,22 @@ pub record KeepsHistory (start history : List Event) (least most : ℕ) (calls :
     pub called : (before after : List Event) (session : ℕ) (share : Share)
         → history ≡ before ++ credit_of session share ∷ after → length start ≤ length before
         → IsCalled parted.ordered history before session share
-    -- no share is credited twice
-    pub once : AreCounted history
-    -- the spaces of extranonces of different open channels are disjoint, at each event
-    pub apart : (before after : List Event) → history ≡ before ++ after
-        → SpacesAreApart (channels_of (past_of before))
-    -- each block's reward is its payouts plus the pool's part
-    pub rewards : (rules : Rules) (credit : Booked) (older : List Booked) (reward : ℕ)
-        → IsBlockOf history rules credit older reward
-        → IsConserved rules.fee reward (parts_in_block rules.window (credit ∷ older))
-        (settlement rules.window rules.fee reward (credit ∷ older))
+
+-- What the calls of one session leave of a history: each stands at all that those before it left, and was
+-- answered by that, and nothing else became of the history.
+pub record KeepsInTurn (start history : List Event) (calls : List PoolCall) : Type 0 where
+  pub grows : history ≡ start ++ added_in calls
+  pub turns : StandInTurn start calls
+  pub sound : IsSound history
+  -- a share is credited exactly where no condition fails, and else refused by the first that fails
+  pub judged : AllByRecursion (JudgesByConditions history) calls
+
+-- The promise of a pool that serves one session, with these rules, from a history on.
+pub record KeepsSession (rules : Rules) (from history : List Event) (steps : List SessionStep) : Type 0
+  where
+    pub keeps : KeepsInTurn from history (calls_in steps)
+    -- the summary of the history is that of its credits and its blocks
+    pub summed : IsSummedUp history rules (summary_of (past_of history))
 
 -- The promise of a pool that serves a feed and whoever calls at its doors, on one book with these rules.
 pub record KeepsItsPromise (service : Service) (rules : Rules) (old new : Hall) (reason : SessionEnd)

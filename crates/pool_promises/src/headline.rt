@@ -1,6 +1,6 @@
 //! The promise of the pool, of what the commands that serve leave.
 
-ghost use Rattle.pool_promises.specs.Headline.{DurableServeKeepsItsPromise, ServeKeepsItsPromise};
+ghost use Rattle.pool_promises.specs.Headline.{DurableServeKeepsItsPromise, DurableSoloKeepsItsPromise, ServeKeepsItsPromise, SoloKeepsItsPromise};
 
 use crate::served_lines_are_answered;
 use history_laws::{
@@ -30,6 +30,35 @@ pub fn serve_keeps_its_promise()
 /// too, and what it leaves begins with what it found.
 pub fn durable_serve_keeps_its_promise()
     ensures { DurableServeKeepsItsPromise }
+{
+    calls_are_judged();
+    conditions_stand_by_themselves();
+    credits_are_called();
+    spaces_are_disjoint();
+    rewards_are_conserved();
+    no_share_twice();
+    served_lines_are_answered();
+    summaries_are_of_blocks();
+}
+
+/// So does `solo`, and `declare`, of their one session: each of its calls stands at all that those before it
+/// left.
+pub fn solo_keeps_its_promise()
+    ensures { SoloKeepsItsPromise }
+{
+    calls_are_judged();
+    conditions_stand_by_themselves();
+    credits_are_called();
+    spaces_are_disjoint();
+    rewards_are_conserved();
+    no_share_twice();
+    served_lines_are_answered();
+    summaries_are_of_blocks();
+}
+
+/// So does `durable solo`, on the history that it found on its disk.
+pub fn durable_solo_keeps_its_promise()
+    ensures { DurableSoloKeepsItsPromise }
 {
     calls_are_judged();
     conditions_stand_by_themselves();

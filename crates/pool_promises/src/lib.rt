@@ -30,7 +30,10 @@ pub use declaring::{
     declarations_are_by_the_rules, declared_grants_are_answered, fixed_paths_are_asked_for,
     fixed_paths_are_of_listed_transactions,
 };
-pub use headline::{durable_serve_keeps_its_promise, serve_keeps_its_promise};
+pub use headline::{
+    durable_serve_keeps_its_promise, durable_solo_keeps_its_promise, serve_keeps_its_promise,
+    solo_keeps_its_promise,
+};
 pub use laws::sessions_stay_present;
 pub use proxying::{
     bad_setups_are_exact, miners_are_put_output, proxies_keep_laws, upstreams_are_put_output,
