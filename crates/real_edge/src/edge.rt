@@ -2,10 +2,20 @@
 //! or hold.
 
 ghost use Rattle.std.specs.Prelude.{◌≡◌};
+ghost use Rattle.std.specs.Io.{WritesAtMost};
+ghost use Rattle.std.specs.Io.KnownBytes.{WriteAppends};
 
 use pool_io::{Sink, SinkFailed, Source, Took};
-use std::io;
 use std::io::{ErrorKind, Read, Write};
+use std::time::{Clock, Duration};
+use std::{io, thread};
+
+/// What finds nothing, or has no room, is asked again so much later.
+pub(crate) const TURN_MILLIS: u64 = 100;
+
+/// A write is tried so often, which with a turn before each but the first is as long as one to a link
+/// may take.
+const TRIES: u32 = 50;
 
 /// What a host reads: standard input, or a file.
 #[derive(Drop)]
@@ -75,7 +85,58 @@ impl<R: Read + Drop> Source for ReadSource<R> {
     }
 }
 
-/// A writer as a sink. Each error is counted, and so is a write that takes nothing.
+/// Writes once, but tries again what a signal breaks off.
+fn write_again<W: Write>(writer: &mut W, piece: &[u8]) -> io::Result<usize>
+    ensures bound { WritesAtMost result piece.now }
+    ensures bytes { WriteAppends (W.contents writer.old) (W.contents writer.new) result piece.now }
+{
+    for _ in 1..TRIES {
+        match writer.write(piece) {
+            Err(error) if error.kind() == ErrorKind::Interrupted => {}
+            answer => return answer,
+        }
+    }
+    writer.write(piece)
+}
+
+/// A writer that is waited for, a turn before each further try, where it has no room and doesn't wait
+/// itself.
+#[derive(Drop)]
+pub struct Waiting<W: Write + Drop, C: Clock + Drop> {
+    writer: W,
+    clock: C,
+}
+
+impl<W: Write + Drop, C: Clock + Drop> Waiting<W, C> {
+    pub fn new(writer: W, clock: C) -> Waiting<W, C>
+        ensures { result ≡ record { writer = writer; clock = clock } }
+    {
+        Waiting { writer, clock }
+    }
+}
+
+impl<W: Write + Drop, C: Clock + Drop> Write for Waiting<W, C> {
+    ghost contents = { λ w. W.contents w.writer };
+
+    fn write(&mut self, piece: &[u8]) -> io::Result<usize> {
+        for _ in 1..TRIES {
+            match self.writer.write(piece) {
+                Err(error) if error.kind() == ErrorKind::WouldBlock => {
+                    thread::sleep(&self.clock, Duration::from_millis(TURN_MILLIS));
+                }
+                answer => return answer,
+            }
+        }
+        self.writer.write(piece)
+    }
+
+    fn flush(&mut self) -> io::Result<()> {
+        self.writer.flush()
+    }
+}
+
+/// A writer as a sink. A write that a signal breaks off is tried again; each other error is counted,
+/// and so is a write that takes nothing.
 #[derive(Drop)]
 pub struct WriteSink<W: Write + Drop> {
     pub(crate) writer: W,
@@ -113,7 +174,7 @@ impl<W: Write + Drop> Sink for WriteSink<W> {
         ensures writes { IfOk result (λ n. Appends (W.contents self.old.writer)
             (W.contents self.new.writer) (take n piece.now)) }
     {
-        match self.writer.write(piece) {
+        match write_again(&mut self.writer, piece) {
             Ok(count) if count > 0 => Ok(count),
             _ => {
                 self.faults = self.faults.saturating_add(1);

@@ -1,9 +1,10 @@
-//! What no clause says of the adapters of streams and files: that each asks the system once, that
-//! every byte comes and stays as it is, that an existing file isn't taken for a new one, and that
+//! What no clause says of the adapters of streams and files: that each asks the system once, but for
+//! a write that is broken off, that every byte comes and stays as it is, that an existing file isn't taken for a new one, and that
 //! what a failed append left behind is cut off.
 
 ghost use Rattle.std.specs.Prelude.{◌<◌, ◌≤◌, IfOk, length};
 
+use crate::edge::{Waiting, WriteSink};
 use crate::file_keeper::FileKeeper;
 use crate::stream_host::StreamHost;
 use pool_io::{Host, HostError, Keeper, KeeperFailed, Sink, SinkFailed, Source, Took};
@@ -15,6 +16,7 @@ use std::os::unix::fs::{FileExt, PermissionsExt, symlink};
 use std::process::Abort;
 use std::rt::Files;
 use std::test::Fail;
+use std::time::{Clock, Duration};
 use std::{env, fs, io, process};
 
 /// Makes a folder of this test's own, and stands in it, so that names may be short.
@@ -51,21 +53,32 @@ fn append<K: Keeper>(rt: &impl Abort, keeper: &mut K, record: &[u8]) -> Result<(
     keeper.append(record)
 }
 
-/// A stream that counts its calls and answers each with what the cell says.
+/// A stream that counts its calls and answers them with what the cell says. An error holds for so many
+/// calls, and then three bytes go.
 #[derive(Clone, Copy)]
 struct Told<'a> {
     answer: &'a Cell<Result<usize, ErrorKind>>,
+    times: &'a Cell<u32>,
     calls: &'a Cell<u32>,
 }
 
 impl Told<'_> {
+    /// The next calls are answered so.
+    fn answer_so(self, answer: Result<usize, ErrorKind>, times: u32) {
+        self.answer.set(answer);
+        self.times.set(times);
+        self.calls.set(0);
+    }
+
     fn count(self, room: usize) -> io::Result<usize>
         ensures { IfOk result (λ count. count ≤ room) }
     {
-        self.calls.set(self.calls.get().saturating_add(1));
+        let call = self.calls.get();
+        self.calls.set(call.saturating_add(1));
         match self.answer.get() {
             Ok(count) => Ok(count.min(room)),
-            Err(kind) => Err(io::Error::from(kind)),
+            Err(kind) if call < self.times.get() => Err(io::Error::from(kind)),
+            Err(_) => Ok(room.min(3)),
         }
     }
 }
@@ -86,42 +99,44 @@ impl Write for Told<'_> {
     }
 }
 
-/// Takes and puts where the stream answers by a table, call by call.
+/// Takes and puts where the stream answers by a table, once where it answers an error.
 fn take_and_put<S: Source, T: Sink>(rt: &impl Abort, source: &mut S, sink: &mut T, told: Told<'_>) {
     let failed = Err(SinkFailed::Failed);
-    for (answer, took, put) in [
-        (Ok(4), Took::Bytes(4), Ok(4)),
-        (Ok(1), Took::Bytes(1), Ok(1)),
-        (Err(ErrorKind::Interrupted), Took::Idle, failed),
-        (Err(ErrorKind::WouldBlock), Took::Idle, failed),
-        (Err(ErrorKind::BrokenPipe), Took::Failed, failed),
-        (Ok(2), Took::Bytes(2), Ok(2)),
+    for (answer, took, put, writes) in [
+        (Ok(4), Took::Bytes(4), Ok(4), 1),
+        (Ok(1), Took::Bytes(1), Ok(1), 1),
+        (Err(ErrorKind::Interrupted), Took::Idle, Ok(3), 2),
+        (Err(ErrorKind::WouldBlock), Took::Idle, Ok(3), 2),
+        (Err(ErrorKind::BrokenPipe), Took::Failed, failed, 1),
+        (Ok(2), Took::Bytes(2), Ok(2), 1),
         // A write that takes nothing is a failure, and not the end of a loop.
-        (Ok(0), Took::End, failed),
-        (Ok(0), Took::End, failed),
-        (Err(ErrorKind::ConnectionReset), Took::Failed, failed),
-        (Err(ErrorKind::TimedOut), Took::Failed, failed),
-        (Err(ErrorKind::NotConnected), Took::Failed, failed),
-        (Err(ErrorKind::PermissionDenied), Took::Failed, failed),
-        (Err(ErrorKind::UnexpectedEof), Took::Failed, failed),
-        (Err(ErrorKind::Other), Took::Failed, failed),
-        (Ok(3), Took::Bytes(3), Ok(3)),
+        (Ok(0), Took::End, failed, 1),
+        (Ok(0), Took::End, failed, 1),
+        (Err(ErrorKind::ConnectionReset), Took::Failed, failed, 1),
+        (Err(ErrorKind::TimedOut), Took::Failed, failed, 1),
+        (Err(ErrorKind::NotConnected), Took::Failed, failed, 1),
+        (Err(ErrorKind::PermissionDenied), Took::Failed, failed, 1),
+        (Err(ErrorKind::UnexpectedEof), Took::Failed, failed, 1),
+        (Err(ErrorKind::Other), Took::Failed, failed, 1),
+        (Ok(3), Took::Bytes(3), Ok(3), 1),
     ] {
-        told.answer.set(answer);
-        told.calls.set(0);
+        told.answer_so(answer, 1);
         assert_eq!(rt; source.take(&mut [0; 4]), took, "{answer:?}");
         assert_eq!(rt; told.calls.get(), 1, "{answer:?}");
+        told.answer_so(answer, 1);
         assert_eq!(rt; sink.put(b"abcd"), put, "{answer:?}");
-        assert_eq!(rt; told.calls.get(), 2, "{answer:?}");
+        assert_eq!(rt; told.calls.get(), writes, "{answer:?}");
     }
 }
 
 #[test]
 fn each_take_is_one_read_and_each_put_one_write(rt: HostRuntime) -> Result<(), Fail> {
     let answer = Cell::new(Ok(0));
+    let times = Cell::new(0);
     let calls = Cell::new(0);
     let told = Told {
         answer: &answer,
+        times: &times,
         calls: &calls,
     };
     let mut host = StreamHost::new(rt.alloc(), told, told, rt);
@@ -131,8 +146,61 @@ fn each_take_is_one_read_and_each_put_one_write(rt: HostRuntime) -> Result<(), F
     take_and_put(&rt, &mut source, &mut sink, told);
     host.done_sink(sink);
     host.done_source(source);
-    assert_eq!(rt; calls.get(), 2);
+    assert_eq!(rt; calls.get(), 1);
     Ok(())
+}
+
+/// A clock that counts how long was slept, and doesn't wait.
+#[derive(Clone, Copy)]
+pub struct Counting<'a>(pub &'a Cell<Duration>);
+
+impl Clock for Counting<'_> {
+    fn monotonic(&self) -> io::Result<Duration> {
+        Ok(self.0.get())
+    }
+
+    fn since_1970(&self) -> io::Result<Duration> {
+        Ok(self.0.get())
+    }
+
+    fn sleep(&self, duration: Duration) {
+        self.0.set(self.0.get().saturating_add(duration));
+    }
+}
+
+#[test]
+fn a_write_that_is_broken_off_is_tried_again(rt: HostRuntime) {
+    let answer = Cell::new(Ok(0));
+    let times = Cell::new(0);
+    let calls = Cell::new(0);
+    let slept = Cell::new(Duration::ZERO);
+    let told = Told {
+        answer: &answer,
+        times: &times,
+        calls: &calls,
+    };
+    let mut sink = WriteSink::new(Waiting::new(told, Counting(&slept)));
+    let failed = Err(SinkFailed::Failed);
+    // Tried 50 times; what has no room, each time a tenth of a second later.
+    for (kind, broken, put, writes, millis) in [
+        (ErrorKind::Interrupted, 1, Ok(3), 2, 0),
+        (ErrorKind::Interrupted, 49, Ok(3), 50, 0),
+        (ErrorKind::Interrupted, 50, failed, 50, 0),
+        (ErrorKind::WouldBlock, 1, Ok(3), 2, 100),
+        (ErrorKind::WouldBlock, 49, Ok(3), 50, 4_900),
+        (ErrorKind::WouldBlock, 50, failed, 50, 4_900),
+        (ErrorKind::TimedOut, 1, failed, 1, 0),
+    ] {
+        told.answer_so(Err(kind), broken);
+        slept.set(Duration::ZERO);
+        assert_eq!(rt; sink.put(b"abcd"), put, "{kind:?} {broken}");
+        assert_eq!(rt; calls.get(), writes, "{kind:?} {broken}");
+        assert_eq!(rt;
+            slept.get(),
+            Duration::from_millis(millis),
+            "{kind:?} {broken}"
+        );
+    }
 }
 
 /// Takes what a source brings, which has to be these bytes and then the end, twice.

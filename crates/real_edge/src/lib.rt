@@ -13,7 +13,7 @@ mod tcp;
 #[cfg(test)]
 mod tcp_tests;
 
-pub use edge::{Incoming, ReadSource, WriteSink};
+pub use edge::{Incoming, ReadSource, Waiting, WriteSink};
 pub use file_disk::{FileDisk, FileDisks};
 pub use file_keeper::FileKeeper;
 pub use stream_host::StreamHost;

@@ -2,32 +2,37 @@
 
 ghost use Rattle.std.specs.Prelude.{◌≡◌, []};
 
-use crate::edge::{Incoming, ReadSource, WriteSink};
+use crate::edge::{Incoming, ReadSource, Waiting, WriteSink};
 use crate::file_keeper::FileKeeper;
 use pool_io::{Host, HostError, Shelf};
 use std::alloc::Global;
 use std::fs::File;
 use std::io::{Read, Write};
 use std::rt::Files;
+use std::time::Clock;
 
-/// The host of a program that reads `R`, writes `W`, and opens files by `F`. It tells neither its
-/// calls nor what its files bring.
+/// The host of a program that reads `R`, writes `W`, and opens files and waits by `F`. It tells
+/// neither its calls nor what its files bring.
 #[derive(Drop)]
-pub struct StreamHost<R: Read + Copy + Drop, W: Write + Copy + Drop, F: Files<File = File> + Drop> {
+pub struct StreamHost<
+    R: Read + Copy + Drop,
+    W: Write + Copy + Drop,
+    F: Files<File = File> + Clock + Copy + Drop,
+> {
     input: R,
     output: W,
     files: F,
     faults: u64,
     sources: Shelf<ReadSource<Incoming<R, File>>>,
-    sinks: Shelf<WriteSink<W>>,
+    sinks: Shelf<WriteSink<Waiting<W, F>>>,
     keepers: Shelf<FileKeeper<File>>,
 }
 
-impl<R: Read + Copy + Drop, W: Write + Copy + Drop, F: Files<File = File> + Drop> StreamHost<
-    R,
-    W,
-    F,
-> {
+impl<
+    R: Read + Copy + Drop,
+    W: Write + Copy + Drop,
+    F: Files<File = File> + Clock + Copy + Drop,
+> StreamHost<R, W, F> {
     /// A host that has given nothing.
     pub fn new(alloc: Global, input: R, output: W, files: F) -> StreamHost<R, W, F>
         ensures input { result.input ≡ input }
@@ -49,8 +54,11 @@ impl<R: Read + Copy + Drop, W: Write + Copy + Drop, F: Files<File = File> + Drop
     }
 }
 
-impl<R: Read + Copy + Drop, W: Write + Copy + Drop, F: Files<File = File> + Drop> Host
-    for StreamHost<R, W, F> {
+impl<
+    R: Read + Copy + Drop,
+    W: Write + Copy + Drop,
+    F: Files<File = File> + Clock + Copy + Drop,
+> Host for StreamHost<R, W, F> {
     ghost use Rattle.std.specs.Prelude.{None, ◌≢◌, ◌<◌, IfOk, OnOk, OnErr};
     ghost use Rattle.pool_io.specs.Lending.{lending_seen, lent_one, with_back};
     ghost use Rattle.pool_io.specs.Outside.{CountsFailure, is_failed_gift};
@@ -59,7 +67,7 @@ impl<R: Read + Copy + Drop, W: Write + Copy + Drop, F: Files<File = File> + Drop
 
     type S = ReadSource<Incoming<R, File>>;
 
-    type T = WriteSink<W>;
+    type T = WriteSink<Waiting<W, F>>;
 
     type K = FileKeeper<File>;
 
@@ -94,7 +102,7 @@ impl<R: Read + Copy + Drop, W: Write + Copy + Drop, F: Files<File = File> + Drop
         Ok(ReadSource::new(Incoming::Standard(self.input)))
     }
 
-    fn output(&mut self) -> Result<WriteSink<W>, HostError>
+    fn output(&mut self) -> Result<WriteSink<Waiting<W, F>>, HostError>
         ensures fresh { IfOk result (λ given. given.faults ≡ 0) }
         ensures given { OnOk result (self.new ≡ record
             self.old { sinks = lent_one self.old.sinks }) }
@@ -102,12 +110,12 @@ impl<R: Read + Copy + Drop, W: Write + Copy + Drop, F: Files<File = File> + Drop
         ensures counts { result ≢ Err HostError.Failed }
 
         // It was not used before it was given.
-        ensures unused { IfOk result (λ given. given.writer ≡ self.old.output) }
+        ensures unused { IfOk result (λ given. given.writer.writer ≡ self.old.output) }
     {
         if self.sinks.lend().is_err() {
             return Err(HostError::Memory);
         }
-        Ok(WriteSink::new(self.output))
+        Ok(WriteSink::new(Waiting::new(self.output, self.files)))
     }
 
     fn open_source(&mut self, name: &str) -> Result<ReadSource<Incoming<R, File>>, HostError>
@@ -158,7 +166,7 @@ impl<R: Read + Copy + Drop, W: Write + Copy + Drop, F: Files<File = File> + Drop
         self.sources.take_back(source);
     }
 
-    fn done_sink(&mut self, sink: WriteSink<W>)
+    fn done_sink(&mut self, sink: WriteSink<Waiting<W, F>>)
         requires { 0 < self.old.sinks.lent }
         ensures { self.new ≡ record self.old { sinks = with_back self.old.sinks sink } }
     {

@@ -5,7 +5,7 @@ ghost use Rattle.pool_io.specs.Lending.{with_back};
 ghost use Rattle.pool_io.specs.Outside.{next_count};
 ghost use Rattle.pool_network.specs.declared.door.Came.TheVariants as came;
 
-use crate::edge::{ReadSource, WriteSink};
+use crate::edge::{ReadSource, TURN_MILLIS, WriteSink};
 use pool_io::{HostError, Shelf, Sink, SinkFailed, Source, Took};
 use pool_network::{Came, Door, Link, Network};
 use std::alloc::Global;
@@ -40,13 +40,10 @@ impl Link for TcpLink {
     }
 }
 
-/// A read that waits longer is Idle, and so is a door.
-const TURN_MILLIS: u64 = 100;
-
 /// A write that waits longer has failed.
 const WRITE_MILLIS: u64 = 5_000;
 
-/// A stream as a link, with its time limits.
+/// A stream as a link, with its time limits: a read that waits longer than a turn is Idle.
 pub fn link_over(stream: TcpStream) -> io::Result<TcpLink>
     ensures { IfOk result (λ link. (link.source.faults ≡ 0) × (link.sink.faults ≡ 0)) }
 {

@@ -3,7 +3,7 @@
 
 ghost use Rattle.std.specs.Prelude.{◌<◌, length};
 
-use crate::edge_tests::pattern;
+use crate::edge_tests::{Counting, pattern};
 use crate::tcp::{TcpDoor, TcpLink, TcpNetwork, link_over};
 use pool_io::{HostError, SinkFailed, Took};
 use pool_network::{Came, Door, Link, Network};
@@ -519,24 +519,6 @@ impl<R: Files<File = File> + Drop> OpenListener for Refusing<'_, R> {
 const PASSING: [i32; 21] = [
     1, 4, 11, 12, 23, 24, 63, 64, 71, 92, 93, 94, 95, 100, 101, 103, 104, 105, 110, 112, 113,
 ];
-
-/// A clock that counts how long was slept, and doesn't wait.
-#[derive(Clone, Copy)]
-struct Counting<'a>(&'a Cell<Duration>);
-
-impl Clock for Counting<'_> {
-    fn monotonic(&self) -> io::Result<Duration> {
-        Ok(self.0.get())
-    }
-
-    fn since_1970(&self) -> io::Result<Duration> {
-        Ok(self.0.get())
-    }
-
-    fn sleep(&self, duration: Duration) {
-        self.0.set(self.0.get().saturating_add(duration));
-    }
-}
 
 #[test]
 fn a_door_goes_on_a_turn_later_unless_its_listener_failed(rt: HostRuntime) {
