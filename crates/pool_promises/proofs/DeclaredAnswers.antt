@@ -28,7 +28,7 @@ use Rattle.pool_promises.proofs.DeclaredStepping.{Stands, StandsThere, events_be
 -- ---- the steps of a session, and the history that each finds
 
 -- what is known of the first of these steps, and of the others
-first_turn : (events : List Event) (x : SessionStep) (later : List SessionStep) → StandInTurn events (calls_in (x ∷ later))
+pub first_turn : (events : List Event) (x : SessionStep) (later : List SessionStep) → StandInTurn events (calls_in (x ∷ later))
     → StandsThere events x × StandInTurn (events_behind events x) (calls_in later)
 first_turn events (steps.Called call put) later turns = (turns.1, turns.2)
 first_turn events (steps.Greeted put) later turns = (tt, turns)

@@ -1,5 +1,5 @@
 -- What serving leaves keeps the pool's promise.
-use Rattle.std.proofs.Common.{◌≡◌, ℕ, Bool, false, append_assoc, None, Some, Result, Ok, Err, List, [], ◌∷◌, ◌++◌, take, inl, inr, refl, sym, subst, ap}
+use Rattle.std.proofs.Common.{true, ◌≡◌, ℕ, Bool, false, append_assoc, None, Some, Result, Ok, Err, List, [], ◌∷◌, ◌++◌, take, inl, inr, refl, sym, subst, ap}
 use Rattle.std.specs.List.{AllByRecursion}
 use Rattle.pool_base.specs.Calls.{Parted}
 use Rattle.pool_base.specs.Lists.{Begins}
@@ -17,7 +17,7 @@ use Rattle.pool_history.specs.declared.settings.Rules.{Rules}
 use Rattle.pool_history.specs.Calls.{GoodPoolCalls, IsGoodPoolCall, PoolCall}
 use Rattle.pool_history.specs.Judging.{share_of}
 use Rattle.pool_history.specs.Legal.{Legal}
-use Rattle.pool_history.specs.Sessions.{past_of, rules_of}
+use Rattle.pool_history.specs.Sessions.{mines, past_of, rules_of}
 use Rattle.history_laws.specs.Apart.{SpacesAreDisjoint}
 use Rattle.history_laws.specs.Credited.{NoShareTwice}
 use Rattle.history_laws.specs.NineConditions.{ConditionsStandByThemselves}
@@ -36,7 +36,7 @@ use Rattle.stream_commands.specs.declared.status.Status.{Status}
 use Rattle.pool_sessions.specs.declared.alone.SoloEnd.{SoloEnd}
 use Rattle.pool_sessions.specs.declared.alone.SoloEnd.TheVariants as solo
 use Rattle.pool_sessions.specs.Calling.{StandInTurn, added_in}
-use Rattle.pool_sessions.specs.Solo.{IsServed, IsSessionOn, Outsides, solo_manner}
+use Rattle.pool_sessions.specs.Solo.{IsServed, IsSessionOn, Outsides, sole_worker, solo_manner}
 use Rattle.pool_server.specs.Parts.{Service}
 use Rattle.pool_server.specs.Serving.{Hall, HasRun}
 use Rattle.pool_server.specs.Tending.{all_calls}
@@ -49,10 +49,11 @@ use Rattle.pool_commands.specs.DurableServing.{ServesDiskAfterSettings, ServesNe
 use Rattle.pool_commands.specs.ServeRow.{ServesAfterSettings, ServesOnBook, ServesWithKeeper, places_by, service_by}
 use Rattle.pool_commands.specs.Serving.{ReachedSeen, Served, ServesOnNetwork, Unserved}
 use Rattle.pool_commands.specs.Surroundings.{Surroundings, around}
-use Rattle.pool_promises.specs.Serving.{ServedLinesAreAnswered}
+use Rattle.pool_promises.specs.Serving.{ServedCallersAreAnswered}
 use Rattle.pool_promises.specs.Promise.{IsSound, JudgesByConditions, KeepsHistory, KeepsInTurn, KeepsItsPromise, KeepsSession}
 use Rattle.pool_promises.specs.Headline.{DurableServeKeepsItsPromise, DurableSoloKeepsItsPromise, KeepsByBook, KeepsByDisk, KeepsByDiskEnd, KeepsByDiskSettings, KeepsByDiskStreams, KeepsByEnd, KeepsByFile, KeepsByFileSettings, KeepsByKeeper, KeepsByReached, KeepsByReady, KeepsBySettings, KeepsBySoloDisk, KeepsBySoloDiskSettings, KeepsByStreams, ServeKeepsItsPromise, SoloKeepsItsPromise}
 use Rattle.pool_promises.proofs.Present.{rules_further}
+use Rattle.pool_promises.proofs.FrameAnswers.{in_turn_answered}
 
 -- a book that is ready on a disk begins with the Start of its rules
 ready_begins : (rules : Rules) (disk : DiskSeen) (book : BookSeen) → IsReadyBook rules disk book → Begins (event.Start rules ∷ []) book.events
@@ -124,7 +125,7 @@ module _ (judge : CallsAreJudged) (stand : ConditionsStandByThemselves) (credit 
     judged = all_judged history calls (subst (λ l. GoodPoolCalls l calls) (sym grows) (good_in_turn start calls turns));
   }
 
-  module _ (line : ServedLinesAreAnswered) (sum : SummariesAreOfBlocks) where
+  module _ (line : ServedCallersAreAnswered) (sum : SummariesAreOfBlocks) where
     pub keeps_promise : (service : Service) (rules : Rules) (old new : Hall) (reason : SessionEnd) (ledger_faults door_faults door_memory : ℕ)
         → rules_of (past_of old.book.events) ≡ Some rules → (run : HasRun service old new reason ledger_faults door_faults door_memory)
         → KeepsItsPromise service rules old new reason ledger_faults door_faults door_memory run
@@ -135,7 +136,7 @@ module _ (judge : CallsAreJudged) (stand : ConditionsStandByThemselves) (credit 
       ledger = run.ledger;
       fed = run.fed;
       worked = run.worked;
-      lines = line service old new reason ledger_faults door_faults door_memory rules are run;
+      callers = line service old new reason ledger_faults door_faults door_memory rules are run;
       summed =
           sum new.book.events rules
           (subst (λ events. rules_of (past_of events) ≡ Some rules) run.begins.1 (rules_further old.book.events run.begins.0 rules are));
@@ -199,8 +200,10 @@ module _ (judge : CallsAreJudged) (stand : ConditionsStandByThemselves) (credit 
         by_disk_settings ledger_name row.serves.0 (around row.serves.1 old.network old.disks) new status row.serves.3
 
     keeps_session : (rules : Rules) (manner : Manner) (from : List Event) (old new : Outsides) (reason : SessionEnd) (history : List Event)
-        → rules_of (past_of from) ≡ Some rules → (session : IsSessionOn manner from old new reason history) → KeepsSession rules from history session.steps
-    keeps_session rules manner from old new reason history are session = record {
+        → rules_of (past_of from) ≡ Some rules → mines manner.role ≡ true
+        → (session : IsSessionOn manner from old new reason history) → KeepsSession rules manner from history session.steps
+    keeps_session rules manner from old new reason history are may session = record {
+      shares = in_turn_answered sole_worker manner from rules session.steps session.last may are session.follows session.turns;
       keeps = keeps_in_turn from history (calls_in session.steps) session.begins session.kept.legal session.turns;
       summed =
           sum history rules
@@ -211,7 +214,7 @@ module _ (judge : CallsAreJudged) (stand : ConditionsStandByThemselves) (credit 
         → KeepsByEnd declares rules idle_turns old new end did
     by_end declares rules idle_turns old new (solo.Unbegun cause) did = tt
     by_end declares rules idle_turns old new (solo.Over reason) did =
-        keeps_session rules (solo_manner rules declares idle_turns) (event.Start rules ∷ []) old new reason did.0 refl did.1
+        keeps_session rules (solo_manner rules declares idle_turns) (event.Start rules ∷ []) old new reason did.0 refl refl did.1
 
     by_streams : (declares : Bool) (settings : Settings) (keeper : KeeperSeen) (old new : HostSeen) (status : Status)
         (row : SessionRow declares settings keeper old new status) → KeepsByStreams declares settings keeper old new status row
@@ -241,7 +244,7 @@ module _ (judge : CallsAreJudged) (stand : ConditionsStandByThemselves) (credit 
           keeps_session rules (solo_manner rules false idle_turns) served.ready.events
               (record { source = old.source; sink = old.sink; keeper = served.ready.keeper })
               (record { source = new.source; sink = new.sink; keeper = keeper_on new.disk })
-              reason served.history (begun_under rules served.ready.events begins) served.serves.did,
+              reason served.history (begun_under rules served.ready.events begins) refl served.serves.did,
         )
 
     by_disk_streams : (settings : Settings) (disk : DiskSeen) (old new : HostAndDisks) (status : Status)

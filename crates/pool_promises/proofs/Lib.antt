@@ -14,6 +14,9 @@ pub mod Fixing
 pub mod Replying
 pub mod Calling
 pub mod ServedAnswers
+pub mod FrameCalls
+pub mod FrameShares
+pub mod FrameAnswers
 pub mod ServedHistories
 pub mod DeclaredFixing
 pub mod DeclaredPresent

@@ -71,7 +71,7 @@ module _ (rules : Rules) (past : List Event) (session : ℕ) where
   replies_commit checked (Ok with) =
       replies_last checked (last_failed rules past (share_of checked.sub) (Ok with)) (crediting session (share_of checked.sub) with) tt
 
-  replies_in : (asked : Request) (later : List PoolCall) → AsksInside asked later → IsReplyTo asked (step_in rules past session asked).reply
+  pub replies_in : (asked : Request) (later : List PoolCall) → AsksInside asked later → IsReplyTo asked (step_in rules past session asked).reply
   replies_in (request.Open ask) later asks = replies_open ask (openable rules past session ask)
   replies_in (request.Name channel identity) later asks = replies_name channel identity (nameable rules (account_of identity) (own_channel past session channel))
   replies_in (request.Update channel target) later asks = replies_update channel target (updatable target (own_channel past session channel))
@@ -97,7 +97,7 @@ module _ (rules : Rules) (past : List Event) (session : ℕ) where
   step_of_present worker (request.Enter role flags) later asks = absurd asks
   step_of_present worker asked later asks = refl
 
-step_present : (past : List Event) (worker session : ℕ) (rules : Rules) (entered : Entrance) → rules_of past ≡ Some rules → present past worker ≡ Some session
+pub step_present : (past : List Event) (worker session : ℕ) (rules : Rules) (entered : Entrance) → rules_of past ≡ Some rules → present past worker ≡ Some session
     → entrance past session ≡ Some entered → mines entered.role ≡ true → (asked : Request) (later : List PoolCall) → AsksInside asked later
     → step past worker asked ≡ step_in rules past session asked
 step_present past worker session rules entered are there is may asked later asks =

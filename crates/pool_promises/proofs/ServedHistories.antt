@@ -1,4 +1,4 @@
--- Each caller of a served pool who spoke lines was answered.
+-- Each caller of a served pool was answered.
 use Rattle.std.proofs.Common.{◌≡◌, ◌≢◌, ℕ, ◌+◌, ◌<◌, ◌≤◌, true, Some, List, [], ◌∷◌, ◌++◌, refl, subst, sym, arith, append_assoc}
 use Rattle.std.proofs.lemmas.List.Sorted.{IsPermutation-trans}
 use Rattle.std.specs.List.{AllByRecursion}
@@ -11,9 +11,7 @@ use Rattle.pool_history.specs.Calls.{GoodPoolCalls, IsGoodPoolCall, PoolCall}
 use Rattle.pool_history.specs.Sessions.{mines, past_of, rules_of}
 use Rattle.session_steps.specs.declared.ends.SessionEnd.{SessionEnd}
 use Rattle.session_steps.specs.declared.manner.Manner.{Manner}
-use Rattle.session_steps.specs.States.{State, new_state}
-use Rattle.session_steps.specs.Steps as frames
-use Rattle.session_steps.specs.Steps.{SessionStep}
+use Rattle.session_steps.specs.States.{new_state}
 use Rattle.v1_translate.specs.State.{Terms}
 use Rattle.v1_sessions.specs.States.{new_line_state}
 use Rattle.pool_sessions.specs.Courses.{Course, CourseComes, Framed, Lined, calls_on}
@@ -23,27 +21,13 @@ use Rattle.pool_server.specs.Serving.{AreShifts, NumbersRise}
 use Rattle.pool_server.specs.Tending.{calls_of_shifts}
 use Rattle.pool_promises.specs.Presence.{MakeHistory}
 use Rattle.pool_promises.proofs.Lists.{all_join, all_moved, to_front}
-use Rattle.pool_promises.specs.Answered.{AnswerAtDoors, AnswersCallers, AnswersIfLined}
-use Rattle.pool_promises.specs.Serving.{ServedLinesAreAnswered}
+use Rattle.pool_promises.specs.Answered.{AnswerAtDoors, AnswersCallers, AnswersCaller}
+use Rattle.pool_promises.specs.Serving.{ServedCallersAreAnswered}
 use Rattle.pool_promises.proofs.ServedAnswers.{lines_answered}
+use Rattle.pool_promises.proofs.FrameAnswers.{frames_answered, frames_of_worker}
 use Rattle.pool_promises.proofs.Calling.{lines_of_worker}
 
 -- ---- whose calls they are
-
-frames_of_worker : (worker : ℕ) (s t : State) (xs : List SessionStep) → frames.Follows worker s xs t → AllByRecursion (λ (c : PoolCall). c.worker ≡ worker) (frames.calls_in xs)
-frames_of_worker worker s t [] follows = tt
-frames_of_worker worker s t (frames.Called call put ∷ xs) follows = (follows.0.0, frames_of_worker worker (frames.after_step s (frames.Called call put)) t xs follows.1)
-frames_of_worker worker s t (frames.Greeted put ∷ xs) follows = frames_of_worker worker (frames.after_step s (frames.Greeted put)) t xs follows.1
-frames_of_worker worker s t (frames.Took bytes ∷ xs) follows = frames_of_worker worker (frames.after_step s (frames.Took bytes)) t xs follows.1
-frames_of_worker worker s t (frames.Framed met ∷ xs) follows = frames_of_worker worker (frames.after_step s (frames.Framed met)) t xs follows.1
-frames_of_worker worker s t (frames.Refused put ∷ xs) follows = frames_of_worker worker (frames.after_step s (frames.Refused put)) t xs follows.1
-frames_of_worker worker s t (frames.Said put ∷ xs) follows = frames_of_worker worker (frames.after_step s (frames.Said put)) t xs follows.1
-frames_of_worker worker s t (frames.Overran len ∷ xs) follows = frames_of_worker worker (frames.after_step s (frames.Overran len)) t xs follows.1
-frames_of_worker worker s t (frames.Idled ∷ xs) follows = frames_of_worker worker (frames.after_step s frames.Idled) t xs follows.1
-frames_of_worker worker s t (frames.Ended ∷ xs) follows = frames_of_worker worker (frames.after_step s frames.Ended) t xs follows.1
-frames_of_worker worker s t (frames.Missed ∷ xs) follows = frames_of_worker worker (frames.after_step s frames.Missed) t xs follows.1
-frames_of_worker worker s t (frames.Starved ∷ xs) follows = frames_of_worker worker (frames.after_step s frames.Starved) t xs follows.1
-frames_of_worker worker s t (frames.Spent ∷ xs) follows = frames_of_worker worker (frames.after_step s frames.Spent) t xs follows.1
 
 course_of_worker : (worker : ℕ) (terms : Terms) (manner : Manner) (course : Course) (reason : SessionEnd) → CourseComes worker terms manner course reason
     → AllByRecursion (λ (c : PoolCall). c.worker ≡ worker) (calls_on course)
@@ -73,8 +57,9 @@ module _ (start history : List Event) (least most : ℕ) (rules : Rules) (are : 
   -- one caller, whose calls stand in a row among its worker's
   course_answered : (worker : ℕ) (terms : Terms) (manner : Manner) (earlier later others : List PoolCall) (course : Course) (reason : SessionEnd)
       → mines manner.role ≡ true → CourseComes worker terms manner course reason → MakeHistory start history least most worker (earlier ++ (calls_on course ++ later)) others
-      → AnswersIfLined worker terms manner course
-  course_answered worker terms manner earlier later others (Framed steps) reason may comes make = tt
+      → AnswersCaller worker terms manner course
+  course_answered worker terms manner earlier later others (Framed steps) reason may comes make =
+      frames_answered start history least most worker earlier later others manner steps comes.last rules are may comes.follows make
   course_answered worker terms manner earlier later others (Lined steps) reason may comes make =
       lines_answered start history least most worker earlier later others terms manner steps comes.last rules are may comes.follows make
 
@@ -130,7 +115,7 @@ module _ (start history : List Event) (least most : ℕ) (rules : Rules) (are : 
             (visits_of_worker service.terms (manner_of service role.Miner) worker shift.answers visits))),
       )
 
-pub served_answered : ServedLinesAreAnswered
+pub served_answered : ServedCallersAreAnswered
 served_answered service old new reason ledger_faults door_faults door_memory rules are run =
     doors_answered old.book.events new.book.events old.book.keeper.faults new.book.keeper.faults rules are service 1 (calls_on run.course) run.shifts run.worked
     run.parted run.good run.rise.1

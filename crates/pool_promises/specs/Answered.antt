@@ -1,5 +1,5 @@
--- That each request of a session of lines was answered, and so of all sessions at a door (this
--- project's own).
+-- That each request of a session of lines was answered, and each share of one of frames, and so of all
+-- sessions at a door (this project's own).
 use Rattle.std.specs.Prelude.{◌≡◌, ℕ, ◌+◌, Bool, List, [], ◌∷◌, ◌++◌, reverse}
 use Rattle.std.specs.List.{AllByRecursion}
 use Rattle.serde_json.specs.Data.{Data}
@@ -15,6 +15,7 @@ use Rattle.v1_sessions.specs.Steps.{Follows, LineStep, calls_of}
 use Rattle.pool_sessions.specs.Courses.{Course, Framed, Lined}
 use Rattle.pool_server.specs.Shifts.{Asked, Shift, Visited, Waited}
 use Rattle.pool_server.specs.Parts.{Service, manner_of}
+use Rattle.pool_promises.specs.Shares.{AnswersShares}
 
 -- each call was answered by a reply to its request or by a fault; and whenever the next line was
 -- waited for, each id had been answered just as often as it was asked
@@ -28,10 +29,11 @@ pub record AnswersLines (worker : ℕ) (terms : Terms) (manner : Manner) (steps 
       (answered_in (said_after terms (reverse (all_heard terms (new_line_state manner) front))))
       ≡ how_many test (requests_in (reverse (all_heard terms (new_line_state manner) front)))
 
--- so it is with a session, if it is one of lines
-abbrev pub AnswersIfLined : ℕ → Terms → Manner → Course → Type 0
-AnswersIfLined worker terms manner (Lined steps) = AnswersLines worker terms manner steps
-AnswersIfLined worker terms manner (Framed steps) = Unit {0}
+-- a caller was answered, in the language that its first byte tells: each request of one who speaks lines,
+-- each share of one who speaks frames
+abbrev pub AnswersCaller : ℕ → Terms → Manner → Course → Type 0
+AnswersCaller worker terms manner (Lined steps) = AnswersLines worker terms manner steps
+AnswersCaller worker terms manner (Framed steps) = AnswersShares worker manner steps
 
 -- with each who came to a door
 abbrev pub AnswersCallers : ℕ → Terms → Manner → List Asked → Type 0
@@ -39,7 +41,7 @@ AnswersCallers worker terms manner [] = Unit {0}
 AnswersCallers worker terms manner (Waited ∷ answers) =
     AnswersCallers worker terms manner answers
 AnswersCallers worker terms manner (Visited visit ∷ answers) =
-    AnswersIfLined worker terms manner visit.course × AnswersCallers worker terms manner answers
+    AnswersCaller worker terms manner visit.course × AnswersCallers worker terms manner answers
 
 -- and at the doors of this worker and the next ones
 abbrev pub AnswerAtDoors : Service → ℕ → List Shift → Type 0

@@ -1,7 +1,7 @@
 -- That each row of a command that serves keeps the pool's promise, with no other premise (this project's
 -- own).
 use Rattle.std.proofs.Common.{inl, inr}
-use Rattle.std.specs.Prelude.{◌≡◌, ℕ, Bool, Result, Ok, Err, List, [], ◌∷◌}
+use Rattle.std.specs.Prelude.{◌≡◌, ℕ, Bool, false, Result, Ok, Err, List, [], ◌∷◌}
 use Rattle.pool_base.specs.Lists.{Begins}
 use Rattle.ledger_disk.specs.Calls.{DiskSeen}
 use Rattle.pool_io.specs.Hosts.{HostSeen}
@@ -16,7 +16,7 @@ use Rattle.share_ledger.specs.Books.{BookSeen}
 use Rattle.stream_commands.specs.declared.status.Status.{Status}
 use Rattle.pool_sessions.specs.declared.alone.SoloEnd.{SoloEnd}
 use Rattle.pool_sessions.specs.declared.alone.SoloEnd.TheVariants as solo
-use Rattle.pool_sessions.specs.Solo.{IsServed, Outsides}
+use Rattle.pool_sessions.specs.Solo.{IsServed, Outsides, solo_manner}
 use Rattle.pool_commands.specs.declared.durable_session.DiskEnd.{DiskEnd}
 use Rattle.pool_commands.specs.declared.durable_session.DiskEnd.TheVariants as ends
 use Rattle.pool_commands.specs.DurableSessions.{DiskOutsides, ServesOnDisk}
@@ -102,7 +102,8 @@ abbrev pub KeepsByEnd : (declares : Bool) (rules : Rules) (idle_turns : ℕ) (ol
     (end : SoloEnd) → IsServed rules declares idle_turns old new end → Type 0
 KeepsByEnd declares rules idle_turns old new (solo.Unbegun cause) did = Unit {0}
 KeepsByEnd declares rules idle_turns old new (solo.Over reason) did =
-    KeepsSession rules (event.Start rules ∷ []) did.0 did.1.steps
+    KeepsSession rules (solo_manner rules declares idle_turns) (event.Start rules ∷ []) did.0
+    did.1.steps
 
 abbrev pub KeepsByStreams : (declares : Bool) (settings : Settings) (keeper : KeeperSeen)
     (old new : HostSeen) (status : Status) → SessionRow declares settings keeper old new status → Type 0
@@ -137,7 +138,8 @@ abbrev pub KeepsByDiskEnd : (rules : Rules) (idle_turns : ℕ) (old new : DiskOu
 KeepsByDiskEnd rules idle_turns old new (ends.NoBook cause) served = Unit {0}
 KeepsByDiskEnd rules idle_turns old new (ends.Over reason) served =
     Begins (event.Start rules ∷ []) served.ready.events
-    × KeepsSession rules served.ready.events served.history served.serves.did.steps
+    × KeepsSession rules (solo_manner rules false idle_turns) served.ready.events served.history
+    served.serves.did.steps
 
 abbrev pub KeepsByDiskStreams : (settings : Settings) (disk : DiskSeen) (old new : HostAndDisks)
     (status : Status) → DiskSessionRow settings disk old new status → Type 0

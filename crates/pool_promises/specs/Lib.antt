@@ -4,6 +4,7 @@ pub mod Moves
 pub mod Answers
 pub mod Paths
 pub mod Declaring
+pub mod Shares
 pub mod Answered
 pub mod Serving
 pub mod Declared

@@ -28,14 +28,17 @@ use Rattle.history_laws.specs.Serving.{IsCalled}
 use Rattle.payout_laws.specs.Conservation.{IsBlockOf, IsConserved}
 use Rattle.payout_laws.specs.Summaries.{IsSummedUp}
 use Rattle.session_steps.specs.declared.ends.SessionEnd.{SessionEnd}
+use Rattle.session_steps.specs.declared.manner.Manner.{Manner}
 use Rattle.session_steps.specs.Steps.{SessionStep, calls_in}
 use Rattle.share_ledger.specs.Books.{KeepsInstead}
 use Rattle.pool_sessions.specs.Calling.{StandInTurn, added_in}
+use Rattle.pool_sessions.specs.Solo.{sole_worker}
 use Rattle.pool_server.specs.Parts.{Service, manner_of}
 use Rattle.pool_server.specs.Serving.{AreShifts, Hall, HasRun}
 use Rattle.pool_server.specs.Tending.{all_calls}
 use Rattle.pool_server.specs.Visits.{IsVisit}
 use Rattle.pool_promises.specs.Answered.{AnswerAtDoors}
+use Rattle.pool_promises.specs.Shares.{AnswersShares}
 
 -- A share that a call was to book for a session that may submit it: it is credited, by its event, exactly
 -- where each of the nine conditions holds of the history before the call, and is told its work then; else
@@ -100,12 +103,14 @@ pub record KeepsInTurn (start history : List Event) (calls : List PoolCall) : Ty
   -- a share is credited exactly where no condition fails, and else refused by the first that fails
   pub judged : AllByRecursion (JudgesByConditions history) calls
 
--- The promise of a pool that serves one session, with these rules, from a history on.
-pub record KeepsSession (rules : Rules) (from history : List Event) (steps : List SessionStep) : Type 0
-  where
-    pub keeps : KeepsInTurn from history (calls_in steps)
-    -- the summary of the history is that of its credits and its blocks
-    pub summed : IsSummedUp history rules (summary_of (past_of history))
+-- The promise of a pool that serves one session in this manner, with these rules, from a history on.
+pub record KeepsSession (rules : Rules) (manner : Manner) (from history : List Event)
+    (steps : List SessionStep) : Type 0 where
+  pub keeps : KeepsInTurn from history (calls_in steps)
+  -- each share was answered by its own SubmitShares.Success or SubmitShares.Error, in their order
+  pub shares : AnswersShares sole_worker manner steps
+  -- the summary of the history is that of its credits and its blocks
+  pub summed : IsSummedUp history rules (summary_of (past_of history))
 
 -- The promise of a pool that serves a feed and whoever calls at its doors, on one book with these rules.
 pub record KeepsItsPromise (service : Service) (rules : Rules) (old new : Hall) (reason : SessionEnd)
@@ -125,7 +130,8 @@ pub record KeepsItsPromise (service : Service) (rules : Rules) (old new : Hall) 
     reason = reason;
   })
   pub worked : AreShifts service 1 run.shifts
-  -- each request of a caller who speaks lines was answered, just as often as it was asked
-  pub lines : AnswerAtDoors service 1 run.shifts
+  -- each request of a caller who speaks lines was answered, just as often as it was asked; each share of one
+  -- who speaks frames by its own SubmitShares.Success or SubmitShares.Error, in their order
+  pub callers : AnswerAtDoors service 1 run.shifts
   -- the summary of the history is that of its credits and its blocks
   pub summed : IsSummedUp new.book.events rules (summary_of (past_of new.book.events))

@@ -1,4 +1,4 @@
--- That sessions of lines are answered (this project's own).
+-- That sessions of lines, and callers at doors, are answered (this project's own).
 use Rattle.std.specs.Prelude.{◌≡◌, ℕ, true, Some, List, ◌++◌}
 use Rattle.pool_history.specs.declared.events.Event.{Event}
 use Rattle.pool_history.specs.declared.settings.Rules.{Rules}
@@ -26,8 +26,8 @@ LineSessionsAreAnswered =
     → AnswersLines worker terms manner steps
 
 -- what serving leaves on a book that began with a Start: HasRun doesn't say that it did
-abbrev pub ServedLinesAreAnswered : Type 0
-ServedLinesAreAnswered =
+abbrev pub ServedCallersAreAnswered : Type 0
+ServedCallersAreAnswered =
     (service : Service) (old new : Hall) (reason : SessionEnd)
     (ledger_faults door_faults door_memory : ℕ) (rules : Rules)
     → rules_of (past_of old.book.events) ≡ Some rules

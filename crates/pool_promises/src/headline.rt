@@ -2,7 +2,7 @@
 
 ghost use Rattle.pool_promises.specs.Headline.{DurableServeKeepsItsPromise, DurableSoloKeepsItsPromise, ServeKeepsItsPromise, SoloKeepsItsPromise};
 
-use crate::served_lines_are_answered;
+use crate::served_callers_are_answered;
 use history_laws::{
     calls_are_judged, conditions_stand_by_themselves, credits_are_called, no_share_twice,
     spaces_are_disjoint,
@@ -22,7 +22,7 @@ pub fn serve_keeps_its_promise()
     spaces_are_disjoint();
     rewards_are_conserved();
     no_share_twice();
-    served_lines_are_answered();
+    served_callers_are_answered();
     summaries_are_of_blocks();
 }
 
@@ -37,7 +37,7 @@ pub fn durable_serve_keeps_its_promise()
     spaces_are_disjoint();
     rewards_are_conserved();
     no_share_twice();
-    served_lines_are_answered();
+    served_callers_are_answered();
     summaries_are_of_blocks();
 }
 
@@ -52,7 +52,7 @@ pub fn solo_keeps_its_promise()
     spaces_are_disjoint();
     rewards_are_conserved();
     no_share_twice();
-    served_lines_are_answered();
+    served_callers_are_answered();
     summaries_are_of_blocks();
 }
 
@@ -66,6 +66,6 @@ pub fn durable_solo_keeps_its_promise()
     spaces_are_disjoint();
     rewards_are_conserved();
     no_share_twice();
-    served_lines_are_answered();
+    served_callers_are_answered();
     summaries_are_of_blocks();
 }

@@ -38,4 +38,6 @@ pub use laws::sessions_stay_present;
 pub use proxying::{
     bad_setups_are_exact, miners_are_put_output, proxies_keep_laws, upstreams_are_put_output,
 };
-pub use serving_laws::{line_sessions_are_answered, served_lines_are_answered};
+pub use serving_laws::{
+    frame_sessions_are_answered, line_sessions_are_answered, served_callers_are_answered,
+};

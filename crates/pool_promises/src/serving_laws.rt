@@ -1,6 +1,7 @@
 //! What each caller of a served pool was answered.
 
-ghost use Rattle.pool_promises.specs.Serving.{LineSessionsAreAnswered, ServedLinesAreAnswered};
+ghost use Rattle.pool_promises.specs.Serving.{LineSessionsAreAnswered, ServedCallersAreAnswered};
+ghost use Rattle.pool_promises.specs.Shares.{FrameSessionsAreAnswered};
 
 /// The pool replies to each request of a session of lines, or the keeper fails, whatever others
 /// call: so each id is answered just as often as it was asked.
@@ -8,7 +9,13 @@ pub fn line_sessions_are_answered()
     ensures { LineSessionsAreAnswered }
 {}
 
-/// So it is with each caller of each door that was served by lines.
-pub fn served_lines_are_answered()
-    ensures { ServedLinesAreAnswered }
+/// The pool replies to each share of a session of frames, or the call is a fault: so the shares that were
+/// met are those that were answered, in their order, each by its own Success or Error.
+pub fn frame_sessions_are_answered()
+    ensures { FrameSessionsAreAnswered }
+{}
+
+/// So it is with each caller of each door, in whichever language.
+pub fn served_callers_are_answered()
+    ensures { ServedCallersAreAnswered }
 {}
