@@ -12,8 +12,9 @@ use pool_network::{Door, Network};
 use real_edge::{FileDisks, StreamHost, TcpNetwork};
 use std::alloc::{AllocError, Global};
 use std::env::Args;
+use std::fs::File;
 use std::process::ExitCode;
-use std::rt::Env;
+use std::rt::{Env, Files};
 use std::sync::Wait;
 use std::thread::Threads;
 use std::{env, io};
@@ -59,7 +60,20 @@ where
     }
 }
 
+/// The null device, opened three times. The lowest free numbers are given first, so whichever of the
+/// standard streams were closed are taken while this is held: no file or connection that is opened
+/// later gets the number of one, and with it what is written there.
+fn held_streams<F: Files<File = File>>(files: &F) -> io::Result<[File; 3]> {
+    let first = File::open(files, "/dev/null")?;
+    let second = File::open(files, "/dev/null")?;
+    let third = File::open(files, "/dev/null")?;
+    Ok([first, second, third])
+}
+
 fn main(rt: HostRuntime) -> ExitCode {
+    let Ok(_held) = held_streams(&rt) else {
+        return ExitCode::from(Status::HostFault.code());
+    };
     let mut host = StreamHost::new(rt.alloc(), rt.stdin(), rt.stdout(), rt);
     let mut network = TcpNetwork::new(rt.alloc(), rt);
     let mut disks = FileDisks::new(rt.alloc(), rt);
