@@ -1,7 +1,8 @@
 """The repository's wrong bodies: edits of a crate's code that its contract, or a test, refuses.
 
 They stand in the crate that they change: those under crates/CRATE/must-fail are tried by the gate, at each
-run; those under crates/CRATE/wrong-bodies by hand, with tools/try-edits. What was tried, and against which contract, stands in tools/tried-edits.
+run; those under crates/CRATE/wrong-bodies by hand, with tools/try-edits. What was tried, and against which contract,
+stands in tools/tried-edits.
 """
 import hashlib
 import pathlib
@@ -129,18 +130,23 @@ def is_of_tests(path):
     return path.stem == "tests" or path.stem.endswith("_tests")
 
 
+def definitions_of(text):
+    """Each definition of a specification, without comments, layout and imports: wherever it moves, it says
+    the same."""
+    text = re.sub(r"(?m)^\s*--.*\n|\s+-- .*$", "", text)
+    text = re.sub(r"(?m)^(pub )?(use|mod)\b[^{\n]*(\{[^}]*\})?.*\n?", "", text)
+    return [" ".join(part.split()) for part in re.split(r"\n\s*\n", text) if part.strip()]
+
+
 def contract_of(crate):
-    """The lines of which a crate's contract is made: its definitions, clauses and ghost members, without
-    comments and layout."""
+    """The lines of which a crate's contract is made: its definitions, clauses and ghost members, in whichever
+    files they stand."""
     folder = TOP / "crates" / crate
-    for path in sorted(folder.glob("specs/**/*.antt")):
-        yield str(path.relative_to(folder))
-        for line in path.read_text().splitlines():
-            if line.strip() and not line.lstrip().startswith("--"):
-                yield " ".join(line.split())
-    for path in sorted(folder.glob("src/**/*.rt")):
+    found = [line for path in folder.glob("specs/**/*.antt") for line in definitions_of(path.read_text())]
+    for path in folder.glob("src/**/*.rt"):
         if not is_of_tests(path):
-            yield from clauses_of(path.read_text())
+            found += clauses_of(path.read_text())
+    return sorted(found)
 
 
 def sum_of(lines):
