@@ -35,6 +35,7 @@ use Rattle.pool_promises.specs.Shares.{AnswersShareCall, IsShareReply, PutsShare
 use Rattle.session_steps.specs.Answers.{credit_frames, share_error_frames}
 use Rattle.pool_history.specs.Codes.{share_code}
 use Rattle.pool_history.specs.declared.refusals.Failed.{Failed}
+use Rattle.pool_promises.proofs.Ordering.{IsEnding, ended_ending, ending_step}
 use Rattle.pool_promises.proofs.Stages.{IsQuiet, answered_quiet, booking_quiet, ended_quiet, put_quiet, told_quiet}
 
 -- ---- what a session owes at a stage
@@ -181,54 +182,10 @@ met_owes s met (step.BadMessage kind) meets =
 
 -- ---- a session that ends meets no frame any more
 
-abbrev IsEnding : Stage → Type 0
-IsEnding (Leaving reason) = Unit {0}
-IsEnding (Over reason) = Unit {0}
-IsEnding _ = ⊥
-
-ended_ending : (entered : Bool) (reason : SessionEnd) → IsEnding (end_stage entered reason)
-ended_ending true reason = tt
-ended_ending false reason = tt
-
-ends_refused : (stage : Stage) (put : Put) → IsEnding stage → steps.Refuses stage put → ⊥
-ends_refused (Leaving reason) put ending refuses = refuses
-ends_refused (Over reason) put ending refuses = refuses
-ends_refused _ put ending refuses = ending
-
-ends_said : (stage : Stage) (put : Put) → IsEnding stage → steps.Says stage put → ⊥
-ends_said (Leaving reason) put ending says = says
-ends_said (Over reason) put ending says = says
-ends_said _ put ending says = ending
-
-ends_starved : (stage : Stage) → IsEnding stage → steps.CanStarve stage → ⊥
-ends_starved (Leaving reason) ending starves = starves
-ends_starved (Over reason) ending starves = starves
-ends_starved _ ending starves = ending
-
 module _ (worker : ℕ) (t : State) (reading : t.stage ≡ Reading) where
-  ends_here : (s : State) → IsEnding s.stage → s.stage ≡ Reading → ⊥
-  ends_here s ending is = subst IsEnding is ending
-
   never_reads : (s : State) (xs : List SessionStep) → IsEnding s.stage → Follows worker s xs t → ⊥
-  never_reads s [] ending follows = ends_here s ending (sym (ap (λ (u : State). u.stage) follows) ∙ reading)
-  never_reads s (steps.Called call put ∷ xs) ending follows =
-      called (λ u over goes. never_reads u xs over goes) s.stage ending follows.0.1 follows.1 where
-        called : ((u : State) → IsEnding u.stage → Follows worker u xs t → ⊥) → (stage : Stage) → IsEnding stage → CanCall stage s call put
-            → Follows worker (after_call stage s call put) xs t → ⊥
-        called rest (Leaving reason) ending can follows = rest (after_call (Leaving reason) s call put) tt follows
-        called rest (Over reason) ending can follows = can
-        called rest _ ending can follows = ending
-  never_reads s (steps.Framed met ∷ xs) ending follows = ends_here s ending follows.0.reading
-  never_reads s (steps.Greeted put ∷ xs) ending follows = subst IsEnding follows.0.0 ending
-  never_reads s (steps.Took bytes ∷ xs) ending follows = ends_here s ending follows.0.can.waiting.reading
-  never_reads s (steps.Refused put ∷ xs) ending follows = ends_refused s.stage put ending follows.0
-  never_reads s (steps.Said put ∷ xs) ending follows = ends_said s.stage put ending follows.0
-  never_reads s (steps.Overran len ∷ xs) ending follows = ends_here s ending follows.0.reading
-  never_reads s (steps.Idled ∷ xs) ending follows = ends_here s ending follows.0.waiting.reading
-  never_reads s (steps.Ended ∷ xs) ending follows = ends_here s ending follows.0.waiting.reading
-  never_reads s (steps.Missed ∷ xs) ending follows = ends_here s ending follows.0.waiting.reading
-  never_reads s (steps.Starved ∷ xs) ending follows = ends_starved s.stage ending follows.0
-  never_reads s (steps.Spent ∷ xs) ending follows = ends_here s ending follows.0.0.reading
+  never_reads s [] ending follows = subst IsEnding (sym (ap (λ (u : State). u.stage) follows) ∙ reading) ending
+  never_reads s (x ∷ xs) ending follows = never_reads (after_step s x) xs (ending_step worker s x ending follows.0).1 follows.1
 
 -- ---- a call
 

@@ -14,6 +14,7 @@ pub mod Fixing
 pub mod Replying
 pub mod Calling
 pub mod ServedAnswers
+pub mod Ordering
 pub mod FrameCalls
 pub mod FrameShares
 pub mod FrameAnswers

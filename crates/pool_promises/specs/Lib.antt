@@ -13,5 +13,6 @@ pub mod DeclaredLedgers
 pub mod Proxying
 pub mod Puts
 pub mod Setups
+pub mod Order
 pub mod Promise
 pub mod Headline

@@ -39,5 +39,6 @@ pub use proxying::{
     bad_setups_are_exact, miners_are_put_output, proxies_keep_laws, upstreams_are_put_output,
 };
 pub use serving_laws::{
-    frame_sessions_are_answered, line_sessions_are_answered, served_callers_are_answered,
+    frame_sessions_are_answered, frames_stand_in_order, line_sessions_are_answered,
+    lines_stand_in_order, served_callers_are_answered,
 };
