@@ -14,10 +14,12 @@ import socket
 import subprocess
 import sys
 import threading
+import time
 from dataclasses import dataclass
 
 program, folder = os.path.abspath(sys.argv[1]), pathlib.Path(sys.argv[2])
 examples = pathlib.Path(__file__).resolve().parent
+ACCEPTED = bytes.fromhex("000001060000020000000000")
 OF_VERSION_3 = bytes.fromhex("000001060000030000000000")
 
 
@@ -71,17 +73,17 @@ ROWS = [
 ]
 
 
-def pool():
-    """A pool that refuses its first caller once that has said something; its address."""
+def peer(said):
+    """Who says this to its first caller, and no more; its address."""
     server = socket.create_server(("127.0.0.1", 0))
     server.settimeout(30)
 
-    def refuse():
+    def answer():
         try:
             connection, _ = server.accept()
             with connection:
                 connection.settimeout(30)
-                connection.sendall(OF_VERSION_3)
+                connection.sendall(said)
                 connection.shutdown(socket.SHUT_WR)
                 while connection.recv(4096):
                     pass
@@ -89,19 +91,23 @@ def pool():
             pass
         server.close()
 
-    threading.Thread(target=refuse, daemon=True).start()
+    threading.Thread(target=answer, daemon=True).start()
     return f"127.0.0.1:{server.getsockname()[1]}"
+
+
+def write_settings(place, **more):
+    (place / "settings").write_text(json.dumps({
+        "pool_script": "51", "least_class": 0, "fee": 100, "rule": "proportional", "ntime_window": 600, "workers": 1,
+        "address": "127.0.0.1:1", "feed": "127.0.0.1:1",
+    } | more))
 
 
 def ran(command, place, strace):
     """Runs a command in a folder of its own: its status, what it printed, and the file that it left."""
     place.mkdir()
-    (place / "settings").write_text(json.dumps({
-        "pool_script": "51", "least_class": 0, "fee": 100, "rule": "proportional", "ntime_window": 600, "workers": 1,
-        "address": "127.0.0.1:1", "feed": "127.0.0.1:1",
-    }))
+    write_settings(place)
     (place / "worked").write_bytes((examples / "worked.ledger").read_bytes())
-    words = [pool() if word == "POOL" else word for word in command.words]
+    words = [peer(OF_VERSION_3) if word == "POOL" else word for word in command.words]
     run = subprocess.run(
         [*strace, program, *words], cwd=place, stdin=subprocess.DEVNULL, stdout=subprocess.PIPE, stderr=subprocess.PIPE,
         timeout=120,
@@ -132,6 +138,26 @@ def wrong_of(row, place, good):
     return None
 
 
+def wrong_of_doors(place):
+    """What isn't so where no caller can be let in for want of descriptors: a door asks again a turn later, and is given
+    up after `door_turns` of them."""
+    place.mkdir()
+    with socket.create_server(("127.0.0.1", 0)) as free:
+        address = f"127.0.0.1:{free.getsockname()[1]}"
+    write_settings(place, feed=peer(ACCEPTED), address=address, idle_turns=10, door_turns=10)
+    calls = place / "calls"
+    strace = ["strace", "-f", "-o", str(calls), "-e", "trace=accept4", "-e", "inject=accept4:error=EMFILE"]
+    began = time.monotonic()
+    run = subprocess.run(
+        [*strace, program, "serve", "settings", "ledger"], cwd=place, stdin=subprocess.DEVNULL, stdout=subprocess.PIPE,
+        timeout=120,
+    )
+    took, asked = time.monotonic() - began, calls.read_text().count("(INJECTED)")
+    if run.returncode != 0 or asked != 10 or took < 0.9:
+        return f"status {run.returncode}, {asked} times asked within {took:.1f} s"
+    return None
+
+
 def can_trace():
     """Whether strace is there, and may look at a process."""
     try:
@@ -155,5 +181,8 @@ for number, row in enumerate(ROWS):
     if why := wrong_of(row, folder / f"{number}", goods[command]):
         wrong += 1
         print(f"WRONG: {' '.join(command.words)}, call {row[3]} of {row[1]} {row[2] or ''}: {row[4]}: {why}")
-print(f"{len(ROWS)} calls failed, {wrong} wrong")
+if why := wrong_of_doors(folder / "doors"):
+    wrong += 1
+    print(f"WRONG: serve, where no caller can be let in for want of descriptors: {why}")
+print(f"{len(ROWS) + 1} calls failed, {wrong} wrong")
 sys.exit(wrong > 0)
