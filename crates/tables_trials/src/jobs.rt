@@ -1,11 +1,13 @@
 //! The table of jobs, told of the messages that they come from.
 
+use crate::reading::{refuse, tell_some, tell_truth};
 use mining_msgs::Mining;
 use pool_history::{CustomData, JobState, TemplateData, TipData};
 use std::alloc::Global;
+use std::fmt::Display;
 use template_jobs::{Job, Jobs, custom_of, template_of, tip_of};
 use template_msgs::Template;
-use trial_support::{Subject, bytes, hex_of, number, told, word};
+use trial_cases::{Found, Subject, word};
 
 /// The script of the pool.
 const SCRIPT: [u8; 1] = [0x51];
@@ -22,34 +24,60 @@ impl Subject for Told {
         Some(Told { jobs })
     }
 
-    fn act(&mut self, alloc: Global, words: &[&str]) -> Option<String> {
-        let jobs = &mut self.jobs;
-        match word(words, 0)? {
-            "template" => add_template(alloc, jobs, words),
-            "apply-template" => apply_template(alloc, jobs, words),
-            "own" => add_own(alloc, jobs, words),
-            "apply-own" => apply_own(alloc, jobs, words),
-            "tip" => set_tip(alloc, jobs, words),
-            "state" => told(alloc, word_of(jobs.state(number(words, 1)?))),
-            "job" => tell_job(alloc, jobs.job(number(words, 1)?)),
-            "coinbase" => coinbase(alloc, jobs.job(number(words, 1)?)?),
-            "newest" => tell_number(alloc, jobs.newest()),
-            "future-of" => tell_number(alloc, jobs.future_of(number(words, 1)?)),
-            "mineable" if jobs.is_mineable(number(words, 1)?, number(words, 2)?) => {
-                told(alloc, "yes")
-            }
-            "mineable" => told(alloc, "no"),
-            "counts" => {
-                let (all, own, tip) = (jobs.count(), jobs.own_count(), jobs.tip().is_some());
-                format!(in alloc; "jobs {all} own {own} tip {tip}").ok()
-            }
+    fn act(&mut self, found: &mut Found, words: &str) {
+        match word(words, 0) {
+            "newest" => tell_some(found, self.jobs.newest()),
+            "counts" => tell_counts(found, &self.jobs),
             "span" => {
-                let span = jobs.live_span();
-                format!(in alloc; "{} {}", span.oldest, span.newest).ok()
+                let span = self.jobs.live_span();
+                found.tell(&span.oldest);
+                found.say(" ");
+                found.tell(&span.newest);
             }
-            _ => None,
+            operation => {
+                let number = found.number(word(words, 1));
+                self.act_on(found, words, operation, number);
+            }
         }
     }
+}
+
+impl Told {
+    /// Carries out an operation on the job, the place, the session or the channel of this number.
+    fn act_on(&mut self, found: &mut Found, words: &str, operation: &str, number: u64) {
+        let id = (number & 0xffff_ffff) as u32;
+        match operation {
+            "template" => add_template(found, &mut self.jobs, words, false),
+            "apply-template" => add_template(found, &mut self.jobs, words, true),
+            "own" => add_own(found, &mut self.jobs, number, words, false),
+            "apply-own" => add_own(found, &mut self.jobs, number, words, true),
+            "tip" => set_tip(found, &mut self.jobs, number, words),
+            "state" => found.say(word_of(self.jobs.state(id))),
+            "job" => match self.jobs.job(id) {
+                Some(job) => tell_job(found, job),
+                None => found.say("none"),
+            },
+            "coinbase" => match self.jobs.job(id) {
+                Some(job) => tell_coinbase(found, job),
+                None => refuse(found),
+            },
+            "future-of" => tell_some(found, self.jobs.future_of(number)),
+            "mineable" => {
+                let job = found.short_number(word(words, 2));
+                tell_truth(found, self.jobs.is_mineable(id, job));
+            }
+            _ => refuse(found),
+        }
+    }
+}
+
+fn tell_counts(found: &mut Found, jobs: &Jobs) {
+    found.say("jobs ");
+    found.tell(&jobs.count());
+    found.say(" own ");
+    found.tell(&jobs.own_count());
+    found.say(" tip ");
+    found.tell(&jobs.tip().is_some());
 }
 
 /// The template in the payload of a NewTemplate.
@@ -83,51 +111,54 @@ fn custom(alloc: Global, payload: &[u8]) -> Option<CustomData> {
     }
 }
 
-fn add_template(alloc: Global, jobs: &mut Jobs, words: &[&str]) -> Option<String> {
-    let template = template(alloc, bytes(alloc, words, 3)?.as_slice())?;
-    match jobs.add_template(number(words, 1)?, number(words, 2)?, &template, &SCRIPT) {
-        Ok(number) => format!(in alloc; "job {number}").ok(),
-        Err(error) => format!(in alloc; "{error}").ok(),
+/// Tells the number of a job that was made.
+fn tell_number(found: &mut Found, number: u32) {
+    found.say("job ");
+    found.tell(&number);
+}
+
+/// The same, or why none was made.
+fn tell_made<E: Display + Drop>(found: &mut Found, made: Result<u32, E>) {
+    match made {
+        Ok(number) => tell_number(found, number),
+        Err(error) => found.tell(&error),
     }
 }
 
-/// The same by a plan.
-fn apply_template(alloc: Global, jobs: &mut Jobs, words: &[&str]) -> Option<String> {
-    let template = template(alloc, bytes(alloc, words, 3)?.as_slice())?;
-    match jobs.plan_template(number(words, 1)?, number(words, 2)?, &template, &SCRIPT) {
-        Ok(plan) => format!(in alloc; "job {}", jobs.apply(plan)).ok(),
-        Err(error) => format!(in alloc; "{error}").ok(),
+/// Adds the job of a template, in one step or by a plan.
+fn add_template(found: &mut Found, jobs: &mut Jobs, words: &str, by_plan: bool) {
+    let session = found.short_number(word(words, 1));
+    let at = found.number(word(words, 2));
+    let payload = found.bytes_of(word(words, 3));
+    match template(found.alloc(), &payload) {
+        Some(template) if by_plan => match jobs.plan_template(session, at, &template, &SCRIPT) {
+            Ok(plan) => tell_number(found, jobs.apply(plan)),
+            Err(error) => found.tell(&error),
+        },
+        Some(template) => tell_made(found, jobs.add_template(session, at, &template, &SCRIPT)),
+        None => refuse(found),
     }
 }
 
-fn add_own(alloc: Global, jobs: &mut Jobs, words: &[&str]) -> Option<String> {
-    let custom = custom(alloc, bytes(alloc, words, 2)?.as_slice())?;
-    if jobs.own_count() >= 1 << 18 {
-        return None;
-    }
-    match jobs.add_custom(number(words, 1)?, &custom, &SCRIPT) {
-        Ok(number) => format!(in alloc; "job {number}").ok(),
-        Err(error) => format!(in alloc; "{error}").ok(),
-    }
-}
-
-/// The same by a plan.
-fn apply_own(alloc: Global, jobs: &mut Jobs, words: &[&str]) -> Option<String> {
-    let custom = custom(alloc, bytes(alloc, words, 2)?.as_slice())?;
-    if jobs.own_count() >= 1 << 18 {
-        return None;
-    }
-    match jobs.plan_custom(number(words, 1)?, &custom, &SCRIPT) {
-        Ok(plan) => format!(in alloc; "job {}", jobs.apply(plan)).ok(),
-        Err(error) => format!(in alloc; "{error}").ok(),
+/// Adds a miner's own job, in one step or by a plan.
+fn add_own(found: &mut Found, jobs: &mut Jobs, at: u64, words: &str, by_plan: bool) {
+    let payload = found.bytes_of(word(words, 2));
+    match custom(found.alloc(), &payload) {
+        Some(_) if jobs.own_count() >= 1 << 18 => refuse(found),
+        Some(custom) if by_plan => match jobs.plan_custom(at, &custom, &SCRIPT) {
+            Ok(plan) => tell_number(found, jobs.apply(plan)),
+            Err(error) => found.tell(&error),
+        },
+        Some(custom) => tell_made(found, jobs.add_custom(at, &custom, &SCRIPT)),
+        None => refuse(found),
     }
 }
 
-fn set_tip(alloc: Global, jobs: &mut Jobs, words: &[&str]) -> Option<String> {
-    let tip = tip(bytes(alloc, words, 2)?.as_slice())?;
-    match jobs.set_tip(number(words, 1)?, &tip) {
-        Ok(number) => format!(in alloc; "job {number}").ok(),
-        Err(error) => format!(in alloc; "{error}").ok(),
+fn set_tip(found: &mut Found, jobs: &mut Jobs, at: u64, words: &str) {
+    let payload = found.bytes_of(word(words, 2));
+    match tip(&payload) {
+        Some(tip) => tell_made(found, jobs.set_tip(at, &tip)),
+        None => refuse(found),
     }
 }
 
@@ -140,43 +171,39 @@ fn word_of(state: JobState) -> &'static str {
     }
 }
 
-fn tell_number(alloc: Global, number: Option<u32>) -> Option<String> {
-    match number {
-        Some(number) => format!(in alloc; "{number}").ok(),
-        None => told(alloc, "none"),
-    }
+/// A job's fields; of those that it may lack, a word for each that it has.
+fn tell_job(found: &mut Found, job: &Job) {
+    tell_named(found, "number ", &job.number());
+    tell_named(found, " session ", &job.session());
+    tell_named(found, " template ", &job.template_id());
+    tell_named(found, " reward ", &job.reward());
+    found.say(" version ");
+    found.hex(job.version().to_be_bytes().as_slice());
+    tell_named(found, " path ", &job.root().path.items().len());
+    tell_lackable(found, job);
 }
 
-/// A job's fields; of those that it may lack, a word for each that it has.
-fn tell_job(alloc: Global, job: Option<&Job>) -> Option<String> {
-    let Some(job) = job else {
-        return told(alloc, "none");
-    };
-    let mut said = tell_source(alloc, job)?;
+fn tell_lackable(found: &mut Found, job: &Job) {
     if let Some(at) = job.live_at() {
-        write!(&mut said, " live {at}").ok()?;
+        tell_named(found, " live ", &at);
     }
     if let Some(channel) = job.channel() {
-        write!(&mut said, " channel {channel}").ok()?;
+        tell_named(found, " channel ", &channel);
     }
     if let Some(least) = job.min_ntime() {
-        write!(&mut said, " least {least}").ok()?;
+        tell_named(found, " least ", &least);
     }
-    Some(said)
 }
 
-fn tell_source(alloc: Global, job: &Job) -> Option<String> {
-    let (number, session, template) = (job.number(), job.session(), job.template_id());
-    let (reward, version, path) = (job.reward(), job.version(), job.root().path.items().len());
-    format!(in alloc;
-        "number {number} session {session} template {template} reward {reward} \
-        version {version:x} path {path}"
-    )
-    .ok()
+fn tell_named(found: &mut Found, name: &str, value: &impl Display) {
+    found.say(name);
+    found.tell(value);
 }
 
 /// A job's whole coinbase, with an extranonce of zeros.
-fn coinbase(alloc: Global, job: &Job) -> Option<String> {
-    let whole = job.root().coinbase.whole(&[0; 12]).ok()?;
-    hex_of(alloc, whole.as_slice())
+fn tell_coinbase(found: &mut Found, job: &Job) {
+    match job.root().coinbase.whole(&[0; 12]) {
+        Ok(whole) => found.hex(&whole),
+        Err(_) => found.done(false),
+    }
 }

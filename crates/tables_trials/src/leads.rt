@@ -1,13 +1,12 @@
 //! The leads that are held.
 
-ghost use Rattle.std.specs.Prelude.{◌≤◌, IfSome};
+ghost use Rattle.std.specs.Prelude.{◌≤◌};
 
-use crate::plain_leads::PlainLeads;
-use crate::random::random_after;
+use crate::reading::{refuse, tell_truth};
 use pool_history::Lead;
-use prefix_space::{Space, SpaceError};
+use prefix_space::Space;
 use std::alloc::Global;
-use trial_support::{Subject, bytes, hex_of, number, told, word};
+use trial_cases::{Found, Subject, word};
 
 /// Held leads.
 #[derive(Drop)]
@@ -17,49 +16,54 @@ pub(crate) struct Leads {
 
 impl Subject for Leads {
     fn begin(alloc: Global) -> Option<Leads> {
-        let space = Space::new(alloc).ok()?;
-        Some(Leads { space })
+        match Space::new(alloc) {
+            Ok(space) => Some(Leads { space }),
+            Err(_) => None,
+        }
     }
 
-    fn act(&mut self, alloc: Global, words: &[&str]) -> Option<String> {
-        match word(words, 0)? {
-            "take" => take(alloc, &mut self.space, length(words)?),
-            "fill" => fill(alloc, &mut self.space, length(words)?, number(words, 2)?),
-            "random" => take_random(alloc, number(words, 1)?, number(words, 2)?),
-            "lowest" => lowest(alloc, &self.space, length(words)?),
-            "give" => give(
-                alloc,
-                &mut self.space,
-                lead(bytes(alloc, words, 1)?.as_slice())?,
-            ),
-            "holds" if self.space.holds(lead(bytes(alloc, words, 1)?.as_slice())?) => {
-                told(alloc, "yes")
+    fn act(&mut self, found: &mut Found, words: &str) {
+        match word(words, 0) {
+            "take" => {
+                let length = length(found, words);
+                take(found, &mut self.space, length);
             }
-            "holds" => told(alloc, "no"),
+            "fill" => {
+                let length = length(found, words);
+                let count = found.number(word(words, 2));
+                fill(found, &mut self.space, length, count);
+            }
+            "lowest" => {
+                let length = length(found, words);
+                tell_lowest(found, &self.space, length);
+            }
+            "give" => give(found, &mut self.space, words),
+            "holds" => tell_holding(found, &self.space, words),
             "reserve" => {
-                self.space.reserve().ok()?;
-                told(alloc, "reserved")
+                found.done(self.space.reserve().is_ok());
+                found.say("reserved");
             }
-            _ => None,
+            _ => refuse(found),
         }
     }
 }
 
-/// How many bytes a lead is to have.
-fn length(words: &[&str]) -> Option<u8>
-    ensures { IfSome result (λ length. (1 ≤ length) × (length ≤ 4)) }
+/// How many bytes a lead is to have: 1 to 4.
+fn length(found: &mut Found, words: &str) -> u8
+    ensures { (1 ≤ result) × (result ≤ 4) }
 {
-    let length: u8 = number(words, 1)?;
-    if 1 <= length && length <= 4 {
-        Some(length)
-    } else {
-        None
+    match found.number(word(words, 1)) {
+        1 => 1,
+        2 => 2,
+        3 => 3,
+        _ => 4,
     }
 }
 
-/// The lead of these bytes.
-fn lead(bytes: &[u8]) -> Option<Lead> {
-    match bytes {
+/// The lead that a word spells.
+fn lead_in(found: &mut Found, words: &str) -> Option<Lead> {
+    let bytes = found.bytes_of(word(words, 1));
+    match bytes.as_slice() {
         [a] => Some(Lead::of(1, [*a, 0, 0, 0])),
         [a, b] => Some(Lead::of(2, [*a, *b, 0, 0])),
         [a, b, c] => Some(Lead::of(3, [*a, *b, *c, 0])),
@@ -68,99 +72,49 @@ fn lead(bytes: &[u8]) -> Option<Lead> {
     }
 }
 
-fn take(alloc: Global, space: &mut Space, length: u8) -> Option<String>
+fn take(found: &mut Found, space: &mut Space, length: u8)
     requires { (1 ≤ length) × (length ≤ 4) }
 {
     match space.take(length) {
-        Ok(lead) => hex_of(alloc, lead.bytes()),
-        Err(error) => format!(in alloc; "{error}").ok(),
+        Ok(lead) => found.hex(lead.bytes()),
+        Err(error) => found.tell(&error),
     }
 }
 
 /// Takes so many leads, and tells the last one.
-fn fill(alloc: Global, space: &mut Space, length: u8, count: u32) -> Option<String>
+fn fill(found: &mut Found, space: &mut Space, length: u8, count: u64)
     requires { (1 ≤ length) × (length ≤ 4) }
 {
-    let mut last = told(alloc, "none")?;
+    found.say("none");
     for _ in 0..count {
-        last = take(alloc, space, length)?;
-    }
-    Some(last)
-}
-
-/// So many pseudo-random takings and givings back, beside a plain list. Short leads are taken
-/// seldom, so that not all space is gone at once.
-fn take_random(alloc: Global, seed: u64, count: u32) -> Option<String> {
-    let mut space = Space::new(alloc).ok()?;
-    let mut plain = PlainLeads::new(alloc);
-    let mut random = seed;
-    for _ in 0..count {
-        random = random_after(random);
-        if (random >> 60) < 5 {
-            give_back(&mut space, &mut plain, random >> 32)?;
-            continue;
-        }
-        if !take_both(&mut space, &mut plain, random_length(random))? {
-            return told(alloc, "another lead than plainly");
-        }
-    }
-    told(alloc, "agreed")
-}
-
-/// How many bytes the next lead has.
-fn random_length(random: u64) -> u8
-    ensures { (1 ≤ result) × (result ≤ 4) }
-{
-    match (random >> 40) % 64 {
-        0 => 1,
-        1..=4 => 2,
-        5..=30 => 3,
-        _ => 4,
+        found.clear();
+        take(found, space, length);
     }
 }
 
-/// Gives one of the leads back, where there is any.
-fn give_back(space: &mut Space, plain: &mut PlainLeads, place: u64) -> Option<()> {
-    let Some(lead) = plain.remove(place) else {
-        return Some(());
-    };
-    if !space.holds(lead) {
-        return None;
-    }
-    space.give(lead);
-    Some(())
-}
-
-/// Takes the lowest lead of both, and says whether it is the same.
-fn take_both(space: &mut Space, plain: &mut PlainLeads, length: u8) -> Option<bool>
-    requires { (1 ≤ length) × (length ≤ 4) }
-{
-    let wanted = plain.lowest(length);
-    match (space.take(length), wanted) {
-        (Ok(lead), Some(wanted)) => {
-            plain.insert(wanted)?;
-            Some(lead.bytes() == wanted.bytes())
-        }
-        (Err(SpaceError::NoSpace), None) => Some(true),
-        (Err(SpaceError::Memory), _) => None,
-        _ => Some(false),
-    }
-}
-
-fn lowest(alloc: Global, space: &Space, length: u8) -> Option<String>
+fn tell_lowest(found: &mut Found, space: &Space, length: u8)
     requires { (1 ≤ length) × (length ≤ 4) }
 {
     match space.lowest(length) {
-        Some(lead) => hex_of(alloc, lead.bytes()),
-        None => told(alloc, "none"),
+        Some(lead) => found.hex(lead.bytes()),
+        None => found.say("none"),
+    }
+}
+
+fn tell_holding(found: &mut Found, space: &Space, words: &str) {
+    match lead_in(found, words) {
+        Some(lead) => tell_truth(found, space.holds(lead)),
+        None => refuse(found),
     }
 }
 
 /// Gives a lead back that is held.
-fn give(alloc: Global, space: &mut Space, lead: Lead) -> Option<String> {
-    if !space.holds(lead) {
-        return None;
+fn give(found: &mut Found, space: &mut Space, words: &str) {
+    match lead_in(found, words) {
+        Some(lead) if space.holds(lead) => {
+            space.give(lead);
+            found.say("given");
+        }
+        _ => refuse(found),
     }
-    space.give(lead);
-    told(alloc, "given")
 }

@@ -1,44 +1,35 @@
-//! Trials of the tables and of the ledger's records: each subject has a file of cases, whose lines
-//! are carried out one after the other, and each answer is compared with the one that the line wants.
+//! Trials of the tables, of payouts, of a ledger's records, of books that are resumed and of ledgers on
+//! disks: each subject has a file of cases, whose lines are carried out one after the other, and each
+//! answer is compared with the one that the line wants.
 #![tactic(auto)]
 
+mod asking;
+mod crashed;
 mod grants;
 mod jobs;
 mod leads;
 mod openings;
-mod plain;
-mod plain_leads;
-mod plain_settings;
 mod printed;
-mod random;
+mod reading;
 mod records;
+mod resumed;
 mod sessions;
 mod shares;
 mod tallies;
 
-use anyhow::{Result, bail};
-use std::fs;
-use trial_support::{Subject, try_cases};
+use std::io;
+use trial_cases::try_operations;
 
-fn main(rt: HostRuntime) -> Result<()> {
-    try_file::<printed::Printed>(&rt, "printed.txt")?;
-    try_file::<leads::Leads>(&rt, "leads.txt")?;
-    try_file::<sessions::Entered>(&rt, "sessions.txt")?;
-    try_file::<openings::Opened>(&rt, "openings.txt")?;
-    try_file::<grants::Granted>(&rt, "grants.txt")?;
-    try_file::<jobs::Told>(&rt, "jobs.txt")?;
-    try_file::<shares::Credited>(&rt, "shares.txt")?;
-    try_file::<tallies::Tallies>(&rt, "tallies.txt")?;
-    try_file::<records::Pieces>(&rt, "records.txt")?;
-    Ok(())
-}
-
-/// Tries the cases of a file, and prints what came of each.
-fn try_file<S: Subject>(rt: &HostRuntime, file: &str) -> Result<()> {
-    let text = fs::read_to_string(rt, file)?;
-    let Some(said) = try_cases::<S>(rt.alloc(), file, text.as_str()) else {
-        bail!("no memory for {file}");
-    };
-    print!(rt; "{said}")?;
-    Ok(())
+fn main(rt: HostRuntime) -> io::Result<()> {
+    try_operations::<printed::Printed, HostRuntime>(&rt, "printed.txt")?;
+    try_operations::<leads::Leads, HostRuntime>(&rt, "leads.txt")?;
+    try_operations::<sessions::Entered, HostRuntime>(&rt, "sessions.txt")?;
+    try_operations::<openings::Opened, HostRuntime>(&rt, "openings.txt")?;
+    try_operations::<grants::Granted, HostRuntime>(&rt, "grants.txt")?;
+    try_operations::<jobs::Told, HostRuntime>(&rt, "jobs.txt")?;
+    try_operations::<shares::Credited, HostRuntime>(&rt, "shares.txt")?;
+    try_operations::<tallies::Tallies, HostRuntime>(&rt, "tallies.txt")?;
+    try_operations::<records::Pieces, HostRuntime>(&rt, "records.txt")?;
+    try_operations::<resumed::Resumed, HostRuntime>(&rt, "resumed.txt")?;
+    try_operations::<crashed::Crashed, HostRuntime>(&rt, "crashed.txt")
 }

@@ -1,12 +1,14 @@
 //! The table of open channels.
 
-use crate::plain_settings::PlainSettings;
-use crate::random::random_after;
+ghost use Rattle.std.specs.Prelude.{◌≤◌};
+
+use crate::reading::{refuse, text};
 use channels::{Channel, Channels};
 use pool_history::{Class, Kind, LiveSpan, OpenAsk, Opened as Opening, Rules, Users};
-use std::alloc::Global;
+use std::alloc::{AllocError, Global};
+use std::fmt::Display;
 use sv2_types::{Blob, Str255, U256};
-use trial_support::{Subject, bytes, hex_of, kind, number, text, told, word};
+use trial_cases::{Found, Subject, kind, word};
 
 /// A table of open channels, and rules by which the user a is known and the least class is 58.
 #[derive(Drop)]
@@ -17,44 +19,40 @@ pub(crate) struct Opened {
 
 impl Subject for Opened {
     fn begin(alloc: Global) -> Option<Opened> {
-        let rules = rules(alloc)?;
+        let rules = rules(alloc).ok()?;
         let channels = Channels::new(alloc).ok()?;
         Some(Opened { rules, channels })
     }
 
-    fn act(&mut self, alloc: Global, words: &[&str]) -> Option<String> {
-        match word(words, 0)? {
-            "open" => open(alloc, self, words),
-            "name" => name(alloc, self, words),
-            "class" => set_class(alloc, self, words),
-            "plan" => plan(alloc, self, words.split_first()?.1, false),
-            "apply" => plan(alloc, self, words.split_first()?.1, true),
-            "close" => close(alloc, self, words),
+    fn act(&mut self, found: &mut Found, words: &str) {
+        let operation = word(words, 0);
+        if operation == "plan" || operation == "apply" {
+            let words = words.split_once(' ').unwrap_or(("", "")).1;
+            return plan(found, self, words, operation == "apply");
+        }
+        let number = found.short_number(word(words, 1));
+        match operation {
+            "open" => open(found, self, number, words),
+            "name" => name(found, self, number, words),
+            "class" => set_class(found, &mut self.channels, number, words),
+            "close" => {
+                let channel = found.short_number(word(words, 2));
+                tell_done(found, "closed", self.channels.close(number, channel));
+            }
             "leave" => {
-                self.channels.leave(number(words, 1)?);
-                told(alloc, "left")
+                self.channels.leave(number);
+                found.say("left");
             }
-            "channel" => tell_channel(alloc, self.channels.channel(number(words, 1)?)),
-            "own" => tell_channel(
-                alloc,
-                self.channels.own(number(words, 1)?, number(words, 2)?),
-            ),
-            "class-at" => class_at(alloc, self, words),
-            "random" => set_random(alloc, self, number(words, 1)?, number(words, 2)?),
-            "of" => {
-                let ids = self.channels.of_session(number(words, 1)?).ok()?;
-                format!(in alloc; "{} channels", ids.len()).ok()
-            }
-            _ => None,
+            _ => tell(found, &self.channels, operation, number, words),
         }
     }
 }
 
-fn rules(alloc: Global) -> Option<Rules> {
+fn rules(alloc: Global) -> Result<Rules, AllocError> {
     let mut users = Vec::new(alloc);
-    users.push(Str255::of(alloc, "a").ok()?).ok()?;
-    Some(Rules {
-        pool_script: Blob::of(alloc, b"\x51").ok()?,
+    users.push(Str255::of(alloc, "a")?)?;
+    Ok(Rules {
+        pool_script: Blob::of(alloc, b"\x51")?,
         least_class: 58,
         fee: 0,
         window: None,
@@ -65,11 +63,45 @@ fn rules(alloc: Global) -> Option<Rules> {
     })
 }
 
+/// Tells what the table has of a channel or of a session.
+fn tell(found: &mut Found, channels: &Channels, operation: &str, number: u32, words: &str) {
+    match operation {
+        "channel" => tell_channel(found, channels.channel(number)),
+        "own" => {
+            let channel = found.short_number(word(words, 2));
+            tell_channel(found, channels.own(number, channel));
+        }
+        "class-at" => {
+            let place = found.number(word(words, 2));
+            match channels.class_at(number, place) {
+                Some(class) => found.tell(&class.value()),
+                None => found.say("none"),
+            }
+        }
+        "of" => match channels.of_session(number) {
+            Ok(ids) => {
+                found.tell(&ids.len());
+                found.say(" channels");
+            }
+            Err(_) => found.done(false),
+        },
+        _ => refuse(found),
+    }
+}
+
+/// Tells this word where something was done, and else why it wasn't.
+fn tell_done<E: Display + Drop>(found: &mut Found, word: &str, done: Result<(), E>) {
+    match done {
+        Ok(()) => found.say(word),
+        Err(error) => found.tell(&error),
+    }
+}
+
 /// What an opening asks for: from the second word on its kind, its user, the 25th byte of its target,
 /// which has ff before and 00 behind, and how many bytes it wants to roll.
-fn ask(alloc: Global, words: &[&str]) -> Option<OpenAsk> {
-    let kind = kind(words, 2)?;
-    let identity = text(words, 3)?;
+fn ask(found: &mut Found, words: &str) -> Option<OpenAsk> {
+    let kind = kind(word(words, 2));
+    let identity = text(words, 3);
     if identity.len() > 255 {
         return None;
     }
@@ -79,202 +111,154 @@ fn ask(alloc: Global, words: &[&str]) -> Option<OpenAsk> {
             *byte = 0xff;
         }
     }
-    target[24] = bytes(alloc, words, 4)?.first().copied()?;
-    let min_size = number(words, 5)?;
+    target[24] = (found.hex_number(word(words, 4)) & 0xff) as u8;
+    let min_size = (found.short_number(word(words, 5)) & 0xffff) as u16;
+    let identity = Str255::of(found.alloc(), identity).ok()?;
     Some(OpenAsk {
         kind,
-        identity: Str255::of(alloc, identity).ok()?,
+        identity,
         max_target: U256::of(target),
         min_size: match kind {
             Kind::Standard => 0,
-            Kind::Extended => min_size,
-            Kind::V1 => min_size,
+            Kind::Extended | Kind::V1 => min_size,
         },
     })
 }
 
-fn open(alloc: Global, opened: &mut Opened, words: &[&str]) -> Option<String> {
-    let ask = ask(alloc, words)?;
-    if opened.rules.least_class > 60 {
-        return None;
-    }
-    let answer = opened
-        .channels
-        .open(number(words, 1)?, 5, &ask, &opened.rules);
-    match answer {
-        Ok(opening) => tell_opening(alloc, &opening),
-        Err(error) => format!(in alloc; "{error}").ok(),
+fn open(found: &mut Found, opened: &mut Opened, session: u32, words: &str) {
+    let Opened { rules, channels } = opened;
+    match ask(found, words) {
+        Some(ask) if rules.least_class <= 60 => match channels.open(session, 5, &ask, rules) {
+            Ok(opening) => tell_opening(found, &opening),
+            Err(error) => found.tell(&error),
+        },
+        _ => refuse(found),
     }
 }
 
-fn tell_opening(alloc: Global, opening: &Opening) -> Option<String> {
-    let lead = hex_of(alloc, opening.lead.bytes())?;
-    let (channel, class) = (opening.channel, opening.class.value());
-    format!(in alloc; "channel {channel} class {class} lead {lead}").ok()
+fn tell_opening(found: &mut Found, opening: &Opening) {
+    found.say("channel ");
+    found.tell(&opening.channel);
+    found.say(" class ");
+    found.tell(&opening.class.value());
+    found.say(" lead ");
+    found.hex(opening.lead.bytes());
 }
 
-fn name(alloc: Global, opened: &mut Opened, words: &[&str]) -> Option<String> {
-    let (session, channel) = (number(words, 1)?, number(words, 2)?);
-    match opened
-        .channels
-        .name(session, channel, word(words, 3)?, &opened.rules)
-    {
-        Ok(()) => told(alloc, "named"),
-        Err(error) => format!(in alloc; "{error}").ok(),
-    }
+fn name(found: &mut Found, opened: &mut Opened, session: u32, words: &str) {
+    let channel = found.short_number(word(words, 2));
+    let Opened { rules, channels } = opened;
+    let named = channels.name(session, channel, word(words, 3), rules);
+    tell_done(found, "named", named);
 }
 
-/// The class at a place.
-fn class(words: &[&str], at: usize) -> Option<Class> {
-    let class: u8 = number(words, at)?;
-    if class <= 60 {
-        Some(Class::of(class))
-    } else {
-        None
-    }
+/// The class at a place of a line, which is at most 60.
+fn class(found: &mut Found, words: &str, at: usize) -> Class {
+    let class = found.short_number(word(words, at)).min(60) as u8;
+    Class::of(class)
 }
 
 /// The bounds of the places since which jobs are live: the sixth and the seventh word, or else all.
-fn span(words: &[&str]) -> LiveSpan {
+fn span(words: &str) -> LiveSpan {
     LiveSpan {
-        oldest: number(words, 5).unwrap_or(0),
-        newest: number(words, 6).unwrap_or(u64::MAX),
+        oldest: word(words, 5).parse().unwrap_or(0),
+        newest: word(words, 6).parse().unwrap_or(u64::MAX),
     }
 }
 
-/// So many pseudo-random classes that are set for channel 1 of session 0, jobs that become live, and
-/// tips: at each place that a live job or a future one asks for, the class is that of a plain list.
-fn set_random(alloc: Global, opened: &mut Opened, seed: u64, count: u64) -> Option<String> {
-    let channels = &mut opened.channels;
-    let mut plain = PlainSettings::new(alloc, channels.channel(1)?.class);
-    let mut random = seed;
-    for at in 0..count {
-        random = random_after(random);
-        if (random >> 60) < 4 {
-            plain.turn_live(at, (random >> 56) % 8 == 0)?;
-        } else {
-            let class = Class::of(((random >> 40) % 61) as u8);
-            channels.set_class(0, 1, at, class, plain.span()).ok()?;
-            plain.set(at, class)?;
-        }
-        let live_at = plain.live_at(random >> 33).unwrap_or(at + 1);
-        if !agrees_at(channels, &plain, live_at) || !agrees_at(channels, &plain, at + 1) {
-            return told(alloc, "another class than plainly");
-        }
-    }
-    told(alloc, "agreed")
+fn set_class(found: &mut Found, channels: &mut Channels, session: u32, words: &str) {
+    let channel = found.short_number(word(words, 2));
+    let at = found.number(word(words, 3));
+    let class = class(found, words, 4);
+    let set = channels.set_class(session, channel, at, class, span(words));
+    tell_done(found, "set", set);
 }
 
-/// Whether the class at a place is that of a plain list.
-fn agrees_at(channels: &Channels, plain: &PlainSettings, place: u64) -> bool {
-    match channels.class_at(1, place) {
-        Some(class) => class.value() == plain.class_at(place).value(),
-        None => false,
-    }
-}
-
-fn set_class(alloc: Global, opened: &mut Opened, words: &[&str]) -> Option<String> {
-    let (session, channel, at) = (number(words, 1)?, number(words, 2)?, number(words, 3)?);
-    match opened
-        .channels
-        .set_class(session, channel, at, class(words, 4)?, span(words))
-    {
-        Ok(()) => told(alloc, "set"),
-        Err(error) => format!(in alloc; "{error}").ok(),
-    }
-}
-
-fn close(alloc: Global, opened: &mut Opened, words: &[&str]) -> Option<String> {
-    match opened.channels.close(number(words, 1)?, number(words, 2)?) {
-        Ok(()) => told(alloc, "closed"),
-        Err(error) => format!(in alloc; "{error}").ok(),
-    }
-}
-
-fn tell_channel(alloc: Global, channel: Option<&Channel>) -> Option<String> {
+fn tell_channel(found: &mut Found, channel: Option<&Channel>) {
     let Some(channel) = channel else {
-        return told(alloc, "none");
+        return found.say("none");
     };
-    let (session, class) = (channel.session, channel.class.value());
-    let account = match channel.account.text() {
+    found.say("session ");
+    found.tell(&channel.session);
+    found.say(" class ");
+    found.tell(&channel.class.value());
+    found.say(" account ");
+    found.say(match channel.account.text() {
         "" => "-",
         account => account,
-    };
-    format!(in alloc; "session {session} class {class} account {account}").ok()
-}
-
-fn class_at(alloc: Global, opened: &Opened, words: &[&str]) -> Option<String> {
-    match opened
-        .channels
-        .class_at(number(words, 1)?, number(words, 2)?)
-    {
-        Some(class) => format!(in alloc; "{}", class.value()).ok(),
-        None => told(alloc, "none"),
-    }
+    });
 }
 
 /// Plans an operation and, where it is said, applies the plan.
-fn plan(alloc: Global, opened: &mut Opened, words: &[&str], applies: bool) -> Option<String> {
+fn plan(found: &mut Found, opened: &mut Opened, words: &str, applies: bool) {
     let Opened { rules, channels } = opened;
-    match word(words, 0)? {
-        "open" => plan_opening(alloc, channels, rules, words, applies),
-        "name" => plan_naming(alloc, channels, rules, words, applies),
-        "class" => plan_setting(alloc, channels, words, applies),
-        _ => None,
+    match word(words, 0) {
+        "open" => plan_opening(found, channels, rules, words, applies),
+        "name" => plan_naming(found, channels, rules, words, applies),
+        "class" => plan_setting(found, channels, words, applies),
+        _ => refuse(found),
     }
 }
 
 fn plan_opening(
-    alloc: Global,
+    found: &mut Found,
     channels: &mut Channels,
     rules: &Rules,
-    words: &[&str],
+    words: &str,
     applies: bool,
-) -> Option<String> {
-    let ask = ask(alloc, words)?;
-    if rules.least_class > 60 {
-        return None;
+) {
+    let session = found.short_number(word(words, 1));
+    match ask(found, words) {
+        Some(ask) if rules.least_class <= 60 => {
+            match channels.plan_open(session, 5, &ask, rules) {
+                Ok(plan) if applies => tell_planned(found, channels.apply(plan)),
+                Ok(plan) => tell_planned(found, plan.opened()),
+                Err(error) => found.tell(&error),
+            }
+        }
+        _ => refuse(found),
     }
-    match channels.plan_open(number(words, 1)?, 5, &ask, rules) {
-        Ok(plan) if applies => tell_opening(alloc, &channels.apply(plan)?),
-        Ok(plan) => tell_opening(alloc, &plan.opened()?),
-        Err(error) => format!(in alloc; "{error}").ok(),
+}
+
+fn tell_planned(found: &mut Found, opening: Option<Opening>) {
+    match opening {
+        Some(opening) => tell_opening(found, &opening),
+        None => found.say("none"),
     }
 }
 
 fn plan_naming(
-    alloc: Global,
+    found: &mut Found,
     channels: &mut Channels,
     rules: &Rules,
-    words: &[&str],
+    words: &str,
     applies: bool,
-) -> Option<String> {
-    let (session, channel) = (number(words, 1)?, number(words, 2)?);
-    match channels.plan_name(session, channel, word(words, 3)?, rules) {
+) {
+    let session = found.short_number(word(words, 1));
+    let channel = found.short_number(word(words, 2));
+    match channels.plan_name(session, channel, word(words, 3), rules) {
         Ok(plan) => {
             if applies {
                 let _none = channels.apply(plan);
             }
-            told(alloc, "planned")
+            found.say("planned");
         }
-        Err(error) => format!(in alloc; "{error}").ok(),
+        Err(error) => found.tell(&error),
     }
 }
 
-fn plan_setting(
-    alloc: Global,
-    channels: &mut Channels,
-    words: &[&str],
-    applies: bool,
-) -> Option<String> {
-    let (session, channel, at) = (number(words, 1)?, number(words, 2)?, number(words, 3)?);
-    match channels.plan_class(session, channel, at, class(words, 4)?, span(words)) {
+fn plan_setting(found: &mut Found, channels: &mut Channels, words: &str, applies: bool) {
+    let session = found.short_number(word(words, 1));
+    let channel = found.short_number(word(words, 2));
+    let at = found.number(word(words, 3));
+    let class = class(found, words, 4);
+    match channels.plan_class(session, channel, at, class, span(words)) {
         Ok(plan) => {
             if applies {
                 let _none = channels.apply(plan);
             }
-            told(alloc, "planned")
+            found.say("planned");
         }
-        Err(error) => format!(in alloc; "{error}").ok(),
+        Err(error) => found.tell(&error),
     }
 }

@@ -1,13 +1,14 @@
 //! What causes, codes, refusals and verdicts print as, and fees.
 
+use crate::reading::{refuse, tell_lines};
 use channels::SetError;
 use ledger_audit::{Verdict, write_verdict};
 use payout_laws::fee_of;
 use pool_history::{Cause, CustomError, Failed, OpenError, UpdateError};
 use prefix_space::SpaceError;
 use std::alloc::Global;
-use std::str;
-use trial_support::{Subject, number, told, word};
+use std::fmt::Debug;
+use trial_cases::{Found, Subject, word};
 
 /// The conditions of a share.
 const CONDITIONS: [Failed; 9] = [
@@ -75,74 +76,112 @@ impl Subject for Printed {
         Some(Printed)
     }
 
-    fn act(&mut self, alloc: Global, words: &[&str]) -> Option<String> {
-        match word(words, 0)? {
-            "condition" => tell_condition(alloc, *CONDITIONS.get(number::<usize>(words, 1)?)?),
-            "cause" => {
-                let cause = *CAUSES.get(number::<usize>(words, 1)?)?;
-                format!(in alloc; "{cause:?} {cause}").ok()
-            }
-            "opening" => {
-                let error = *OPENINGS.get(number::<usize>(words, 1)?)?;
-                format!(in alloc; "{error:?} {}", error.code()).ok()
-            }
-            "update" => {
-                let error = *UPDATES.get(number::<usize>(words, 1)?)?;
-                format!(in alloc; "{error:?} {}", error.code()).ok()
-            }
-            "own-job" => {
-                let error = *OWN_JOBS.get(number::<usize>(words, 1)?)?;
-                format!(in alloc; "{error:?} {}", error.code()).ok()
-            }
+    fn act(&mut self, found: &mut Found, words: &str) {
+        match word(words, 0) {
             "memory" => {
-                let (space, set) = (SpaceError::Memory, SetError::Memory);
-                format!(in alloc; "{space}, {set}").ok()
+                found.tell(&SpaceError::Memory);
+                found.say(", ");
+                found.tell(&SetError::Memory);
             }
-            "verdict" => tell_verdict(alloc, verdict(words)?),
-            "fee" => fee(alloc, number(words, 1)?, number(words, 2)?),
-            _ => None,
+            "verdict" => tell_verdict_of(found, words),
+            "fee" => tell_fee(found, words),
+            operation => {
+                let number = found.short_number(word(words, 1)) as usize;
+                tell_printed(found, operation, number);
+            }
         }
     }
 }
 
+/// What the value of a list prints as that has this number.
+fn tell_printed(found: &mut Found, operation: &str, number: usize) {
+    match operation {
+        "condition" => match CONDITIONS.get(number) {
+            Some(failed) => tell_condition(found, *failed),
+            None => refuse(found),
+        },
+        "cause" => match CAUSES.get(number) {
+            Some(cause) => {
+                found.debug(cause);
+                found.say(" ");
+                found.tell(cause);
+            }
+            None => refuse(found),
+        },
+        "opening" => match OPENINGS.get(number) {
+            Some(error) => tell_coded(found, error, error.code()),
+            None => refuse(found),
+        },
+        "update" => match UPDATES.get(number) {
+            Some(error) => tell_coded(found, error, error.code()),
+            None => refuse(found),
+        },
+        "own-job" => match OWN_JOBS.get(number) {
+            Some(error) => tell_coded(found, error, error.code()),
+            None => refuse(found),
+        },
+        _ => refuse(found),
+    }
+}
+
+/// A refusal by its name, and its code.
+fn tell_coded<E: Debug>(found: &mut Found, error: &E, code: &str) {
+    found.debug(error);
+    found.say(" ");
+    found.say(code);
+}
+
 /// A condition's code, and what it and its cause print as.
-fn tell_condition(alloc: Global, failed: Failed) -> Option<String> {
-    let (code, cause) = (failed.code(), Cause::Share(failed));
-    format!(in alloc; "{failed:?} {code} {failed} {cause}").ok()
+fn tell_condition(found: &mut Found, failed: Failed) {
+    tell_coded(found, &failed, failed.code());
+    found.say(" ");
+    found.tell(&failed);
+    found.say(" ");
+    found.tell(&Cause::Share(failed));
 }
 
 /// The verdict of a word, with its number and the number of its cause.
-fn verdict(words: &[&str]) -> Option<Verdict> {
-    match word(words, 1)? {
-        "legal" => Some(Verdict::Legal),
+fn tell_verdict_of(found: &mut Found, words: &str) {
+    let number = match word(words, 1) {
+        "legal" => 0,
+        _ => found.number(word(words, 2)),
+    };
+    match word(words, 1) {
+        "legal" => tell_verdict(found, Verdict::Legal),
+        "broken" => tell_verdict(found, Verdict::BrokenChain(number)),
+        "none" => tell_verdict(found, Verdict::NotALedger(number)),
         "illegal" => {
-            let cause = *CAUSES.get(number::<usize>(words, 3)?)?;
-            Some(Verdict::Illegal(number(words, 2)?, cause))
+            let cause = found.short_number(word(words, 3)) as usize;
+            match CAUSES.get(cause) {
+                Some(cause) => tell_verdict(found, Verdict::Illegal(number, *cause)),
+                None => refuse(found),
+            }
         }
-        "illegal-share" => {
-            let failed = *CONDITIONS.get(number::<usize>(words, 3)?)?;
-            Some(Verdict::Illegal(number(words, 2)?, Cause::Share(failed)))
+        _ => {
+            let failed = found.short_number(word(words, 3)) as usize;
+            match CONDITIONS.get(failed) {
+                Some(failed) => {
+                    tell_verdict(found, Verdict::Illegal(number, Cause::Share(*failed)));
+                }
+                None => refuse(found),
+            }
         }
-        "broken" => Some(Verdict::BrokenChain(number(words, 2)?)),
-        "none" => Some(Verdict::NotALedger(number(words, 2)?)),
-        _ => None,
     }
 }
 
 /// A verdict's line, in brackets in place of its end.
-fn tell_verdict(alloc: Global, verdict: Verdict) -> Option<String> {
-    let mut line = Vec::new(alloc);
-    write_verdict(verdict, &mut line).ok()?;
-    let text = str::from_utf8(line.as_slice()).ok()?;
-    match text.strip_suffix("\n") {
-        Some(line) => format!(in alloc; "[{line}]").ok(),
-        None => told(alloc, "no line"),
-    }
+fn tell_verdict(found: &mut Found, verdict: Verdict) {
+    let mut line = Vec::new(found.alloc());
+    found.done(write_verdict(verdict, &mut line).is_ok());
+    tell_lines(found, &line, "[", "]");
 }
 
-fn fee(alloc: Global, reward: u64, basis_points: u16) -> Option<String> {
-    if reward >= 1 << 40 || basis_points > 10_000 {
-        return None;
+fn tell_fee(found: &mut Found, words: &str) {
+    let reward = found.number(word(words, 1));
+    let basis_points = found.short_number(word(words, 2));
+    if reward < 1 << 40 && basis_points <= 10_000 {
+        found.tell(&fee_of(reward, basis_points as u16));
+    } else {
+        refuse(found);
     }
-    format!(in alloc; "{}", fee_of(reward, basis_points)).ok()
 }

@@ -1,9 +1,9 @@
 //! The sessions that were entered, and those that are present.
 
-use pool_history::Role;
+use crate::reading::{refuse, tell_some};
 use pool_tables::Sessions;
 use std::alloc::Global;
-use trial_support::{Subject, number, role, told, word};
+use trial_cases::{Found, Subject, role, word};
 
 /// Sessions.
 #[derive(Drop)]
@@ -17,37 +17,35 @@ impl Subject for Entered {
         Some(Entered { sessions })
     }
 
-    fn act(&mut self, alloc: Global, words: &[&str]) -> Option<String> {
-        match word(words, 0)? {
-            "enter" => enter(
-                alloc,
-                &mut self.sessions,
-                number(words, 1)?,
-                role(words, 2)?,
-            ),
+    fn act(&mut self, found: &mut Found, words: &str) {
+        let operation = word(words, 0);
+        if operation == "count" {
+            return found.tell(&self.sessions.count());
+        }
+        let number = found.short_number(word(words, 1));
+        match operation {
+            "enter" => enter(found, &mut self.sessions, number, word(words, 2)),
             "leave" => {
-                self.sessions.leave(number(words, 1)?);
-                told(alloc, "left")
+                self.sessions.leave(number);
+                found.say("left");
             }
-            "present" => match self.sessions.present(number(words, 1)?) {
-                Some(session) => format!(in alloc; "{session}").ok(),
-                None => told(alloc, "none"),
+            "present" => tell_some(found, self.sessions.present(number)),
+            "worker-of" => match self.sessions.entrance(number) {
+                Some(entered) => found.tell(&entered.worker),
+                None => found.say("none"),
             },
-            "worker-of" => match self.sessions.entrance(number(words, 1)?) {
-                Some(entered) => format!(in alloc; "{}", entered.worker).ok(),
-                None => told(alloc, "none"),
-            },
-            "count" => format!(in alloc; "{}", self.sessions.count()).ok(),
-            _ => None,
+            _ => refuse(found),
         }
     }
 }
 
-fn enter(alloc: Global, sessions: &mut Sessions, worker: u32, role: Role) -> Option<String> {
-    sessions.reserve().ok()?;
-    if sessions.count() >= 1000 {
-        return None;
+fn enter(found: &mut Found, sessions: &mut Sessions, worker: u32, of: &str) {
+    match sessions.reserve() {
+        Ok(()) if sessions.count() < 1000 => {
+            found.say("session ");
+            found.tell(&sessions.enter(worker, role(of), 1));
+        }
+        Ok(()) => refuse(found),
+        Err(_) => found.done(false),
     }
-    let session = sessions.enter(worker, role, 1);
-    format!(in alloc; "session {session}").ok()
 }

@@ -1,158 +1,117 @@
-//! The tally of credits: worked settlements, and a plain tally over the whole list of pushes beside
-//! the real one.
+//! The tally of credits: worked settlements.
 
 ghost use Rattle.std.specs.Prelude.{◌+◌, ◌<◌, ◌≤◌, ◌^◌, IsTrue, length};
 
-use crate::plain::PlainTally;
-use crate::random::random_after;
+use crate::reading::{refuse, tell_lines, text};
 use payouts::{Rule, Settlement, Tally, quotient, write_summary};
 use std::alloc::Global;
-use std::str;
-use trial_support::{Subject, number, text, told, word};
+use std::fmt::Display;
+use trial_cases::{Found, Subject, word};
 
-/// What the accounts of pseudo-random pushes are called.
-const NAMES: [&str; 4] = ["a", "b", "c", "d"];
-
-/// What stands between two settlements that differ.
-const DIFFERENCE: &str = ", but plainly ";
-
-/// A tally, and the plain one beside it.
+/// A tally.
 #[derive(Drop)]
 pub(crate) struct Tallies {
     tally: Tally,
-    plain: PlainTally,
 }
 
 impl Subject for Tallies {
     fn begin(alloc: Global) -> Option<Tallies> {
-        let tally = Tally::new(alloc, Rule::Proportional).ok()?;
-        let plain = PlainTally::new(alloc, None);
-        Some(Tallies { tally, plain })
+        match Tally::new(alloc, Rule::Proportional) {
+            Ok(tally) => Some(Tallies { tally }),
+            Err(_) => None,
+        }
     }
 
-    fn act(&mut self, alloc: Global, words: &[&str]) -> Option<String> {
-        match word(words, 0)? {
-            "window" => self.begin_window(alloc, number(words, 1)?),
-            "push" => self.push(alloc, text(words, 1)?, number(words, 2)?),
-            "settle" => self.settle(alloc, number(words, 1)?, number(words, 2)?),
-            "block" => self.block(
-                alloc,
-                text(words, 1)?,
-                number(words, 2)?,
-                (number(words, 3)?, number(words, 4)?),
-            ),
-            "random" => self.push_random(alloc, number(words, 1)?, number(words, 2)?),
-            "account" => self.account(alloc, number(words, 1)?),
+    fn act(&mut self, found: &mut Found, words: &str) {
+        match word(words, 0) {
+            "window" => self.begin_window(found, words),
+            "push" => self.push(found, words),
+            "settle" => self.settle(found, words),
+            "block" => self.block(found, words),
+            "account" => self.tell_account(found, words),
             "totals" => {
-                let (pool, blocks) = (self.tally.pool(), self.tally.blocks());
-                format!(in alloc; "pool {pool} blocks {blocks}").ok()
+                tell_named(found, "pool ", &self.tally.pool());
+                tell_named(found, " blocks ", &self.tally.blocks());
             }
-            "summary" => self.summary(alloc, number(words, 1)?, number(words, 2)?),
-            "quotient" => parts(
-                alloc,
-                number(words, 1)?,
-                number(words, 2)?,
-                number(words, 3)?,
-            ),
-            _ => None,
+            "summary" => self.tell_summary(found, words),
+            "quotient" => tell_quotient(found, words),
+            _ => refuse(found),
         }
     }
 }
 
 impl Tallies {
     /// Begins anew, with a window of so many units of work.
-    fn begin_window(&mut self, alloc: Global, window: u64) -> Option<String> {
+    fn begin_window(&mut self, found: &mut Found, words: &str) {
+        let window = found.number(word(words, 1));
         if window == 0 {
-            return None;
+            return refuse(found);
         }
-        self.tally = Tally::new(alloc, Rule::Pplns(window)).ok()?;
-        self.plain = PlainTally::new(alloc, Some(window));
-        told(alloc, "begun")
+        match Tally::new(found.alloc(), Rule::Pplns(window)) {
+            Ok(tally) => {
+                self.tally = tally;
+                found.say("begun");
+            }
+            Err(_) => found.done(false),
+        }
     }
 
-    fn push(&mut self, alloc: Global, account: &str, work: u64) -> Option<String> {
+    fn push(&mut self, found: &mut Found, words: &str) {
+        let (account, work) = (text(words, 1), found.number(word(words, 2)));
         if !may_push(&self.tally, account, work) {
-            return None;
+            return refuse(found);
         }
-        self.tally.push(account, work).ok()?;
-        self.plain.push(alloc, account, work)?;
-        told(alloc, "pushed")
+        found.done(self.tally.push(account, work).is_ok());
+        found.say("pushed");
     }
 
-    fn settle(&mut self, alloc: Global, reward: u64, fee: u16) -> Option<String> {
+    fn settle(&mut self, found: &mut Found, words: &str) {
+        let reward = found.number(word(words, 1));
+        let fee = found.short_number(word(words, 2));
         if reward >= 1 << 40 || fee > 10_000 || !self.tally.is_unsettled() {
-            return None;
+            return refuse(found);
         }
-        let settled = self.tally.settle(reward, fee).ok()?;
-        self.compare(alloc, &settled, reward)
+        match self.tally.settle(reward, fee as u16) {
+            Ok(settled) => tell_settled(found, &settled),
+            Err(_) => found.done(false),
+        }
     }
 
     /// A push that is a block, by a plan.
-    fn block(
-        &mut self,
-        alloc: Global,
-        account: &str,
-        work: u64,
-        block: (u64, u16),
-    ) -> Option<String> {
-        if !may_push(&self.tally, account, work) || block.0 >= 1 << 40 || block.1 > 10_000 {
-            return None;
+    fn block(&mut self, found: &mut Found, words: &str) {
+        let (account, work) = (text(words, 1), found.number(word(words, 2)));
+        let reward = found.number(word(words, 3));
+        let fee = found.short_number(word(words, 4));
+        if !may_push(&self.tally, account, work) || reward >= 1 << 40 || fee > 10_000 {
+            return refuse(found);
         }
-        let plan = self.tally.plan(account, work, Some(block)).ok()?;
-        let settled = self.tally.apply(plan)?;
-        self.plain.push(alloc, account, work)?;
-        self.compare(alloc, &settled, block.0)
-    }
-
-    /// How a block was settled, which the plain tally has to say as well.
-    fn compare(&mut self, alloc: Global, settled: &Settlement, reward: u64) -> Option<String> {
-        let said = tell_settled(alloc, settled)?;
-        let plain = self.plain.settle(alloc, reward, settled.fee)?;
-        if said.as_str() == plain.as_str() {
-            Some(said)
-        } else {
-            format!(in alloc; "{said}{DIFFERENCE}{plain}").ok()
+        match self.tally.plan(account, work, Some((reward, fee as u16))) {
+            Ok(plan) => match self.tally.apply(plan) {
+                Some(settled) => tell_settled(found, &settled),
+                None => found.say("none"),
+            },
+            Err(_) => found.done(false),
         }
     }
 
-    /// So many pseudo-random pushes, of which every seventh or so is a block.
-    fn push_random(&mut self, alloc: Global, seed: u64, count: u32) -> Option<String> {
-        let mut random = seed;
-        for _ in 0..count {
-            random = random_after(random);
-            let account = NAMES[(random >> 33) as usize % 4];
-            let work = 1 + (random >> 40) % 50;
-            if (random >> 50) % 7 == 0 {
-                let said = self.block(alloc, account, work, (9_999, 0))?;
-                if said.as_str().contains(DIFFERENCE) {
-                    return Some(said);
-                }
-            } else {
-                self.push(alloc, account, work)?;
-            }
-        }
-        told(alloc, "agreed")
-    }
-
-    fn account(&self, alloc: Global, place: usize) -> Option<String> {
+    fn tell_account(&self, found: &mut Found, words: &str) {
+        let place = found.short_number(word(words, 1)) as usize;
         if place >= self.tally.len() {
-            return told(alloc, "none");
+            return found.say("none");
         }
         let sums = self.tally.account(place);
-        let (account, work, balance) = (sums.account, sums.work, sums.balance);
-        format!(in alloc; "{account} work {work} balance {balance}").ok()
+        found.say(sums.account);
+        tell_named(found, " work ", &sums.work);
+        tell_named(found, " balance ", &sums.balance);
     }
 
     /// The summary of so many sessions and events, with its lines in one.
-    fn summary(&self, alloc: Global, sessions: u32, events: u64) -> Option<String> {
-        let mut lines = Vec::new(alloc);
-        write_summary(sessions, events, &self.tally, &mut lines).ok()?;
-        let lines = str::from_utf8(lines.as_slice()).ok()?;
-        let mut said = String::new(alloc);
-        for line in lines.lines() {
-            write!(&mut said, "[{line}]").ok()?;
-        }
-        Some(said)
+    fn tell_summary(&self, found: &mut Found, words: &str) {
+        let sessions = found.short_number(word(words, 1));
+        let events = found.number(word(words, 2));
+        let mut lines = Vec::new(found.alloc());
+        found.done(write_summary(sessions, events, &self.tally, &mut lines).is_ok());
+        tell_lines(found, &lines, "[", "]");
     }
 }
 
@@ -164,19 +123,28 @@ fn may_push(tally: &Tally, account: &str, work: u64) -> bool
     account.len() <= 255 && work >= 1 && work <= 1 << 60 && tally.pushes() < 16_777_214
 }
 
-fn tell_settled(alloc: Global, settled: &Settlement) -> Option<String> {
-    let mut said = format!(in alloc; "fee {} pool {}", settled.fee, settled.pool).ok()?;
+fn tell_named(found: &mut Found, name: &str, value: &impl Display) {
+    found.say(name);
+    found.tell(value);
+}
+
+fn tell_settled(found: &mut Found, settled: &Settlement) {
+    tell_named(found, "fee ", &settled.fee);
+    tell_named(found, " pool ", &settled.pool);
     for paid in settled.payouts.items() {
-        let (account, weight, amount) = (paid.account.text(), paid.weight, paid.amount);
-        write!(&mut said, " {account} {weight} {amount}").ok()?;
+        tell_named(found, " ", &paid.account.text());
+        tell_named(found, " ", &paid.weight);
+        tell_named(found, " ", &paid.amount);
     }
-    Some(said)
 }
 
 /// A part of a payout.
-fn parts(alloc: Global, paid_out: u64, weight: u128, all: u128) -> Option<String> {
+fn tell_quotient(found: &mut Found, words: &str) {
+    let paid_out = found.number(word(words, 1));
+    let weight: u128 = word(words, 2).parse().unwrap_or(0);
+    let all: u128 = word(words, 3).parse().unwrap_or(0);
     if paid_out >= 1 << 40 || all == 0 || all >= 1 << 84 || weight > all {
-        return None;
+        return refuse(found);
     }
-    format!(in alloc; "{}", quotient(paid_out, weight, all)).ok()
+    found.tell(&quotient(paid_out, weight, all));
 }

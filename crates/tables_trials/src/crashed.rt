@@ -4,15 +4,15 @@ ghost use Rattle.std.specs.Prelude.{◌≡◌, IfSome};
 ghost use Rattle.ledger_disk.specs.Calls.{fresh_disk};
 ghost use Rattle.ledger_resume.specs.Books.{IsJustOpened};
 
+use crate::reading::{refuse, tell_lines};
 use ledger_audit::{verdict_of, write_verdict};
 use ledger_disk::{DiskLedger, Failures, MemDisk};
 use ledger_resume::NoBook;
 use pool_commands::{DiskEnd, ServedDisk, serve_disk};
 use pool_io::{Limits, Piece, SureSink, SureSource, Turn};
 use std::alloc::Global;
-use std::str;
 use sv2_types::Blob;
-use trial_support::{Subject, bytes, example_rules, number, told, word};
+use trial_cases::{Found, Subject, example_rules, word};
 use v2_sessions::SessionEnd;
 
 /// Input comes at once, so that nothing is waited for.
@@ -39,59 +39,95 @@ impl Subject for Crashed {
         })
     }
 
-    fn act(&mut self, alloc: Global, words: &[&str]) -> Option<String> {
-        match word(words, 0)? {
+    fn act(&mut self, found: &mut Found, words: &str) {
+        match word(words, 0) {
             "disk" => {
-                self.disk = bytes(alloc, words, 1)?;
-                told(alloc, "held")
+                self.disk = found.bytes_of(word(words, 1));
+                found.say("held");
             }
             "record" => {
-                let record = Blob::from_vec(bytes(alloc, words, 1)?);
-                self.records.push(record).ok()?;
-                told(alloc, "kept")
+                let record = Blob::from_vec(found.bytes_of(word(words, 1)));
+                found.done(self.records.push(record).is_ok());
+                found.say("kept");
             }
             "input" => {
-                let more = bytes(alloc, words, 1)?;
-                self.input.extend_from_slice(&more).ok()?;
-                told(alloc, "comes")
+                let more = found.bytes_of(word(words, 1));
+                found.done(self.input.extend_from_slice(&more).is_ok());
+                found.say("comes");
             }
-            "stopped" => {
-                let failures = Failures {
-                    listed: Vec::new(alloc),
-                    from: number(words, 1)?,
-                    part: number(words, 2)?,
-                };
-                self.outcome(alloc, failures, number(words, 3)?)
-            }
-            "failing" => {
-                let mut listed = Vec::new(alloc);
-                listed.push(number(words, 1)?).ok()?;
-                let failures = Failures {
-                    listed,
-                    from: u64::MAX,
-                    part: number(words, 2)?,
-                };
-                self.outcome(alloc, failures, number(words, 3)?)
-            }
-            _ => None,
+            "stopped" => self.crash(found, words, false),
+            "failing" => self.crash(found, words, true),
+            _ => refuse(found),
         }
     }
 }
 
 impl Crashed {
-    /// How a session ends over the disk that fails so; which records are found behind a crash; how a
-    /// session without input then ends, and which records there are behind it; and the verdict on these.
-    fn outcome(&self, alloc: Global, failures: Failures, pick: u64) -> Option<String> {
-        let (end, disk) = session(alloc, &self.disk, Some(failures), &self.input)?;
-        let left = disk.crash(pick);
-        let found = counts_of(alloc, &entries_on(alloc, left.content())?, &self.records)?;
-        let (later, disk) = session(alloc, left.content(), None, &[])?;
-        let entries = entries_on(alloc, disk.content())?;
-        let stand = counts_of(alloc, &entries, &self.records)?;
-        let verdict = verdict_line(alloc, &entries)?;
-        let end = end_word(end);
-        let later = end_word(later);
-        format!(in alloc; "{end} {found}; {later} {stand} {verdict}").ok()
+    /// A session over a disk of which this call fails, alone or with all behind it, and a crash.
+    fn crash(&self, found: &mut Found, words: &str, alone: bool) {
+        let call = found.number(word(words, 1));
+        let part = found.number(word(words, 2));
+        let pick = found.number(word(words, 3));
+        let mut listed = Vec::new(found.alloc());
+        if alone {
+            found.done(listed.push(call).is_ok());
+        }
+        let failures = Failures {
+            listed,
+            from: if alone { u64::MAX } else { call },
+            part,
+        };
+        if let Some((end, disk)) = session(found.alloc(), &self.disk, Some(failures), &self.input) {
+            let left = disk.crash(pick);
+            self.tell_outcome(found, end_word(end), left.content());
+        } else {
+            found.done(false);
+        }
+    }
+
+    /// How the session ended; which records are found on what is left; how a session without input then
+    /// ends, and which records there are behind it; and the verdict on these.
+    fn tell_outcome(&self, found: &mut Found, end: &str, left: &[u8]) {
+        found.say(end);
+        self.tell_found(found, left);
+        match session(found.alloc(), left, None, &[]) {
+            Some((later, disk)) => {
+                found.say("; ");
+                found.say(end_word(later));
+                self.tell_found(found, disk.content());
+                tell_verdict(found, disk.content());
+            }
+            None => found.done(false),
+        }
+    }
+
+    /// How many of the entries that are found on a disk are the first of the records, and how many there
+    /// are.
+    fn tell_found(&self, found: &mut Found, content: &[u8]) {
+        match entries_on(found.alloc(), content) {
+            Some(entries) => {
+                found.say(" ");
+                found.tell(&same_in_front(&entries, &self.records));
+                found.say(" of ");
+                found.tell(&entries.len());
+            }
+            None => found.say(" no ledger"),
+        }
+    }
+}
+
+/// What an audit says of the entries on a disk, one behind the other.
+fn tell_verdict(found: &mut Found, content: &[u8]) {
+    match entries_on(found.alloc(), content) {
+        Some(entries) => match verdict_of(found.alloc(), &entries) {
+            Ok(verdict) => {
+                let mut line = Vec::new(found.alloc());
+                found.done(write_verdict(verdict, &mut line).is_ok());
+                tell_lines(found, &line, " ", "");
+            }
+            Err(_) => found.done(false),
+        },
+        None => found.say(" no ledger"),
     }
 }
 
@@ -137,21 +173,6 @@ fn entries_on(alloc: Global, content: &[u8]) -> Option<Vec<Blob>> {
         Ok((_ledger, entries)) => Some(entries),
         Err((_disk, _error)) => None,
     }
-}
-
-/// How many of these entries are the first of these records, and how many there are.
-fn counts_of(alloc: Global, entries: &[Blob], records: &[Blob]) -> Option<String> {
-    let same = same_in_front(entries, records);
-    let all = entries.len();
-    format!(in alloc; "{same} of {all}").ok()
-}
-
-/// What an audit says of entries, one behind the other.
-fn verdict_line(alloc: Global, entries: &[Blob]) -> Option<String> {
-    let mut line = Vec::new(alloc);
-    write_verdict(verdict_of(alloc, entries).ok()?, &mut line).ok()?;
-    let line = str::from_utf8(line.as_slice()).ok()?;
-    told(alloc, line.trim_end())
 }
 
 /// How many of the first entries are these records.

@@ -1,5 +1,5 @@
 use Rattle.std.proofs.Common.{◌≡◌, List, ℕ, Some}
-use Rattle.durable_trials.proofs.crashed.session.Goals as goal
+use Rattle.tables_trials.proofs.crashed.session.Goals as goal
 
 -- src/crashed.rt:116:9
 pub serve_disk-disk-requires-clause-opened : goal.serve_disk-disk-requires-clause-opened

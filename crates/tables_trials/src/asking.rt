@@ -1,29 +1,33 @@
 //! What a book is asked for by the record of an event, and what it answers.
 
+use crate::reading::refuse;
 use block_header::target_of;
 use ledger_records::read_record;
 use pool_history::{BookError, Event, Kind, OpenAsk, Opened, Reply, Request, Submission};
 use pool_io::Keeper;
 use share_headers::{check, rolled_length};
 use share_ledger::Book;
-use std::alloc::Global;
+use std::fmt::{Debug, Display};
 use std::str;
 use sv2_types::Str255;
-use trial_support::{hex_of, told};
+use trial_cases::Found;
 
-/// What a book answers a worker that asks for the event of a record.
-pub(crate) fn ask<K: Keeper>(
-    alloc: Global,
-    book: &mut Book<K>,
-    worker: u32,
-    record: &[u8],
-) -> Option<String> {
-    let (event, _) = read_record(alloc, record).ok()?;
-    let reply = match submission(&event) {
-        Some(share) => submit(book, worker, share),
-        None => book.act(worker, request(event)?),
-    };
-    told_reply(alloc, reply)
+/// Tells what a book answers a worker that asks for the event of a record.
+pub(crate) fn ask<K: Keeper>(found: &mut Found, book: &mut Book<K>, worker: u32, record: &[u8]) {
+    match read_record(found.alloc(), record) {
+        Ok((event, _)) => ask_for(found, book, worker, event),
+        Err(_) => refuse(found),
+    }
+}
+
+fn ask_for<K: Keeper>(found: &mut Found, book: &mut Book<K>, worker: u32, event: Event) {
+    match submission(&event) {
+        Some(share) => tell_reply(found, submit(book, worker, share)),
+        None => match request(event) {
+            Some(request) => tell_reply(found, book.act(worker, request)),
+            None => refuse(found),
+        },
+    }
 }
 
 /// The submission that a Credit books.
@@ -125,59 +129,83 @@ fn class_asked(channel: u32, class: u8) -> Option<Request> {
 }
 
 /// A reply by its name, or the book's error.
-fn told_reply(alloc: Global, reply: Result<Reply, BookError>) -> Option<String> {
+fn tell_reply(found: &mut Found, reply: Result<Reply, BookError>) {
     match reply {
-        Ok(reply) => named(alloc, &reply),
-        Err(error) => format!(in alloc; "{error}").ok(),
+        Ok(reply) => tell_named(found, &reply),
+        Err(error) => found.tell(&error),
     }
 }
 
-/// A reply by its name; none for those that no case wants.
-fn named(alloc: Global, reply: &Reply) -> Option<String> {
+/// A reply by its name; those that no case wants are refused.
+fn tell_named(found: &mut Found, reply: &Reply) {
     match reply {
-        Reply::Entered(session) => format!(in alloc; "Entered({})", session.value()).ok(),
-        Reply::NoSession => told(alloc, "NoSession"),
-        Reply::Left => told(alloc, "Left"),
-        Reply::Job(number) => format!(in alloc; "Job({number})").ok(),
-        Reply::TemplateRefused(error) => format!(in alloc; "TemplateRefused({error:?})").ok(),
-        Reply::Opened(opened) => named_opening(alloc, opened),
-        Reply::Named => told(alloc, "Named"),
-        Reply::NameRefused(error) => format!(in alloc; "NameRefused({error:?})").ok(),
+        Reply::NoSession => found.say("NoSession"),
+        Reply::Left => found.say("Left"),
+        Reply::Named => found.say("Named"),
+        Reply::Closed => found.say("Closed"),
+        Reply::NotOpen => found.say("NotOpen"),
+        Reply::Opened(opened) => tell_opening(found, opened),
         Reply::Target(channel, class) => {
-            format!(in alloc; "Target({channel}, {})", class.value()).ok()
+            found.say("Target(");
+            found.tell(channel);
+            found.say(", ");
+            found.tell(&class.value());
+            found.say(")");
         }
-        Reply::Closed => told(alloc, "Closed"),
-        Reply::NotOpen => told(alloc, "NotOpen"),
-        Reply::Credited(work) => format!(in alloc; "Credited({work})").ok(),
-        Reply::Refused(condition) => format!(in alloc; "Refused({condition:?})").ok(),
-        Reply::CustomJob(number) => format!(in alloc; "CustomJob({number})").ok(),
-        Reply::CustomRefused(error) => format!(in alloc; "CustomRefused({error:?})").ok(),
-        Reply::PoolFull(_)
-        | Reply::OpenRefused(_)
-        | Reply::UpdateRefused(_)
-        | Reply::Brief(_)
-        | Reply::News(_, _)
-        | Reply::Granted(_, _)
-        | Reply::GrantRefused(_) => None,
+        Reply::Entered(session) => tell_with(found, "Entered", &session.value()),
+        Reply::Job(number) => tell_with(found, "Job", number),
+        Reply::CustomJob(number) => tell_with(found, "CustomJob", number),
+        Reply::Credited(work) => tell_with(found, "Credited", work),
+        refused => tell_refused(found, refused),
     }
+}
+
+fn tell_refused(found: &mut Found, reply: &Reply) {
+    match reply {
+        Reply::TemplateRefused(error) => tell_why(found, "TemplateRefused", error),
+        Reply::NameRefused(error) => tell_why(found, "NameRefused", error),
+        Reply::Refused(condition) => tell_why(found, "Refused", condition),
+        Reply::CustomRefused(error) => tell_why(found, "CustomRefused", error),
+        _ => refuse(found),
+    }
+}
+
+fn tell_with(found: &mut Found, name: &str, value: &impl Display) {
+    found.say(name);
+    found.say("(");
+    found.tell(value);
+    found.say(")");
+}
+
+fn tell_why(found: &mut Found, name: &str, error: &impl Debug) {
+    found.say(name);
+    found.say("(");
+    found.debug(error);
+    found.say(")");
 }
 
 /// What an opening gave: its channel, the class and the lead.
-fn named_opening(alloc: Global, opened: &Opened) -> Option<String> {
-    let lead = hex_of(alloc, opened.lead.bytes())?;
-    let class = opened.class.value();
-    format!(in alloc; "Opened({}, {class}, {lead})", opened.channel).ok()
+fn tell_opening(found: &mut Found, opened: &Opened) {
+    found.say("Opened(");
+    found.tell(&opened.channel);
+    found.say(", ");
+    found.tell(&opened.class.value());
+    found.say(", ");
+    found.hex(opened.lead.bytes());
+    found.say(")");
 }
 
 /// A book's summary in one line.
-pub(crate) fn summary<K: Keeper>(alloc: Global, book: &Book<K>) -> Option<String> {
-    let mut lines = Vec::new(alloc);
-    book.summary(&mut lines).ok()?;
-    let lines = str::from_utf8(lines.as_slice()).ok()?;
-    let mut said = String::new(alloc);
-    for line in lines.lines() {
-        let mark = if said.is_empty() { "" } else { "; " };
-        write!(&mut said, "{mark}{line}").ok()?;
+pub(crate) fn tell_summary<K: Keeper>(found: &mut Found, book: &Book<K>) {
+    let mut lines = Vec::new(found.alloc());
+    found.done(book.summary(&mut lines).is_ok());
+    match str::from_utf8(lines.as_slice()) {
+        Ok(text) => {
+            for (at, line) in text.lines().enumerate() {
+                found.say(if at == 0 { "" } else { "; " });
+                found.say(line);
+            }
+        }
+        Err(_) => found.say("no text"),
     }
-    Some(said)
 }
