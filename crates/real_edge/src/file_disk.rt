@@ -13,9 +13,9 @@ use pool_io::{HostError, Shelf};
 use std::alloc::Global;
 use std::fs::{File, OpenFile};
 use std::io;
-use std::io::ErrorKind;
+use std::io::{Error, ErrorKind};
 use std::os::unix::fs::FileExt;
-use std::path::Path;
+use std::path::{Path, PathBuf};
 use std::rt::Files;
 
 /// A disk over a file. A read or a write that a signal interrupts goes on; so do the system's own cuts
@@ -106,32 +106,44 @@ impl<F: OpenFile + FileExt + Drop> Disk for FileDisk<F> {
     }
 }
 
-/// Syncs the folder in which this name stands.
-fn sync_folder<F: Files>(files: &F, name: &str) -> io::Result<()> {
-    let folder = match Path::new(name).parent() {
-        Some(folder) if !folder.as_str().is_empty() => folder,
-        _ => Path::new("."),
-    };
-    File::open(files, folder)?.sync_all()
+/// Where the file of this name stands, whichever links lead to it. It is made where it isn't there,
+/// but only under its own name.
+fn place_of<F: Files>(files: &F, alloc: Global, name: &str) -> io::Result<PathBuf> {
+    match files.canonicalize(alloc, name) {
+        Err(error) if error.kind() == ErrorKind::NotFound => {
+            File::create_new(files, name)?;
+            files.canonicalize(alloc, name)
+        }
+        found => found,
+    }
+}
+
+/// Syncs the folder in which a file stands.
+fn sync_folder<F: Files>(files: &F, place: Path<'_>) -> io::Result<()> {
+    match place.parent() {
+        Some(folder) => File::open(files, folder)?.sync_all(),
+        None => Err(Error::from(ErrorKind::NotFound)),
+    }
 }
 
 /// The file of this name, which is made where it isn't there. Nobody else has opened it so, and
 /// neither its bytes nor its name are lost by a crash.
-fn open_alone<F: Files<File = File>>(files: &F, name: &str) -> io::Result<File> {
-    let file = match File::options().read(true).write(true).open(files, name) {
-        Ok(file) => file,
-        Err(error) if error.kind() == ErrorKind::NotFound => File::create_new(files, name)?,
-        Err(error) => return Err(error),
-    };
+fn open_alone<F: Files<File = File>>(files: &F, alloc: Global, name: &str) -> io::Result<File> {
+    let place = place_of(files, alloc, name)?;
+    let file = File::options()
+        .read(true)
+        .write(true)
+        .open(files, place.as_path())?;
     file.try_lock()?;
     file.sync_all()?;
-    sync_folder(files, name)?;
+    sync_folder(files, place.as_path())?;
     Ok(file)
 }
 
 /// Gives disks over files. It tells neither the names nor what the files hold.
 #[derive(Drop)]
 pub struct FileDisks<F: Files<File = File> + Drop> {
+    alloc: Global,
     files: F,
     faults: u64,
     /// Of the disks that came back, whose files are closed, how often each failed.
@@ -145,6 +157,7 @@ impl<F: Files<File = File> + Drop> FileDisks<F> {
         ensures disks { result.disks ≡ record { lent = 0; back = [] } }
     {
         FileDisks {
+            alloc,
             files,
             faults: 0,
             disks: Shelf::new(alloc),
@@ -170,7 +183,7 @@ impl<F: Files<File = File> + Drop> Disks for FileDisks<F> {
         if self.disks.lend().is_err() {
             return Err(HostError::Memory);
         }
-        match open_alone(&self.files, name) {
+        match open_alone(&self.files, self.alloc, name) {
             Ok(file) => Ok(FileDisk::new(file)),
             Err(_) => {
                 self.disks.unlend();

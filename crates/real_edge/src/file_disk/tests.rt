@@ -13,10 +13,11 @@ use std::cell::Cell;
 use std::fs::{File, Metadata, OpenFile, OpenOptions};
 use std::io::ErrorKind;
 use std::os::unix::fs::{FileExt, symlink};
+use std::path::PathBuf;
 use std::process::Abort;
 use std::rt::Files;
 use std::test::Fail;
-use std::{fs, io};
+use std::{env, fs, io};
 
 /// A disk and its file have just these bytes.
 fn holds<R: Abort + Files + AllocGlobal, F: OpenFile + FileExt + Drop>(
@@ -154,23 +155,28 @@ fn a_file_is_opened_by_one_alone_and_made_where_none_is(rt: HostRuntime) -> Resu
     remove_folder(&rt)
 }
 
-/// The system, which refuses to open one path.
+/// The system, where one path is opened, to be written or not, as another is, or refused.
 #[derive(Clone, Copy)]
-struct Without<'a, R: Copy> {
+struct Instead<'a, R: Copy> {
     system: R,
-    refused: &'a str,
+    path: &'a str,
+    is_written: bool,
+    other: Option<&'a str>,
 }
 
-impl<R: Files<File = File> + Copy> Files for Without<'_, R> {
+impl<R: Files<File = File> + Copy> Files for Instead<'_, R> {
     type File = File;
 
     type Dir = R::Dir;
 
     fn open_file(&self, how: &OpenOptions, path: &str) -> io::Result<File> {
-        if path == self.refused {
-            return Err(io::Error::from(ErrorKind::PermissionDenied));
+        if path != self.path || how.asks_write() != self.is_written {
+            return self.system.open_file(how, path);
         }
-        self.system.open_file(how, path)
+        match self.other {
+            Some(other) => self.system.open_file(how, other),
+            None => Err(io::Error::from(ErrorKind::PermissionDenied)),
+        }
     }
 
     fn open_dir(&self, path: &str) -> io::Result<R::Dir> {
@@ -208,27 +214,64 @@ impl<R: Files<File = File> + Copy> Files for Without<'_, R> {
     fn remove_dir_all<B: Allocator>(&self, alloc: B, path: &str) -> io::Result<()> {
         self.system.remove_dir_all(alloc, path)
     }
+
+    fn canonicalize<B: Allocator>(&self, alloc: B, path: &str) -> io::Result<PathBuf<B>> {
+        self.system.canonicalize(alloc, path)
+    }
+}
+
+/// A regular file that is opened and locked as others are, and can't be synced.
+const UNSYNCED: &str = "/proc/self/comm";
+
+/// Whether a name is refused, twice, where this path is opened otherwise.
+fn is_refused_where<R: Files<File = File> + AllocGlobal + Copy + Drop>(
+    system: R,
+    path: &str,
+    is_written: bool,
+    other: Option<&str>,
+    name: &str,
+) -> bool {
+    let mut disks = FileDisks::new(
+        system.alloc(),
+        Instead {
+            system,
+            path,
+            is_written,
+            other,
+        },
+    );
+    // Where the file is made, and where it is there.
+    is_refused(&mut disks, name) && is_refused(&mut disks, name) && disks.faults == 2
 }
 
 #[test]
-fn a_folder_that_cannot_be_synced_has_no_disk(rt: HostRuntime) -> Result<(), Fail> {
+fn what_cannot_be_synced_or_written_is_no_disk(rt: HostRuntime) -> Result<(), Fail> {
     stand_in_new_folder(&rt, "folders")?;
     fs::create_dir(&rt, "folder")?;
-    for (refused, name) in [
-        (".", "disk"),
-        ("folder", "folder/disk"),
-        ("folder/..", "folder/../disk"),
+    symlink(&rt, "folder/disk", "link")?;
+    let here = env::current_dir(&rt)?;
+    let folder = here.join(rt.alloc(), "folder")?;
+    let disk = here.join(rt.alloc(), "disk")?;
+    for (path, is_written, other, name) in [
+        (here.as_str(), false, None, "disk"),
+        (here.as_str(), false, Some(UNSYNCED), "disk"),
+        (here.as_str(), false, None, "folder/../disk"),
+        (folder.as_str(), false, None, "folder/disk"),
+        (folder.as_str(), false, Some(UNSYNCED), "folder/disk"),
+        // The folder of what a link leads to is that of the file.
+        (folder.as_str(), false, None, "link"),
+        (folder.as_str(), false, Some(UNSYNCED), "link"),
+        (disk.as_str(), true, Some(UNSYNCED), "disk"),
+        // It may be read alone.
+        (disk.as_str(), true, None, "disk"),
     ] {
-        let system = Without {
-            system: rt,
-            refused,
-        };
-        let mut disks = FileDisks::new(rt.alloc(), system);
-        // Neither where it is made nor where it is there.
-        assert!(rt; is_refused(&mut disks, name), "{name}");
-        assert!(rt; is_refused(&mut disks, name), "{name}");
-        assert_eq!(rt; disks.faults, 2, "{name}");
+        assert!(rt;
+            is_refused_where(rt, path, is_written, other, name),
+            "{name} {other:?}"
+        );
     }
+    // The link's own folder isn't asked for.
+    assert!(rt; !is_refused_where(rt, here.as_str(), false, None, "link"));
     remove_folder(&rt)
 }
 
