@@ -7,8 +7,8 @@ use Rattle.real_edge.specs.Edges.{untold_sink, untold_source}
 
 abbrev pub link_seen : TcpLink → LinkSeen
 link_seen link = record {
-  source = untold_source link.source.faults;
-  sink = untold_sink link.sink.faults;
+  source = untold_source link.read_faults;
+  sink = untold_sink link.write_faults;
 }
 
 abbrev pub door_seen : {L C : Type 0} → TcpDoor L C → DoorSeen

@@ -1,9 +1,11 @@
 //! The edge: readers and writers as sources and sinks. The real ones tell nothing of what they bring
 //! or hold.
 
-ghost use Rattle.std.specs.Prelude.{◌≡◌};
+ghost use Rattle.std.specs.Prelude.{◌≡◌, ◌<◌, ◌≤◌, length, IfOk};
 ghost use Rattle.std.specs.Io.{WritesAtMost};
 ghost use Rattle.std.specs.Io.KnownBytes.{WriteAppends};
+ghost use Rattle.pool_io.specs.Outside.{CountsFailure, IsWithinRoom, is_failed_put, is_failed_take};
+ghost use Rattle.real_edge.specs.Edges.{ReadsOn};
 
 use pool_io::{Sink, SinkFailed, Source, Took};
 use std::io::{ErrorKind, Read, Write};
@@ -37,8 +39,27 @@ impl<R: Read + Drop, F: Read + Drop> Read for Incoming<R, F> {
     }
 }
 
-/// A reader as a source, which tells no turns. A read that was interrupted or would block is Idle;
-/// any other error is counted.
+/// Reads once. A read that was interrupted or would block is Idle; any other error is counted.
+pub(crate) fn take_from<R: Read>(reader: &mut R, faults: &mut u64, buffer: &mut [u8]) -> Took
+    requires { 0 < length buffer.old }
+    ensures bound { IsWithinRoom result (length buffer.new) }
+    ensures reads { ReadsOn (R.remaining reader.old) (R.remaining reader.new) result buffer.new }
+    ensures counts { CountsFailure (is_failed_take result) faults.old faults.new }
+{
+    match reader.read(buffer) {
+        Ok(0) => Took::End,
+        Ok(count) => Took::Bytes(count),
+        Err(error) => match error.kind() {
+            ErrorKind::Interrupted | ErrorKind::WouldBlock => Took::Idle,
+            _ => {
+                *faults = faults.saturating_add(1);
+                Took::Failed
+            }
+        },
+    }
+}
+
+/// A reader as a source, which tells no turns.
 #[derive(Drop)]
 pub struct ReadSource<R: Read + Drop> {
     reader: R,
@@ -55,9 +76,9 @@ impl<R: Read + Drop> ReadSource<R> {
 }
 
 impl<R: Read + Drop> Source for ReadSource<R> {
-    ghost use Rattle.std.specs.Prelude.{None, ◌<◌, ◌≤◌, length};
-    ghost use Rattle.pool_io.specs.Outside.{IsWithinRoom, TakesTurn, CountsFailure, is_failed_take};
-    ghost use Rattle.real_edge.specs.Edges.{ReadsOn, untold_source};
+    ghost use Rattle.std.specs.Prelude.{None};
+    ghost use Rattle.pool_io.specs.Outside.{TakesTurn};
+    ghost use Rattle.real_edge.specs.Edges.{untold_source};
 
     ghost seen = { λ s. untold_source s.faults };
 
@@ -71,17 +92,7 @@ impl<R: Read + Drop> Source for ReadSource<R> {
         ensures reads { ReadsOn (R.remaining self.old.reader) (R.remaining self.new.reader) result
             buffer.new }
     {
-        match self.reader.read(buffer) {
-            Ok(0) => Took::End,
-            Ok(count) => Took::Bytes(count),
-            Err(error) => match error.kind() {
-                ErrorKind::Interrupted | ErrorKind::WouldBlock => Took::Idle,
-                _ => {
-                    self.faults = self.faults.saturating_add(1);
-                    Took::Failed
-                }
-            },
-        }
+        take_from(&mut self.reader, &mut self.faults, buffer)
     }
 }
 
@@ -97,6 +108,27 @@ fn write_again<W: Write>(writer: &mut W, piece: &[u8]) -> io::Result<usize>
         }
     }
     writer.write(piece)
+}
+
+/// Writes, and again what a signal breaks off. Each other error is counted, and so is a write that
+/// takes nothing.
+pub(crate) fn put_into<W: Write>(
+    writer: &mut W,
+    faults: &mut u64,
+    piece: &[u8],
+) -> Result<usize, SinkFailed>
+    ensures some { IfOk result (λ n. 0 < n) }
+    ensures bound { IfOk result (λ n. n ≤ length piece.now) }
+    ensures writes { WriteAppends (W.contents writer.old) (W.contents writer.new) result piece.now }
+    ensures counts { CountsFailure (is_failed_put result) faults.old faults.new }
+{
+    match write_again(writer, piece) {
+        Ok(count) if count > 0 => Ok(count),
+        _ => {
+            *faults = faults.saturating_add(1);
+            Err(SinkFailed::Failed)
+        }
+    }
 }
 
 /// A writer that is waited for, a turn before each further try, where it has no room and doesn't wait
@@ -135,11 +167,10 @@ impl<W: Write + Drop, C: Clock + Drop> Write for Waiting<W, C> {
     }
 }
 
-/// A writer as a sink. A write that a signal breaks off is tried again; each other error is counted,
-/// and so is a write that takes nothing.
+/// A writer as a sink.
 #[derive(Drop)]
 pub struct WriteSink<W: Write + Drop> {
-    pub(crate) writer: W,
+    writer: W,
     faults: u64,
 }
 
@@ -153,9 +184,9 @@ impl<W: Write + Drop> WriteSink<W> {
 }
 
 impl<W: Write + Drop> Sink for WriteSink<W> {
-    ghost use Rattle.std.specs.Prelude.{None, ◌<◌, ◌≤◌, length, take, IfOk, OnErr};
+    ghost use Rattle.std.specs.Prelude.{None, take, OnErr};
     ghost use Rattle.std.specs.Io.KnownBytes.{Appends, Keeps};
-    ghost use Rattle.pool_io.specs.Outside.{AddsBytes, CountsFailure, is_failed_put};
+    ghost use Rattle.pool_io.specs.Outside.{AddsBytes};
     ghost use Rattle.real_edge.specs.Edges.{untold_sink};
 
     ghost seen = { λ s. untold_sink s.faults };
@@ -174,12 +205,6 @@ impl<W: Write + Drop> Sink for WriteSink<W> {
         ensures writes { IfOk result (λ n. Appends (W.contents self.old.writer)
             (W.contents self.new.writer) (take n piece.now)) }
     {
-        match write_again(&mut self.writer, piece) {
-            Ok(count) if count > 0 => Ok(count),
-            _ => {
-                self.faults = self.faults.saturating_add(1);
-                Err(SinkFailed::Failed)
-            }
-        }
+        put_into(&mut self.writer, &mut self.faults, piece)
     }
 }

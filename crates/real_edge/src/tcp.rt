@@ -5,8 +5,8 @@ ghost use Rattle.pool_io.specs.Lending.{with_back};
 ghost use Rattle.pool_io.specs.Outside.{next_count};
 ghost use Rattle.pool_network.specs.declared.door.Came.TheVariants as came;
 
-use crate::edge::{ReadSource, TURN_MILLIS, WriteSink};
-use pool_io::{HostError, Shelf, Sink, SinkFailed, Source, Took};
+use crate::edge::{TURN_MILLIS, put_into, take_from};
+use pool_io::{HostError, Shelf, SinkFailed, Took};
 use pool_network::{Came, Door, Link, Network};
 use std::alloc::Global;
 use std::io::Error;
@@ -14,11 +14,12 @@ use std::net::{Net, OpenListener, Shutdown, TcpListener, TcpStream};
 use std::time::{Clock, Duration};
 use std::{io, thread};
 
-/// A stream, by one handle for what is read and one for what is written.
+/// A stream, which is read and written by one handle.
 #[derive(Drop)]
 pub struct TcpLink {
-    source: ReadSource<TcpStream>,
-    sink: WriteSink<TcpStream>,
+    stream: TcpStream,
+    read_faults: u64,
+    write_faults: u64,
 }
 
 impl Link for TcpLink {
@@ -27,16 +28,16 @@ impl Link for TcpLink {
     ghost seen = { link_seen };
 
     fn take(&mut self, buffer: &mut [u8]) -> Took {
-        self.source.take(buffer)
+        take_from(&mut self.stream, &mut self.read_faults, buffer)
     }
 
     fn put(&mut self, piece: &[u8]) -> Result<usize, SinkFailed> {
-        self.sink.put(piece)
+        put_into(&mut self.stream, &mut self.write_faults, piece)
     }
 
     /// Shuts both sides down, also where this fails: the peer is gone then.
     fn hang_up(&mut self) {
-        let _ = self.sink.writer.shutdown(Shutdown::Both);
+        let _ = self.stream.shutdown(Shutdown::Both);
     }
 }
 
@@ -45,15 +46,15 @@ const WRITE_MILLIS: u64 = 5_000;
 
 /// A stream as a link, with its time limits: a read that waits longer than a turn is Idle.
 pub fn link_over(stream: TcpStream) -> io::Result<TcpLink>
-    ensures { IfOk result (λ link. (link.source.faults ≡ 0) × (link.sink.faults ≡ 0)) }
+    ensures { IfOk result (λ link. (link.read_faults ≡ 0) × (link.write_faults ≡ 0)) }
 {
     stream.set_nodelay(true)?;
     stream.set_read_timeout(Some(Duration::from_millis(TURN_MILLIS)))?;
     stream.set_write_timeout(Some(Duration::from_millis(WRITE_MILLIS)))?;
-    let reading = stream.try_clone()?;
     Ok(TcpLink {
-        source: ReadSource::new(reading),
-        sink: WriteSink::new(stream),
+        stream,
+        read_faults: 0,
+        write_faults: 0,
     })
 }
 
