@@ -11,19 +11,21 @@ mod pair_link;
 mod talks;
 
 use anyhow::Result;
-use case_lines::bytes;
 use std::fs;
+use trial_cases::Found;
 
 fn main(rt: HostRuntime) -> Result<()> {
     let alloc = rt.alloc();
     let text = fs::read_to_string(&rt, "talks.txt")?;
     for line in text.lines() {
         if !line.is_empty() && !line.starts_with('#') {
-            println!(rt; "{}", talks::tried(alloc, line)?)?;
+            let mut found = Found::new(alloc);
+            talks::try_line(&mut found, line);
+            println!(rt; "{}", found.text())?;
         }
     }
     let script = fs::read_to_string(&rt, "script.txt")?;
-    let script = bytes(alloc, script.as_str())?;
+    let script = Found::new(alloc).bytes_of(script.as_str());
     let wanted = fs::read_to_string(&rt, "meeting.txt")?;
     let met = meeting::meet(&rt, alloc, &script)?;
     print_case(&rt, "a feed, a pool and two miners meet", &met, &wanted)?;

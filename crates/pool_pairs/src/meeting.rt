@@ -17,7 +17,7 @@ use std::thread::Threads;
 use std::{str, thread};
 use sv2_types::Str255;
 use test_miner::{Feed, FeedEnd, Miner, MinerEnd, MinerTask, Script};
-use trial_support::example_rules;
+use trial_cases::example_rules;
 use v1_translate::V1Terms;
 use v2_sessions::SessionEnd;
 

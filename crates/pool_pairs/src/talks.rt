@@ -1,118 +1,141 @@
 //! Talks of the test miner over a link in memory.
 
-ghost use Rattle.std.specs.Prelude.{◌≤◌, ◌<◌, IfOk, IfSome};
+ghost use Rattle.std.specs.Prelude.{◌≤◌, ◌<◌, IfSome};
+ghost use Rattle.test_miner.specs.Miners.{IsNewMiner};
 
-use anyhow::{Context, Result, bail};
-use case_lines::{bytes, given_and_wanted, part, word};
 use link_turns::{TalkEnd, talk};
 use pool_io::{MemSink, MemSource, Piece, Turn};
 use pool_network::MemLink;
 use std::alloc::Global;
 use sv2_types::Str255;
 use test_miner::{Miner, MinerEnd, MinerTask};
+use trial_cases::{Case, Found, word};
 
-/// Tries a line: says `ok` and its title, or what was found in place of what it wants.
-pub(crate) fn tried(alloc: Global, line: &str) -> Result<String> {
-    let (given, end) = given_and_wanted(line);
-    let title = part(given, 0)?;
-    let put = bytes(alloc, part(given, 5)?)?;
-    let wanted = format!(in alloc; "{end} {}", hex::encode(alloc, &put)?)?;
-    let found = found(alloc, given)?;
-    if found == wanted {
-        return Ok(format!(in alloc; "ok {title}")?);
+/// Tries a line: tells `ok` and its title, or what was found in place of what it wants.
+pub(crate) fn try_line(found: &mut Found, line: &str) {
+    let (given, end) = line.rsplit_once('|').unwrap_or(("", line));
+    let case = Case { given };
+    let mut wanted = Found::new(found.alloc());
+    let put = wanted.bytes_of(case.part(5));
+    wanted.say(end.trim());
+    wanted.say(" ");
+    wanted.hex(&put);
+    let mut met = Found::new(found.alloc());
+    tell_talk(&mut met, case);
+    if met.text() == wanted.text() {
+        found.say("ok ");
+        found.say(case.part(0));
+    } else {
+        found.say("WRONG ");
+        found.say(case.part(0));
+        found.say(": ");
+        found.say(met.text());
     }
-    Ok(format!(in alloc; "WRONG {title}: {found}")?)
 }
 
 /// How a talk ends, and the bytes that the link's peer has then.
-fn found(alloc: Global, given: &str) -> Result<String> {
-    let mut miner = Miner::new(alloc, task_of(alloc, part(given, 1)?)?)?;
-    let idle_turns: u64 = part(given, 2)?.parse()?;
-    if idle_turns == 0 {
-        bail!("no turn is waited for");
+fn tell_talk(met: &mut Found, case: Case<'_>) {
+    let class = met.number(word(case.part(1), 1));
+    let count = met.short_number(word(case.part(1), 2));
+    match task(met.alloc(), word(case.part(1), 0), class, count) {
+        Some(task) => talk_by(met, case, task),
+        None => met.say("no miner is asked for that"),
     }
-    let faults = part(given, 3)?;
-    let source = MemSource::new(
-        turns_of(alloc, part(given, 4)?)?,
-        failing(alloc, faults, "take")?,
-    );
-    let sink = MemSink::new(Vec::new(alloc), failing(alloc, faults, "put")?);
-    let mut link = MemLink::new(source, sink);
-    let end = talk(alloc, &mut link, &mut miner, idle_turns);
-    tell(alloc, end, link.bytes())
 }
 
-/// An end and bytes, in words.
-fn tell(alloc: Global, end: TalkEnd<MinerEnd>, bytes: &[u8]) -> Result<String> {
-    let mut said = String::new(alloc);
-    match end {
-        TalkEnd::Ended(MinerEnd::Mined(count)) => write!(&mut said, "mined {count}")?,
-        TalkEnd::Ended(MinerEnd::Ended(count)) => write!(&mut said, "ended {count}")?,
-        TalkEnd::IdleOut => said.push_str("idle-out")?,
-        TalkEnd::BytesOut => said.push_str("bytes-out")?,
-        TalkEnd::ReadFault => said.push_str("read-fault")?,
-        TalkEnd::WriteFault => said.push_str("write-fault")?,
-        TalkEnd::Memory => bail!("out of memory"),
-    }
-    write!(&mut said, " {}", hex::encode(alloc, bytes)?)?;
-    Ok(said)
-}
-
-/// What a miner is asked for: a user, a class and a count.
-fn task_of(alloc: Global, words: &str) -> Result<MinerTask>
-    ensures { IfOk result (λ task. (task.class ≤ 60) × (0 < task.count)) }
+/// The same of a miner with this task.
+fn talk_by(met: &mut Found, case: Case<'_>, task: MinerTask)
+    requires class { task.class ≤ 60 }
+    requires some { 0 < task.count }
 {
-    let user = word(words, 0)?;
-    let class: u8 = word(words, 1)?.parse()?;
-    let count: u32 = word(words, 2)?.parse()?;
-    match task(alloc, user, class, count) {
-        Some(task) => Ok(task),
-        None => bail!("no miner is asked for that"),
+    match Miner::new(met.alloc(), task) {
+        Ok(mut miner) => talk_with(met, case, &mut miner),
+        Err(_) => met.done(false),
+    }
+}
+
+fn talk_with(met: &mut Found, case: Case<'_>, miner: &mut Miner)
+    requires new { IsNewMiner miner.old }
+{
+    let idle_turns = met.number(case.part(2));
+    let source = MemSource::new(
+        turns_of(met, case.part(4)),
+        failing(met, case.part(3), "take"),
+    );
+    let sink = MemSink::new(Vec::new(met.alloc()), failing(met, case.part(3), "put"));
+    let mut link = MemLink::new(source, sink);
+    if idle_turns > 0 {
+        let end = talk(met.alloc(), &mut link, miner, idle_turns);
+        tell_end(met, end);
+        met.say(" ");
+        met.hex(link.bytes());
+    } else {
+        met.say("no turn is waited for");
+    }
+}
+
+/// An end, in words.
+fn tell_end(met: &mut Found, end: TalkEnd<MinerEnd>) {
+    match end {
+        TalkEnd::Ended(MinerEnd::Mined(count)) => {
+            met.say("mined ");
+            met.tell(&count);
+        }
+        TalkEnd::Ended(MinerEnd::Ended(count)) => {
+            met.say("ended ");
+            met.tell(&count);
+        }
+        TalkEnd::IdleOut => met.say("idle-out"),
+        TalkEnd::BytesOut => met.say("bytes-out"),
+        TalkEnd::ReadFault => met.say("read-fault"),
+        TalkEnd::WriteFault => met.say("write-fault"),
+        TalkEnd::Memory => met.done(false),
     }
 }
 
 /// A task, where it is one.
-fn task(alloc: Global, user: &str, class: u8, count: u32) -> Option<MinerTask>
+fn task(alloc: Global, user: &str, class: u64, count: u32) -> Option<MinerTask>
     ensures { IfSome result (λ task. (task.class ≤ 60) × (0 < task.count)) }
 {
-    if user.len() > 255 {
-        return None;
-    }
-    if class > 60 || count == 0 {
+    if user.len() > 255 || class > 60 || count == 0 {
         return None;
     }
     let user = Str255::of(alloc, user).ok()?;
+    let class = class as u8;
     Some(MinerTask { user, class, count })
 }
 
 /// The turns of a link: `idle`, `end`, or the bytes of a piece.
-fn turns_of(alloc: Global, words: &str) -> Result<Vec<Turn>> {
-    let mut turns = Vec::new(alloc);
+fn turns_of(met: &mut Found, words: &str) -> Vec<Turn> {
+    let mut turns = Vec::new(met.alloc());
     for word in words.split_whitespace() {
-        turns.push(turn_of(alloc, word)?)?;
+        let turn = turn_of(met, word);
+        met.done(turns.push(turn).is_ok());
     }
-    Ok(turns)
+    turns
 }
 
-fn turn_of(alloc: Global, word: &str) -> Result<Turn> {
+fn turn_of(met: &mut Found, word: &str) -> Turn {
     match word {
-        "idle" => Ok(Turn::Idle),
-        "end" => Ok(Turn::End),
+        "idle" => Turn::Idle,
+        "end" => Turn::End,
         digits => {
-            let bytes = hex::decode(alloc, digits)?;
+            let bytes = met.bytes_of(digits);
             if bytes.is_empty() {
-                bail!("a piece isn't empty");
+                Turn::Idle
+            } else {
+                Turn::Piece(Piece::of(bytes))
             }
-            Ok(Turn::Piece(Piece::of(bytes)))
         }
     }
 }
 
 /// The number of the call that fails, where it is one of these.
-fn failing(alloc: Global, words: &str, which: &str) -> Result<Vec<u64>> {
-    let mut calls = Vec::new(alloc);
-    if word(words, 0)? == which {
-        calls.push(word(words, 1)?.parse()?)?;
+fn failing(met: &mut Found, words: &str, which: &str) -> Vec<u64> {
+    let mut calls = Vec::new(met.alloc());
+    if word(words, 0) == which {
+        let number = met.number(word(words, 1));
+        met.done(calls.push(number).is_ok());
     }
-    Ok(calls)
+    calls
 }
