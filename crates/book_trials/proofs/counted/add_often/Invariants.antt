@@ -1,5 +1,0 @@
-use Rattle.std.proofs.Common.{◌≡◌, ◌≤◌}
-use Rattle.book_trials.proofs.counted.add_often.Given as goal
-
-abbrev pub invariant-loop-round : goal.invariant-loop-round
-invariant-loop-round g l = (l.pass.table ≡ l.desk.table) × (l.replies ≤ l.round)
