@@ -1,5 +1,5 @@
--- A book over a keeper in memory that never fails may go to another thread, and so may a pass to its
--- desk, which threads may share.
+-- A pass to a book over a keeper in memory that never fails may go to another thread, and threads may
+-- share its desk.
 use denote.Param.Send.{IsSend, IsSync, sendable}
 use mir.Syntax.{Dict}
 use Rattle.std.proofs.Crossing.{crosses}
@@ -13,13 +13,10 @@ use Rattle.desk.specs.contracts.desk.Desk as Desk
 use Rattle.desk.specs.contracts.pass.Pass as Pass
 use Rattle.share_ledger.specs.contracts.book.Book as Book
 use Rattle.share_ledger.specs.contracts.machine.BookMachine.TheImpl.{ghosts}
-use Rattle.share_ledger.proofs.Crossing.{book_desk_sync, book_pass_send, book_send}
+use Rattle.share_ledger.proofs.Crossing.{book_desk_sync, book_pass_send}
 
 keeper_send : IsSend SureKeeper.the_row
 keeper_send = search (sendable, crosses) depth 40
-
-pub sure_book_send : IsSend (Book.the_row SureKeeper.the_row kept)
-sure_book_send = book_send SureKeeper.the_row kept keeper_send
 
 pub sure_desk_sync : (d : Dict) → IsSync (Desk.the_row (Book.the_row SureKeeper.the_row kept) Event.the_row Request.the_row Reply.the_row BookError.the_row (ghosts SureKeeper.the_row kept d))
 sure_desk_sync d = book_desk_sync SureKeeper.the_row kept d keeper_send

@@ -165,7 +165,8 @@ pub(crate) fn submission(found: &mut Found, words: &str) -> Submission {
         "ntime" => share.ntime = value,
         "version" => share.version = value,
         "length" => share.extranonce_len = value.min(32) as u8,
-        _ => {}
+        "" => {}
+        _ => found.say("no field "),
     }
     share
 }

@@ -115,38 +115,29 @@ fn add(rt: &impl Wait, found: &mut Found, pair: &mut Pair<Counter>, is_second: b
 fn use_passes(rt: &impl Wait, found: &mut Found, pair: &mut Pair<Counter>) {
     add(rt, found, pair, false, 1);
     add(rt, found, pair, true, 2);
-    tell_of(found, "workers ", &pair.first.worker());
-    tell_of(found, " ", &pair.second.worker());
-    tell_of(found, ", look ", &pair.desk.look(&mut pair.first));
-    let met = pair.desk.meet(&mut pair.first, &mut pair.second);
+    tell_of(found, "workers ", &pair.passes.0.worker());
+    tell_of(found, " ", &pair.passes.1.worker());
+    tell_of(found, ", look ", &pair.desk.look(&mut pair.passes.0));
+    let met = pair.desk.meet(&mut pair.passes.0, &mut pair.passes.1);
     tell_of(found, ", meet ", &met);
 }
 
 /// Closes a desk by its second pass alone, which is refused, and then by both.
 fn close_late(found: &mut Found, pair: Pair<Counter>) {
-    let Pair {
-        desk,
-        first,
-        second,
-    } = pair;
+    let Pair { desk, passes } = pair;
+    let (first, second) = passes;
     let mut passes = Vec::new(found.alloc());
     found.done(passes.push(second).is_ok());
-    match desk.close(passes) {
-        Ok(_machine) => found.say(", closed too early"),
-        Err(
-            CloseError {
-                desk,
-                passes,
-                place,
-            },
-        ) => {
-            tell_of(found, ", refused at ", &place);
-            let mut passes = passes;
-            found.done(passes.push(first).is_ok());
-            match desk.close(passes) {
-                Ok(counter) => tell_of(found, ", total ", &counter.total),
-                Err(_) => found.say(", refused"),
-            }
+    if let Err(refused) = desk.close(passes) {
+        let CloseError {
+            desk,
+            mut passes,
+            place,
+        } = refused;
+        tell_of(found, ", refused at ", &place);
+        found.done(passes.push(first).is_ok());
+        if let Ok(counter) = desk.close(passes) {
+            tell_of(found, ", total ", &counter.total);
         }
     }
 }
@@ -157,7 +148,7 @@ fn fail(rt: &impl Wait, found: &mut Found, pair: &mut Pair<Counter>) {
     add(rt, found, pair, true, BREAKING);
     add(rt, found, pair, true, 2);
     add(rt, found, pair, false, u64::MAX);
-    tell_of(found, "look ", &pair.desk.look(&mut pair.second));
+    tell_of(found, "look ", &pair.desk.look(&mut pair.passes.1));
 }
 
 /// Closes a desk, and tells what was added, and how many calls failed.
@@ -184,23 +175,22 @@ fn comes_to(desk: &Desk<Counter>, pass: &mut Pass<Counter>, count: u64) -> bool
     false
 }
 
-/// Adds the number 1,000 times, by turns with another at every first or second call where that is
-/// said, and answers how many calls had a reply. It ends where the other's call doesn't come.
+/// Adds ones 1,000 times, or tens by the second pass, by turns with another thread where that is said,
+/// and answers how many calls had a reply. It ends where the other's call doesn't come.
 fn add_often(
     rt: &impl Wait,
     desk: &Desk<Counter>,
     mut pass: Pass<Counter>,
-    number: u64,
-    is_second: Option<bool>,
+    is_second: bool,
+    by_turns: bool,
 ) -> (Pass<Counter>, u64)
     requires { pass.table ≡ desk.now.table }
     ensures { result.0.table ≡ desk.now.table }
 {
+    let number = if is_second { 10 } else { 1 };
     let mut replies = 0;
     for round in 0..1000u64 {
-        if let Some(is_second) = is_second
-            && !comes_to(desk, &mut pass, 2 * round + u64::from(is_second))
-        {
+        if by_turns && !comes_to(desk, &mut pass, 2 * round + u64::from(is_second)) {
             break;
         }
         if desk.act(rt, &mut pass, number).is_ok() {
@@ -210,7 +200,7 @@ fn add_often(
     (pass, replies)
 }
 
-/// Two threads, each with a pass, of which one adds ones and the other tens.
+/// Two threads, each with a pass.
 fn add_in_two_threads<R: Threads + Wait + Sync>(
     rt: &R,
     desk: &Desk<Counter>,
@@ -221,22 +211,16 @@ fn add_in_two_threads<R: Threads + Wait + Sync>(
     requires { (one.table ≡ desk.now.table) × (other.table ≡ desk.now.table) }
     ensures { (result.0.0.table ≡ desk.now.table) × (result.1.0.table ≡ desk.now.table) }
 {
-    let turns = if by_turns {
-        (Some(false), Some(true))
-    } else {
-        (None, None)
-    };
-    let (first, second) = turns;
     thread::join(
         rt,
         move || -> (Pass<Counter>, u64)
             requires { one.table ≡ desk.now.table }
             ensures { result.0.table ≡ desk.entry.now.table }
-        { add_often(rt, desk, one, 1, first) },
+        { add_often(rt, desk, one, false, by_turns) },
         move || -> (Pass<Counter>, u64)
             requires { other.table ≡ desk.now.table }
             ensures { result.0.table ≡ desk.entry.now.table }
-        { add_often(rt, desk, other, 10, second) },
+        { add_often(rt, desk, other, true, by_turns) },
     )
 }
 
@@ -248,30 +232,17 @@ fn add_in_threads<R: Threads + Wait + Sync>(
     pair: Pair<Counter>,
     by_turns: bool,
 ) {
-    let Pair {
-        desk,
-        first,
-        second,
-    } = pair;
-    let ((first, one), (second, other)) = add_in_two_threads(rt, &desk, first, second, by_turns);
-    tell_of(found, "replies ", &one);
-    tell_of(found, " ", &other);
-    let pair = Pair {
-        desk,
-        first,
-        second,
-    };
-    if let Some(counter) = pair.close(found.alloc()) {
+    let Pair { desk, passes } = pair;
+    let (one, other) = add_in_two_threads(rt, &desk, passes.0, passes.1, by_turns);
+    tell_of(found, "replies ", &one.1);
+    tell_of(found, " ", &other.1);
+    let passes = (one.0, other.0);
+    if let Some(counter) = (Pair { desk, passes }).close(found.alloc()) {
         tell_of(found, ", added ", &counter.added.len());
         tell_of(found, ", total ", &counter.total);
-        let takes_turns = counter
-            .added
-            .chunks(2)
-            .all(|turn| turn == [1, 10].as_slice());
-        found.say(if takes_turns || !by_turns {
-            ", as asked"
-        } else {
-            ", in another order"
-        });
+        let mut turns = counter.added.chunks(2);
+        let is_as_asked = !by_turns || turns.all(|turn| turn == [1, 10].as_slice());
+        found.say(", ");
+        found.say(if is_as_asked { "as asked" } else { "otherwise" });
     }
 }

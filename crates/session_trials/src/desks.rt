@@ -10,27 +10,23 @@ use std::sync::Wait;
 /// A desk and its two passes.
 pub(crate) struct Pair<M: Machine> {
     pub(crate) desk: Desk<M>,
-    pub(crate) first: Pass<M>,
-    pub(crate) second: Pass<M>,
-    ghost dealt: { (first.table ≡ desk.table) × (second.table ≡ desk.table) },
+    pub(crate) passes: (Pass<M>, Pass<M>),
+    ghost dealt: { (passes.0.table ≡ desk.table) × (passes.1.table ≡ desk.table) },
 }
 
 impl<M: Machine + Drop> Pair<M> {
     /// Opens a desk over a machine; none where there is no memory.
     pub(crate) fn open(alloc: Global, machine: M) -> Option<Pair<M>> {
-        let (desk, mut passes) = match Desk::new(alloc, machine, 2) {
+        let (desk, mut dealt) = match Desk::new(alloc, machine, 2) {
             Ok(opened) => opened,
             Err((machine, _)) => {
                 mem::forget(machine);
                 return None;
             }
         };
-        if let (Some(second), Some(first)) = (passes.pop(), passes.pop()) {
-            Some(Pair {
-                desk,
-                first,
-                second,
-            })
+        if let (Some(second), Some(first)) = (dealt.pop(), dealt.pop()) {
+            let passes = (first, second);
+            Some(Pair { desk, passes })
         } else {
             mem::forget(desk);
             None
@@ -45,20 +41,16 @@ impl<M: Machine + Drop> Pair<M> {
         request: M::Request,
     ) -> Result<(u64, M::Reply), (u64, M::Fault)> {
         if is_second {
-            self.desk.act(rt, &mut self.second, request)
+            self.desk.act(rt, &mut self.passes.1, request)
         } else {
-            self.desk.act(rt, &mut self.first, request)
+            self.desk.act(rt, &mut self.passes.0, request)
         }
     }
 
     /// Closes the desk, and gives the machine.
     pub(crate) fn close(self, alloc: Global) -> Option<M> {
-        let Pair {
-            desk,
-            first,
-            second,
-        } = self;
-        match Vec::from_array(alloc, [first, second]) {
+        let Pair { desk, passes } = self;
+        match Vec::from_array(alloc, [passes.0, passes.1]) {
             Ok(passes) => match desk.close(passes) {
                 Ok(machine) => return Some(machine),
                 Err(refused) => mem::forget(refused),

@@ -72,7 +72,7 @@ fn visit<K: Keeper, L: Link>(
     let mut asker = DeskWorker {
         rt,
         desk: &pair.desk,
-        pass: &mut pair.first,
+        pass: &mut pair.passes.0,
         faults: 0,
     };
     let end = serve_link(found.alloc(), &mut asker, link, manner(role, true), terms);

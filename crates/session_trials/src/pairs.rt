@@ -135,23 +135,14 @@ fn submit_in_two_threads<R: Threads + Wait + Sync>(
 /// Tells what two threads come to: how often each had a share credited, how many calls there were, and
 /// what the book says then.
 fn submit_in_threads<R: Threads + Wait + Sync>(rt: &R, found: &mut Found, pair: Pair<Sure>) {
-    let Pair {
-        desk,
-        first,
-        second,
-    } = pair;
-    let ((mut first, one), (second, other)) = submit_in_two_threads(rt, &desk, first, second);
-    tell_of(found, "credited ", &one);
-    tell_of(found, " ", &other);
-    tell_of(found, " calls ", &desk.look(&mut first));
+    let Pair { desk, passes } = pair;
+    let (mut one, other) = submit_in_two_threads(rt, &desk, passes.0, passes.1);
+    tell_of(found, "credited ", &one.1);
+    tell_of(found, " ", &other.1);
+    tell_of(found, " calls ", &desk.look(&mut one.0));
     found.say(" ");
-    if let Some(book) = (Pair {
-        desk,
-        first,
-        second,
-    })
-    .close(found.alloc())
-    {
+    let passes = (one.0, other.0);
+    if let Some(book) = (Pair { desk, passes }).close(found.alloc()) {
         tell_summary(found, &book, ("[", "]"));
         let (_keeper, _history) = book.into_parts();
     }

@@ -43,7 +43,7 @@ impl Link for MeasuredLink {
     fn hang_up(&mut self) {}
 }
 
-/// A session of its own for each line.
+/// A session of its own for each line. It has to end well.
 pub(crate) fn play(rt: &impl Wait, found: &mut Found, words: &str) {
     let number = found.short_number(word(words, 2));
     let mut steps = Found::new(found.alloc());
@@ -63,8 +63,12 @@ pub(crate) fn play(rt: &impl Wait, found: &mut Found, words: &str) {
     };
     let keeper = SureKeeper::new(found.alloc());
     let rules = rules_of(found, true, 3, "");
+    let mut end = Found::new(found.alloc());
     if let Some(book) = begun(found, rules, keeper) {
-        serve(rt, &mut steps, book, &mut link, role(word(words, 1)));
+        serve(rt, &mut end, book, &mut link, role(word(words, 1)));
+    }
+    if end.text() != "Done" {
+        found.say("another end ");
     }
     tell_measured(found, &link, word(words, 0));
 }
